@@ -3,9 +3,10 @@ use Rattle.tl_answer.proofs.Names.{◌≡◌, ◌≤◌, ◌^◌, ◌∙◌, ℕ
 use Rattle.tl_answer.proofs.Names.{HasGrown, HasLetGo, more_gone, Script, AreFew, CanRun, HasRun, HasLines, AreCounted}
 use Rattle.std.specs.declared.alloc.AllocError.{AllocError}
 use Rattle.tl_trace.specs.declared.script.Counts.{Counts}
-use Rattle.tl_run.specs.Parts.{ArePart, HaveGone, IsBetween}
+use Rattle.tl_run.specs.Parts.{AreGoing, ArePart, AreWaiting, HaveGone, IsBetween}
+use Rattle.tl_run.specs.Stopping.{AreStuck}
 use Rattle.tl_run.specs.declared.streaming.SyncRun.{SyncRun}
-use Rattle.tl_answer.specs.Inner.Crossing.{Crosses}
+use Rattle.tl_answer.specs.Inner.Crossing.{Crosses, CrossesOn}
 use Rattle.tl_answer.specs.declared.crossing.Crossing.{Crossing}
 use Rattle.tl_answer.proofs.Listening.{counted-on, goes-on, within}
 
@@ -47,3 +48,11 @@ module _ {C M : ℕ} where
         (can-run x.run (more_gone gone counts s) rest more (counted-on gone s was.run.gone counts x.run.gone few went h.goes.counted) short
         grown (held rest left)) on h.goes;
   }
+
+  -- as far as the beats lead that are held
+  pub crosses-heard : (result : Result Counts AllocError) (s : Script C M) (was x : Crossing C M) →
+      ((near : Beats C M) → ArePart was.run.gone s near → HasRun HasLines near was.far was.run →
+      IfOk result (λ _. AreStuck near was.run.gone x.run.at s)) → IfOk result (AreGoing was.run.gone x.run.at s) →
+      IfOk result (λ counts. (rest : Script C M) → HasLetGo counts s rest → AreWaiting x.run.gone x.run.at rest) → IfOk result (CrossesOn was x s)
+  crosses-heard (Err e) s was x stuck going waiting = tt
+  crosses-heard (Ok counts) s was x stuck going waiting = record { stuck = stuck; going = going; waiting = waiting }

@@ -9,7 +9,7 @@ ghost use Rattle.tl_settle.specs.Books.{KnowsClient, KnowsManager};
 ghost use Rattle.tl_check.specs.Judging.{CanJudge, HasJudged};
 ghost use Rattle.tl_answer.specs.Answer.{far_header, is_done, report};
 ghost use Rattle.tl_answer.specs.Inner.Answered.{ReadsAnswer};
-ghost use Rattle.tl_answer.specs.Inner.Checking.{Judges};
+ghost use Rattle.tl_answer.specs.Inner.Checking.{Judges, JudgesOn};
 ghost use Rattle.tl_stream.specs.Listening.{IsNew};
 ghost use Rattle.tl_answer.specs.Inner.Parts.{spelled};
 ghost use Rattle.tl_stream.specs.Inputs.{IsFresh, held, unread_of};
@@ -30,6 +30,8 @@ struct Check;
 
 impl<const C: usize, const M: usize> Listener<Check, C, M> for Judge<C, M> {
     ghost Listens = { Judges };
+
+    ghost Hears = { JudgesOn };
 
     fn hear(&mut self, held: &Script<C, M>) -> Result<Counts, AllocError> {
         Ok(self.go_on(held))

@@ -8,7 +8,7 @@ ghost use Rattle.tl_trace.specs.Faults.{HasHeader};
 ghost use Rattle.tl_trace.specs.Scripts.{Gone};
 ghost use Rattle.tl_answer.specs.Answer.{is_done};
 ghost use Rattle.tl_answer.specs.Inner.Answered.{ReadsAnswer};
-ghost use Rattle.tl_answer.specs.Inner.Crossing.{Crosses};
+ghost use Rattle.tl_answer.specs.Inner.Crossing.{Crosses, CrossesOn};
 ghost use Rattle.tl_answer.specs.Inner.Listening.{all_of};
 ghost use Rattle.tl_stream.specs.Listening.{IsNew};
 ghost use Rattle.tl_answer.specs.Inner.Parts.{spelled, text_of};
@@ -110,6 +110,8 @@ pub(crate) fn crossing_fits<const C: usize, const M: usize>()
 
 impl<const C: usize, const M: usize> Listener<Crossing<C, M>, C, M> for Crossing<C, M> {
     ghost Listens = { Crosses };
+
+    ghost Hears = { CrossesOn };
 
     fn hear(&mut self, held: &Script<C, M>) -> Result<Counts, AllocError> {
         run_fits::<C, M>();

@@ -2,6 +2,7 @@
 use Rattle.std.specs.Prelude.{ℕ, length}
 use Rattle.tl_msg.specs.Tables.{rules_a, rules_b, rules_c, rules_d, rules_e}
 use Rattle.tl_settle.specs.Outcomes.{Beats}
+use Rattle.tl_sides.specs.declared.per_channel.PerChannel.{PerChannel}
 use Rattle.tl_trace.specs.declared.script.Script.{Script}
 use Rattle.tl_check.specs.Inner.Passing.{AreAt, HasCome, IsWithin}
 use Rattle.tl_check.specs.declared.judge.Judge.{Judge}
@@ -16,6 +17,10 @@ module _ {C M : ℕ} where
     pub d : HasCome rules_d C near.d judge.d.tracker judge.d.at judge.d.far
     pub e : HasCome rules_e M near.e judge.e.tracker judge.e.at judge.e.far
     pub both : AreAt near.a near.d judge.a.at judge.d.at judge.client judge.manager
+
+  -- how many near beats of each channel a judge came past
+  abbrev pub places : Judge C M → PerChannel ℕ
+  places judge = record { a = judge.a.at; b = judge.b.at; c = judge.c.at; d = judge.d.at; e = judge.e.at }
 
   -- of each channel those that a judge came past are gone or held by the script
   pub record CanJudge (judge : Judge C M) (held : Script C M) : Type 0 where

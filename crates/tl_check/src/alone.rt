@@ -6,6 +6,8 @@ ghost use Rattle.tl_burst.specs.Begun.{left};
 ghost use Rattle.tl_settle.specs.Outcomes.{verdict_alone, verdict_of};
 ghost use Rattle.tl_check.specs.Inner.Passing.{HasCome, IsWithin};
 ghost use Rattle.tl_run.specs.Parts.{IsEnd, IsPart};
+ghost use Rattle.tl_run.specs.Stopping.{IsStuck};
+ghost use Rattle.tl_sides.specs.Crossings.{stops_alone};
 
 use crate::progress::Progress;
 use tl_msg::{Beat, Channel, SideFault};
@@ -29,6 +31,9 @@ pub(crate) fn judge_alone<K: Channel, const W: usize>(
         HasCome K.rules far_width bs progress.old.tracker progress.old.at progress.old.far →
         verdict_of progress.new.at progress.new.far (left K.rules W (take progress.new.at bs))
         result ≡ verdict_alone K.rules far_width bs }
+    ensures stuck { (bs : List (BeatOf K.Head W)) → IsPart gone beats.now bs →
+        HasCome K.rules far_width bs progress.old.tracker progress.old.at progress.old.far →
+        IsStuck gone progress.new.at beats.now (stops_alone K.rules (take progress.new.at bs)) }
 {
     'beats: while let Some(beat) = beats.get(progress.at - gone) {
         match progress.tracker.check(beat) {

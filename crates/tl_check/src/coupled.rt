@@ -1,5 +1,5 @@
 //! A and D, which the books of both sides couple.
-ghost use Rattle.std.specs.Prelude.{◌≡◌, ◌+◌, ◌≤◌, ◌<◌, ℕ, None, Some, List, length, slice_get, take};
+ghost use Rattle.std.specs.Prelude.{◌≡◌, ◌+◌, ◌-◌, ◌≤◌, ◌<◌, ℕ, None, Some, List, length, slice_get, take};
 ghost use Rattle.std.specs.Option.{option_map_or};
 ghost use Rattle.tl_lanes.specs.Lanes.{IsWidth};
 ghost use Rattle.tl_msg.specs.Tables.{rules_a, rules_d};
@@ -11,6 +11,7 @@ ghost use Rattle.tl_burst.specs.Begun.{left};
 ghost use Rattle.tl_settle.specs.Outcomes.{verdict_a, verdict_d, verdict_of};
 ghost use Rattle.tl_check.specs.Inner.Passing.{AreAt, HasCome, IsWithin, NotesAsks, NotesAnswers};
 ghost use Rattle.tl_run.specs.Parts.{IsEnd, IsPart};
+ghost use Rattle.tl_run.specs.Stopping.{IsStuck};
 
 use crate::progress::Progress;
 use tl_msg::{Beat, ChA, ChD, HeadA, HeadD, SideFault};
@@ -58,10 +59,11 @@ fn offer_requests<const C: usize, const M: usize>(
         AreAt a d asks.old.at j client.old manager.old →
         AreAt a d asks.new.at j client.new manager.new }
     ensures stopped { (a : List (BeatOf HeadA C)) (d : List (BeatOf HeadD M)) (j : ℕ) →
-        IsEnd gone beats.now a →
+        IsPart gone beats.now a →
         HasCome rules_a M a asks.old.tracker asks.old.at asks.old.far →
         AreAt a d asks.old.at j client.old manager.old →
-        result ≡ option_map_or (λ b. stops_a a d asks.new.at j b) (slice_get a asks.new.at) None }
+        result ≡ option_map_or (λ b. stops_a a d asks.new.at j b)
+        (slice_get beats.now (asks.new.at - gone)) None }
     ensures all { result ≡ None → gone + length beats.now ≤ asks.new.at }
 {
     'beats: while let Some(beat) = beats.get(asks.at - gone) {
@@ -95,11 +97,11 @@ fn offer_responses<const C: usize, const M: usize>(
         AreAt a d i answers.old.at client.old manager.old →
         AreAt a d i answers.new.at client.new manager.new }
     ensures stopped { (a : List (BeatOf HeadA C)) (d : List (BeatOf HeadD M)) (i : ℕ) →
-        IsEnd gone beats.now d →
+        IsPart gone beats.now d →
         HasCome rules_d C d answers.old.tracker answers.old.at answers.old.far →
         AreAt a d i answers.old.at client.old manager.old →
         result ≡ option_map_or (λ b. stops_d a d i answers.new.at b)
-        (slice_get d answers.new.at) None }
+        (slice_get beats.now (answers.new.at - gone)) None }
     ensures all { result ≡ None → gone + length beats.now ≤ answers.new.at }
 {
     'beats: while let Some(beat) = beats.get(answers.at - gone) {
@@ -148,6 +150,13 @@ pub(crate) fn judge_coupled<const C: usize, const M: usize>(
         (verdict_of asks.new.at asks.new.far (left rules_a C (take asks.new.at near)) result.0
         ≡ verdict_a near back) × (verdict_of answers.new.at answers.new.far
         (left rules_d M (take answers.new.at back)) result.1 ≡ verdict_d near back) }
+    ensures stuck { (near : List (BeatOf HeadA C)) (back : List (BeatOf HeadD M)) →
+        IsPart gone.now.a a.now near → IsPart gone.now.d d.now back →
+        HasCome rules_a M near asks.old.tracker asks.old.at asks.old.far →
+        HasCome rules_d C back answers.old.tracker answers.old.at answers.old.far →
+        AreAt near back asks.old.at answers.old.at client.old manager.old →
+        IsStuck gone.now.a asks.new.at a.now (stops_a near back asks.new.at answers.new.at) ×
+        IsStuck gone.now.d answers.new.at d.now (stops_d near back asks.new.at answers.new.at) }
 {
     'passes: loop {
         let a_stops = offer_requests(client, manager, a, gone.a, asks);

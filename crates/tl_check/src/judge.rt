@@ -1,13 +1,14 @@
 //! The verdicts of a script that comes piece by piece.
-ghost use Rattle.std.specs.Prelude.{◌≡◌, [], length};
+ghost use Rattle.std.specs.Prelude.{◌≡◌, []};
 ghost use Rattle.tl_lanes.specs.Lanes.{IsWidth};
 ghost use Rattle.tl_settle.specs.Outcomes.{Beats, verdicts};
 ghost use Rattle.tl_settle.specs.Books.{KnowsClient, KnowsManager};
 ghost use Rattle.tl_trace.specs.Scripts.{HasCounts, HasLetGo};
-ghost use Rattle.tl_run.specs.Parts.{AreEnd, AreHalf, ArePart, HaveGone, none_counted};
+ghost use Rattle.tl_run.specs.Parts.{AreEnd, AreGoing, ArePart, AreWaiting, HaveGone, none_counted};
 ghost use Rattle.tl_run.specs.Scripts.{HasShortLists};
+ghost use Rattle.tl_run.specs.Stopping.{AreStuck};
 ghost use Rattle.tl_check.specs.Inner.Ending.{EndsWith};
-ghost use Rattle.tl_check.specs.Judging.{CanJudge, HasJudged};
+ghost use Rattle.tl_check.specs.Judging.{CanJudge, HasJudged, places};
 
 use crate::alone::judge_alone;
 use crate::coupled::judge_coupled;
@@ -27,21 +28,21 @@ use tl_trace::{Counts, Script};
 #[derive(Drop)]
 pub struct Judge<const C: usize, const M: usize> {
     /// What the client's side knows of its own beats of A and D.
-    pub client: ClientBook<C>,
+    client: ClientBook<C>,
     /// What the manager's side knows of its own beats of A and D.
-    pub manager: ManagerBook<M>,
+    manager: ManagerBook<M>,
     /// How far A has come.
-    pub a: Progress<ChA, C>,
+    a: Progress<ChA, C>,
     /// How far B has come.
-    pub b: Progress<ChB, M>,
+    b: Progress<ChB, M>,
     /// How far C has come.
-    pub c: Progress<ChC, C>,
+    c: Progress<ChC, C>,
     /// How far D has come.
-    pub d: Progress<ChD, M>,
+    d: Progress<ChD, M>,
     /// How far E has come.
-    pub e: Progress<ChE, C>,
+    e: Progress<ChE, C>,
     /// How many beats of each channel are not held any more.
-    pub gone: Counts,
+    gone: Counts,
 }
 
 // Goes on with each channel until all are stopped: what stops each, or None where no beat is left.
@@ -56,6 +57,8 @@ fn go_through<const C: usize, const M: usize>(
         HasJudged near judge.old → HasJudged near judge.new }
     ensures stopped { (near : Beats C M) → AreEnd judge.old.gone held.now near →
         HasJudged near judge.old → EndsWith near judge.new result }
+    ensures stuck { (near : Beats C M) → ArePart judge.old.gone held.now near →
+        HasJudged near judge.old → AreStuck near judge.old.gone (places judge.new) held.now }
 {
     let b = judge_alone::<ChB, M>(&held.b, judge.gone.b, &mut judge.b, C);
     let c = judge_alone::<ChC, C>(&held.c, judge.gone.c, &mut judge.c, M);
@@ -100,26 +103,29 @@ impl<const C: usize, const M: usize> Judge<C, M> {
         }
     }
 
-    /// Goes on as far as these beats lead, of which those that had gone before are no part, and says
-    /// how many of them have to go before the next call: of each channel at least half of those that
-    /// are held, or none, so that letting them go costs no more than reading them.
+    /// Goes on as far as these beats lead, of which those that had gone before are no part: on each
+    /// channel they are used up then, or something stops the next one. Says how many of them have to go
+    /// before the next call: of each channel those that are done with where they are at least half of
+    /// those that are held, else none. So letting them go costs no more than reading them, and fewer stay
+    /// that are done with than wait.
     pub fn go_on(&mut self, held: &Script<C, M>) -> Counts
         requires client { IsWidth C }
         requires manager { IsWidth M }
         requires held { CanJudge self.old held.now }
         ensures counts { HasCounts result held.now }
-        ensures half_a { AreHalf result.a (length held.now.a.items) }
-        ensures half_b { AreHalf result.b (length held.now.b.items) }
-        ensures half_c { AreHalf result.c (length held.now.c.items) }
-        ensures half_d { AreHalf result.d (length held.now.d.items) }
-        ensures half_e { AreHalf result.e (length held.now.e.items) }
+        ensures going { AreGoing self.old.gone (places self.new) held.now result }
         ensures gone { HaveGone self.old.gone result self.new.gone }
         ensures held { (rest : Script C M) → HasLetGo result held.now rest →
             CanJudge self.new rest }
+        ensures waiting { (rest : Script C M) → HasLetGo result held.now rest →
+            AreWaiting self.new.gone (places self.new) rest }
 
         // for every script of which that is a part
         ensures judged { (near : Beats C M) → ArePart self.old.gone held.now near →
             HasJudged near self.old → HasJudged near self.new }
+        ensures stuck { (near : Beats C M) → ArePart self.old.gone held.now near →
+            HasJudged near self.old →
+            AreStuck near self.old.gone (places self.new) held.now }
     {
         go_through(self, held);
         let at = PerChannel {

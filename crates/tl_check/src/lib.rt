@@ -11,5 +11,4 @@ mod progress;
 mod verdicts;
 
 pub use judge::Judge;
-pub use progress::Progress;
 pub use verdicts::verdicts_of;

@@ -16,13 +16,13 @@ use tl_msg::{Channel, SideFault, Verdict};
 /// How far a channel has come: the burst that is open, how many near beats were accepted, and how
 /// many far beats they make due.
 #[derive(Drop)]
-pub struct Progress<K: Channel, const W: usize> {
+pub(crate) struct Progress<K: Channel, const W: usize> {
     /// The burst that is open.
-    pub tracker: Tracker<K, W>,
+    pub(crate) tracker: Tracker<K, W>,
     /// How many near beats were accepted.
-    pub at: usize,
+    pub(crate) at: usize,
     /// How many far beats they make due.
-    pub far: usize,
+    pub(crate) far: usize,
 }
 
 impl<K: Channel, const W: usize> Progress<K, W> {

@@ -1,6 +1,6 @@
 -- A channel of a run in one thread: its list and its count, and what it has come to.
 use Rattle.tl_run.proofs.Names.{◌≡◌, ℕ, Option, None, List, refl, sym, ap, subst, ◌∙◌, slice_get, inl, HeadA, HeadD, BeatOf, SideFault, Beats}
-use Rattle.tl_run.proofs.Names.{PerChannel, Bridge, Past, StandsFor, IsPart, IsEnd, IsAt, Offering, RestsIn, ◌≤◌}
+use Rattle.tl_run.proofs.Names.{PerChannel, Bridge, Past, StandsFor, IsPart, IsAt, Offering, RestsIn, ◌≤◌, ◌-◌}
 use Rattle.tl_msg.specs.declared.head.HeadB.{HeadB}
 use Rattle.tl_msg.specs.declared.head.HeadC.{HeadC}
 use Rattle.tl_msg.specs.declared.head.HeadE.{HeadE}
@@ -124,4 +124,4 @@ module _ {C M : ℕ} {H : Type 0} {w v : ℕ} (k : Going C M (BeatOf H w)) (q : 
     pub on : at ≤ later
     pub passes : Passes k gone held at s later t
     pub stays : later ≡ at → Stays s t
-    pub rests : later ≡ at → (near : List (BeatOf H w)) → IsEnd gone held near → RestsAt q near at s o
+    pub rests : later ≡ at → RestsAt q held (at - gone) s o

@@ -2,6 +2,7 @@
 use Rattle.tl_run.proofs.Names.{◌≡◌, ◌+◌, ◌*◌, ◌≤◌, ℕ, [], ◌∷◌, length, refl, ap, ◌∙◌, arith, IsWidth, rules_a, rules_b, rules_c, rules_d, rules_e}
 use Rattle.tl_run.proofs.Names.{Verdict, Beats, far_beats, far_alone, verdicts, Bridge, near_count, far_count, progress, under_way, HasEnded}
 use Rattle.tl_run.proofs.Names.{stop_verdict, PerChannel, Stop}
+use Rattle.tl_run.specs.Scripts.{near_counts}
 use Rattle.tl_run.proofs.ChannelEnd.{progress-end, count-end, far-end, verdict-end}
 use Rattle.tl_run.proofs.RunRound.{IsSettledEnd, run-end}
 
@@ -23,6 +24,10 @@ five-same f g h i j = rw (f, g, h, i, j) refl
 -- a verdict, by the length of a list in place of a count
 pub verdict-is : (stop : Stop) (near : ℕ) {len far : ℕ} {v : Verdict} → len ≡ far → v ≡ stop_verdict stop near len → v ≡ stop_verdict stop near far
 verdict-is stop near e f = f ∙ ap (λ k. stop_verdict stop near k) e
+
+-- five counts are the same where each is
+same-counts : (x y : PerChannel ℕ) → x.a ≡ y.a → x.b ≡ y.b → x.c ≡ y.c → x.d ≡ y.d → x.e ≡ y.e → x ≡ y
+same-counts x y a b c d e = rw (a, b, c, d, e) refl
 
 module _ {C M : ℕ} (cw : IsWidth C) (mw : IsWidth M) (near : Beats C M) (n : PerChannel ℕ) (far : Beats M C) (s : Bridge C M)
     (stops : PerChannel Stop) (rounds : ℕ) (h : HasEnded near n far s stops rounds) where
@@ -75,6 +80,13 @@ module _ {C M : ℕ} (cw : IsWidth C) (mw : IsWidth M) (near : Beats C M) (n : P
       (verdict-end rules_c cw mw near.c n.c far.c h.past.c stops.c h.all_stop.stop_c h.is_at.c_sent h.stands.c.crosses h.is_at.c_homed c-rests)
       has-settled.d_verdict
       (verdict-end rules_e cw mw near.e n.e far.e h.past.e stops.e h.all_stop.stop_e h.is_at.e_sent h.stands.e.crosses h.is_at.e_homed e-rests)
+
+  -- so many beats were accepted as the script settles to
+  pub counts-are : n ≡ near_counts near
+  counts-are = same-counts n (near_counts near) has-settled.a_count
+      (count-end rules_b mw cw near.b n.b far.b h.past.b stops.b h.all_stop.stop_b h.is_at.b_sent)
+      (count-end rules_c cw mw near.c n.c far.c h.past.c stops.c h.all_stop.stop_c h.is_at.c_sent) has-settled.d_count
+      (count-end rules_e cw mw near.e n.e far.e h.past.e stops.e h.all_stop.stop_e h.is_at.e_sent)
 
   -- there were few rounds
   pub rounds-few : rounds ≤ near_count near + 2 * far_count near + 1

@@ -16,7 +16,8 @@ use Rattle.tl_msg.specs.declared.head.HeadC.{HeadC}
 use Rattle.tl_msg.specs.declared.head.HeadE.{HeadE}
 use Rattle.tl_run.proofs.ChannelOffer.{homed-offer, sent-offer, sent-passed}
 use Rattle.tl_offer.proofs.OfferSteps.{does-taken}
-use Rattle.tl_run.proofs.Parts.{end-none, part-get, part-of}
+use Rattle.tl_run.proofs.Parts.{part-get}
+use Rattle.std.proofs.lemmas.Option.{slice_get_past}
 use Rattle.tl_run.proofs.Round.{alone-own, client-own, manager-own}
 use Rattle.tl_run.proofs.RoundMoves.{client-offers, manager-offers}
 
@@ -43,15 +44,14 @@ module _ {H : Type 0} (r : Rules H) {w v : ℕ} (answer : BeatOf H w → Option 
     does-part (Stopped Done) accepted y (past, rest, none, same) = absurd (not-past held (at - gone) within (none_past held (at - gone) past))
     does-part (Stopped Cut) accepted y (past, rest, none, same) = absurd (not-past held (at - gone) within (none_past held (at - gone) past))
 
-    -- where none was accepted, the channel rests
-    rests-part : (o : Offered) (accepted : List (BeatOf H w)) (y : World H w v) → steps o ≡ 0 → Does r held (at - gone) answer home x o accepted y →
-        RestsIn near at answer x (refused_by o)
-    rests-part Accepted accepted y none does = absurd (omega (arith, none))
-    rests-part NotReady accepted y none (b, next, why, no_beat, same) = inr (b, part-get gone at held near part from b next, why)
-    rests-part (Stopped (Refused fault)) accepted y none (b, next, is, no_beat, same) = (b, part-get gone at held near part from b next, is)
-    rests-part (Stopped Done) accepted y none (past, rest, no_beat, same) =
-        absurd (not-past held (at - gone) within (none_past held (at - gone) past))
-    rests-part (Stopped Cut) accepted y none (past, rest, no_beat, same) = absurd (not-past held (at - gone) within (none_past held (at - gone) past))
+  -- where none was accepted, the channel rests
+  rests-held : (held : List (BeatOf H w)) (n : ℕ) → n < length held → (o : Offered) (accepted : List (BeatOf H w)) (y : World H w v) →
+      steps o ≡ 0 → Does r held n answer home x o accepted y → RestsIn held n answer x (refused_by o)
+  rests-held held n within Accepted accepted y none does = absurd (omega (arith, none))
+  rests-held held n within NotReady accepted y none (b, next, why, no_beat, same) = inr (b, next, why)
+  rests-held held n within (Stopped (Refused fault)) accepted y none (b, next, is, no_beat, same) = (b, next, is)
+  rests-held held n within (Stopped Done) accepted y none (past, rest, no_beat, same) = absurd (not-past held n within (none_past held n past))
+  rests-held held n within (Stopped Cut) accepted y none (past, rest, no_beat, same) = absurd (not-past held n within (none_past held n past))
 
   -- and nothing changes
   unchanged : (held : List (BeatOf H w)) (n : ℕ) → n < length held → (o : Offered) (accepted : List (BeatOf H w)) (y : World H w v) → steps o ≡ 0 →
@@ -74,11 +74,10 @@ module _ {S P H : Type 0} {w v : ℕ} (q : Offering S P H w v) (held : List (Bea
       (subst (λ y. q.Stands t (q.put y (q.note [] x))) same.1 (subst (λ l. q.Stands t (q.put d.1 (q.note l x))) same.0 d.2)))
 
   -- and the channel rests
-  pub rests-next : (near : List (BeatOf H w)) → IsPart gone held near → (x : P) → q.Stands s x →
-      RestsIn near at (q.answer x) (q.crossing x) (refused_by o)
-  rests-next near part x h =
+  pub rests-next : (x : P) → q.Stands s x → RestsIn held (at - gone) (q.answer x) (q.crossing x) (refused_by o)
+  rests-next x h =
       let d = offers.does x h in
-      rests-part q.rules (q.answer x) (q.home x) (q.crossing x) gone at held near part from within o d.0 d.1 none d.3
+      rests-held q.rules (q.answer x) (q.home x) (q.crossing x) held (at - gone) within o d.0 d.1 none d.3
 
 -- ---- a beat was offered, and beats moved on
 
@@ -236,7 +235,7 @@ module _ {C M : ℕ} {H : Type 0} {w v : ℕ} (k : Going C M (BeatOf H w)) (q : 
       on = least later t goes;
       passes = several-pass later t goes;
       stays = λ e. subst (λ u. Stays s u) (same-side later t goes e) (stays_same s);
-      rests = λ e near end. rests_none q near at s (end-none gone at held near end (subst (λ c. gone + length held ≤ c) e past));
+      rests = λ e. rests_none q held (at - gone) s (slice_get_past held (at - gone) (omega (arith, e, past)));
     }
     has-gone _ _ _ (stopped later t u step goes from within never offers) =
         let none = none-accepted step never in
@@ -245,11 +244,10 @@ module _ {C M : ℕ} {H : Type 0} {w v : ℕ} (k : Going C M (BeatOf H w)) (q : 
           on = least later t goes;
           passes = passes_then k gone held at later later s t u (several-pass later t goes) (passes_stays k gone held later t u stays);
           stays = λ e. subst (λ p. Stays p u) (sym (same-side later t goes e)) stays;
-          rests = λ e near end x h.
+          rests = λ e x h.
               let t_is = same-side later t goes e in
-              subst (λ c. RestsIn near c (q.answer x) (q.crossing x) (refused_by step)) e
-              (rests-next q held gone later from within t u step none offers near (part-of gone later held near end) x
-              (subst (λ p. q.Stands p x) t_is h));
+              subst (λ c. RestsIn held (c - gone) (q.answer x) (q.crossing x) (refused_by step)) e
+              (rests-next q held gone later from within t u step none offers x (subst (λ p. q.Stands p x) t_is h));
         }
 
 -- so each of the five does

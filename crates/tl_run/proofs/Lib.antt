@@ -13,6 +13,8 @@ mod Rooms
 pub mod Ended
 pub mod EndsIn
 pub mod Pieces
+pub mod Stuck
+pub mod Below
 mod DueBounds
 pub mod ChannelOffer
 pub mod Lives

@@ -1,6 +1,9 @@
 -- What stands in a part of a list stands in the list, and what stands behind a list's end.
 use Rattle.tl_run.proofs.Names.{◌≡◌, ◌≤◌, ◌+◌, ◌-◌, ◌++◌, ℕ, zero, suc, None, Some, List, [], ◌∷◌, length, refl, sym, ap, subst, ◌∙◌, arith}
 use Rattle.tl_run.proofs.Names.{append-nil, length-append, slice_get_past, slice_get, Beats, AreEnd, ArePart, IsEnd, IsPart, none_counted, near_beats}
+use Rattle.std.proofs.lemmas.Bool.Decides.{nat_tests}
+use Rattle.tl_run.proofs.Names.{◌*◌, ◌<◌, ◌⊎◌, inl, inr}
+use Rattle.tl_run.specs.Parts.{going, IsBetween, IsWaiting}
 use Rattle.tl_trace.specs.declared.script.Script.{Script}
 use Rattle.tl_trace.specs.declared.script.Counts.{Counts}
 
@@ -35,6 +38,12 @@ module _ {B : Type 0} (gone at : ℕ) (held near : List B) where
   pub end-none : IsEnd gone held near → gone + length held ≤ at → slice_get near at ≡ None
   end-none e past = slice_get_past near at (end-past e past)
 
+  -- the next item of what is held at the end is the next one of all, or there is none
+  pub end-get : IsEnd gone held near → gone ≤ at → slice_get near at ≡ slice_get held (at - gone)
+  end-get e from =
+      let here : at ≡ length e.before + (at - gone) = omega (arith, e.place, from) in
+      ap (λ q. slice_get q at) e.whole ∙ ap (λ n. slice_get (e.before ++ held) n) here ∙ get-right e.before held (at - gone)
+
 -- the same of all channels
 pub are-part : {C M : ℕ} (gone : Counts) (held : Script C M) (near : Beats C M) → AreEnd gone held near → ArePart gone held near
 are-part gone held near e = record {
@@ -54,3 +63,24 @@ all-held gone held none = subst (λ q. AreEnd q held (near_beats held)) (sym non
   d = record { before = []; whole = refl; place = refl };
   e = record { before = []; whole = refl; place = refl };
 })
+
+-- ---- what goes
+
+module _ (count done n : ℕ) where
+  pub going-all : count ≡ done → n ≤ 2 * done → count ≡ going done n
+  going-all is most = grind (arith, nat_tests, is, most)
+
+  pub going-none : count ≡ 0 → 2 * done < n → count ≡ going done n
+  going-none is few = grind (arith, nat_tests, is, few)
+
+  going-is : (going done n ≡ done) ⊎ ((going done n ≡ 0) × (2 * done < n))
+  going-is = grind (arith, nat_tests)
+
+-- so fewer are held that are done with than wait, or none
+pub left-waiting : {count gone after at n m : ℕ} → IsBetween gone at n → count ≡ going (at - gone) n → after ≡ gone + count → m ≡ n - count →
+    IsWaiting after at m
+left-waiting {count} {gone} {after} {at} {n} {m} between is past left some = by-case (going-is count (at - gone) n)
+  where
+    by-case : (going (at - gone) n ≡ at - gone) ⊎ ((going (at - gone) n ≡ 0) × (2 * (at - gone) < n)) → at - after < after + m - at
+    by-case (inl all) = absurd (omega (arith, between.from, is, past, all, some))
+    by-case (inr (none, few)) = omega (arith, between.from, between.to, is, past, left, none, few)

@@ -2,5 +2,6 @@ pub mod Arrivals
 pub mod Parts
 pub mod Scripts
 pub mod Streaming
+pub mod Stopping
 pub mod Names
 pub mod Inner

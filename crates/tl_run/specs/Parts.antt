@@ -1,5 +1,5 @@
 -- A part of a script that comes piece by piece, and how many of its beats have gone (this project's choice).
-use Rattle.std.specs.Prelude.{◌≡◌, ◌≢◌, ◌≤◌, ◌+◌, ◌*◌, ◌^◌, ◌++◌, ℕ, List, length}
+use Rattle.std.specs.Prelude.{◌≡◌, ◌<◌, ◌≤◌, ◌+◌, ◌-◌, ◌*◌, ◌^◌, ◌++◌, ℕ, List, length, nat_lt, if◌then◌else◌}
 use Rattle.tl_settle.specs.Outcomes.{Beats}
 use Rattle.tl_sides.specs.declared.per_channel.PerChannel.{PerChannel}
 use Rattle.tl_trace.specs.declared.script.Script.{Script}
@@ -59,6 +59,26 @@ pub record HaveGone (before counts after : Counts) : Type 0 where
   pub d : after.d ≡ before.d + counts.d
   pub e : after.e ≡ before.e + counts.e
 
--- of n items so many are to go, at least half of them or none
-abbrev pub AreHalf : (count n : ℕ) → Type 0
-AreHalf count n = count ≢ 0 → n ≤ 2 * count
+-- of n items that are held, the first `done` of which are done with, so many go: all of these where they are half of what is held at least, else none
+abbrev pub going : (done n : ℕ) → ℕ
+going done n = if nat_lt (2 * done) n then 0 else done
+
+-- of each channel of a script so many go, where so many have gone before and the first `at` are done with
+pub record AreGoing {C M : ℕ} (gone : Counts) (at : PerChannel ℕ) (held : Script C M) (counts : Counts) : Type 0 where
+  pub a : counts.a ≡ going (at.a - gone.a) (length held.a.items)
+  pub b : counts.b ≡ going (at.b - gone.b) (length held.b.items)
+  pub c : counts.c ≡ going (at.c - gone.c) (length held.c.items)
+  pub d : counts.d ≡ going (at.d - gone.d) (length held.d.items)
+  pub e : counts.e ≡ going (at.e - gone.e) (length held.e.items)
+
+-- of n items that are held fewer are done with than wait, or none is
+abbrev pub IsWaiting : (gone at n : ℕ) → Type 0
+IsWaiting gone at n = gone < at → at - gone < gone + n - at
+
+-- the same of all channels of a script
+pub record AreWaiting {C M : ℕ} (gone : Counts) (at : PerChannel ℕ) (held : Script C M) : Type 0 where
+  pub a : IsWaiting gone.a at.a (length held.a.items)
+  pub b : IsWaiting gone.b at.b (length held.b.items)
+  pub c : IsWaiting gone.c at.c (length held.c.items)
+  pub d : IsWaiting gone.d at.d (length held.d.items)
+  pub e : IsWaiting gone.e at.e (length held.e.items)

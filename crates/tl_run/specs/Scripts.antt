@@ -1,12 +1,21 @@
 -- What the run of a script promises (this project's choice).
-use Rattle.std.specs.Prelude.{◌≡◌, ◌+◌, ◌*◌, ◌≤◌, ◌^◌, ℕ, length}
+use Rattle.std.specs.Prelude.{◌≡◌, ◌+◌, ◌*◌, ◌<◌, ◌≤◌, ◌^◌, ℕ, length}
 use Rattle.tl_msg.specs.Tables.{rules_b, rules_c, rules_e}
 use Rattle.tl_convert.specs.Accepted.{accepted_of}
 use Rattle.tl_settle.specs.Settling.{settled_state}
 use Rattle.tl_settle.specs.Outcomes.{Beats, far_beats, verdicts}
+use Rattle.tl_sides.specs.declared.per_channel.PerChannel.{PerChannel}
 use Rattle.tl_trace.specs.declared.script.Script.{Script}
 use Rattle.tl_run.specs.declared.outcome.Ending.{Ending}
 use Rattle.tl_run.specs.declared.outcome.Outcome.{Outcome}
+
+-- each of five counts is less than a number
+pub record AreBelow (n : PerChannel ℕ) (k : ℕ) : Type 0 where
+  pub a : n.a < k
+  pub b : n.b < k
+  pub c : n.c < k
+  pub d : n.d < k
+  pub e : n.e < k
 
 module _ {C M : ℕ} (near : Beats C M) where
   -- the lists are not too long to be counted
@@ -16,6 +25,16 @@ module _ {C M : ℕ} (near : Beats C M) where
     pub few_c : length near.c ≤ 2 ^ 40
     pub few_d : length near.d ≤ 2 ^ 40
     pub few_e : length near.e ≤ 2 ^ 40
+
+  -- how many near beats of each channel are accepted in the end
+  abbrev pub near_counts : PerChannel ℕ
+  near_counts = record {
+    a = (settled_state near.a near.d).a;
+    b = length (accepted_of rules_b near.b);
+    c = length (accepted_of rules_c near.c);
+    d = (settled_state near.a near.d).d;
+    e = length (accepted_of rules_e near.e);
+  }
 
   -- how many near beats are accepted in the end, on all channels
   abbrev pub near_count : ℕ

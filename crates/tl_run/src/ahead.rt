@@ -1,11 +1,11 @@
 //! The channels of a run in one thread go on, one after another, as far as the beats that are held
 //! lead.
 ghost use Rattle.std.specs.Prelude.{◌≡◌, length};
-ghost use Rattle.tl_settle.specs.Outcomes.{Beats};
 ghost use Rattle.tl_sides.specs.Bridges.{Past, StandsFor};
-ghost use Rattle.tl_run.specs.Parts.{AreBetween, AreEnd, IsBetween};
+ghost use Rattle.tl_run.specs.Parts.{AreBetween, IsBetween};
+ghost use Rattle.tl_run.specs.Scripts.{near_beats};
 ghost use Rattle.tl_offer.specs.Widths.{AreWidths};
-ghost use Rattle.tl_run.specs.Inner.Going.{AllRest, AreOn, GoesAhead, HavePassed};
+ghost use Rattle.tl_run.specs.Inner.Going.{AllRest, AreOn, GoesAhead, HavePassed, behind};
 
 use tl_msg::SideFault;
 use tl_offer::{Offered, Offers};
@@ -52,7 +52,7 @@ pub(crate) fn all_go_ahead<const C: usize, const M: usize>(
     ensures stays { at.new ≡ at.old → (x : Past C M) → StandsFor bridge.old x →
         StandsFor bridge.new x }
     ensures rests { at.new ≡ at.old → (x : Past C M) → StandsFor bridge.old x →
-        (near : Beats C M) → AreEnd gone.now held.now near → AllRest near at.old x result }
+        AllRest (near_beats held.now) (behind gone.now at.old) x result }
 {
     let b = go_ahead(bridge, &held.b, gone.b, &mut at.b);
     let c = go_ahead(bridge, &held.c, gone.c, &mut at.c);

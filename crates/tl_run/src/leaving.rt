@@ -1,18 +1,18 @@
 //! How many beats of a script that comes piece by piece may go.
-ghost use Rattle.std.specs.Prelude.{◌≡◌, ◌+◌, ◌≤◌, length};
+ghost use Rattle.std.specs.Prelude.{◌≡◌, ◌+◌, ◌-◌, ◌≤◌};
 ghost use Rattle.tl_trace.specs.Scripts.{HasCounts, HasLetGo};
-ghost use Rattle.tl_run.specs.Parts.{AreBetween, AreHalf, HaveGone, IsBetween};
+ghost use Rattle.tl_run.specs.Parts.{AreBetween, AreGoing, AreWaiting, HaveGone, IsBetween, going};
 
 use tl_sides::PerChannel;
 use tl_trace::{Counts, Script};
 
 // How many of these beats may go, where so many of all have gone, to which they are counted, and so
-// many are done with: at least half of them, or none.
+// many are done with: all that are done with where they are at least half of these, else none.
 fn leaving(held: usize, gone: &mut usize, at: usize) -> usize
     requires { IsBetween gone.old at held }
     ensures counted { gone.new ≡ gone.old + result }
     ensures past { gone.new ≤ at }
-    ensures half { AreHalf result held }
+    ensures all { result ≡ going (at - gone.old) held }
 {
     let past = at - *gone;
     let count = if past >= held - past { past } else { 0 };
@@ -22,8 +22,9 @@ fn leaving(held: usize, gone: &mut usize, at: usize) -> usize
 
 /// Lets go beats of a script that comes piece by piece, of which `gone` have gone and `at` are done
 /// with: answers how many of those that are held have to go now, and counts them in `gone`. Of each
-/// channel they are at least half of those that are held, or none, so that letting them go costs no
-/// more than reading them (this project's choice).
+/// channel they are all that are done with where these are at least half of those that are held, else
+/// none, so that letting them go costs no more than reading them, and fewer are held that are done with
+/// than wait (this project's choice).
 pub fn let_leave<const C: usize, const M: usize>(
     gone: &mut Counts,
     held: &Script<C, M>,
@@ -31,14 +32,12 @@ pub fn let_leave<const C: usize, const M: usize>(
 ) -> Counts
     requires { AreBetween gone.old at.now held.now }
     ensures counts { HasCounts result held.now }
-    ensures half_a { AreHalf result.a (length held.now.a.items) }
-    ensures half_b { AreHalf result.b (length held.now.b.items) }
-    ensures half_c { AreHalf result.c (length held.now.c.items) }
-    ensures half_d { AreHalf result.d (length held.now.d.items) }
-    ensures half_e { AreHalf result.e (length held.now.e.items) }
+    ensures going { AreGoing gone.old at.now held.now result }
     ensures gone { HaveGone gone.old result gone.new }
     ensures rest { (rest : Script C M) → HasLetGo result held.now rest →
         AreBetween gone.new at.now rest }
+    ensures waiting { (rest : Script C M) → HasLetGo result held.now rest →
+        AreWaiting gone.new at.now rest }
 {
     Counts {
         a: leaving(held.a.len(), &mut gone.a, at.a),

@@ -4,7 +4,7 @@ ghost use Rattle.tl_lanes.specs.Lanes.{IsWidth};
 ghost use Rattle.tl_settle.specs.Outcomes.{Beats, verdicts};
 ghost use Rattle.tl_sides.specs.Bridges.{Bridge, Past, StandsFor};
 ghost use Rattle.tl_run.specs.Arrivals.{no_beats};
-ghost use Rattle.tl_run.specs.Scripts.{EndsIn, HasShortLists, near_beats};
+ghost use Rattle.tl_run.specs.Scripts.{AreBelow, EndsIn, HasShortLists, near_beats, near_counts};
 ghost use Rattle.tl_offer.specs.Widths.{AreWidths};
 ghost use Rattle.tl_run.specs.Inner.Arriving.{HasRoomFor, beats_of};
 ghost use Rattle.tl_run.specs.Inner.Running.{IsAt, lengths, IsNew, IsUnderWay, HasRound, HasEnded, AreStopped, counted, standing_count, all_standing, all_under_way, all_stopped};
@@ -137,8 +137,9 @@ pub(crate) fn run_rounds<const C: usize, const M: usize>(
 ) -> End
     requires { AreWidths C M × HasShortLists script.now × IsNew bridge.old ×
         (beats_of far.old ≡ no_beats) × HasRoomFor (near_beats script.now) far.old }
-    ensures { HasEnded (near_beats script.now) result.at (beats_of far.new) bridge.new
+    ensures ended { HasEnded (near_beats script.now) result.at (beats_of far.new) bridge.new
         result.stops result.rounds }
+    ensures each { AreBelow result.at result.rounds }
 {
     let mut at = PerChannel {
         a: 0,
@@ -161,8 +162,11 @@ pub(crate) fn run_rounds<const C: usize, const M: usize>(
 /// channel and the number of rounds (this project's choice).
 pub fn outcome_at<const C: usize, const M: usize>(end: End, far: Taken<C, M>) -> Outcome<C, M>
     requires { AreWidths C M }
-    ensures { (near : Beats C M) (s : Bridge C M) →
+    ensures outcome { (near : Beats C M) (s : Bridge C M) →
         HasEnded near end.at (beats_of far.entry) s end.stops end.rounds → EndsIn near result }
+    ensures counts { (near : Beats C M) (s : Bridge C M) →
+        HasEnded near end.at (beats_of far.entry) s end.stops end.rounds → end.at ≡ near_counts near }
+    ensures rounds { result.rounds ≡ end.rounds }
 {
     let taken = PerChannel {
         a: far.a.len(),

@@ -5,8 +5,9 @@ ghost use Rattle.tl_settle.specs.Outcomes.{Beats, far_beats, verdicts};
 ghost use Rattle.tl_sides.specs.Bridges.{Past, StandsFor};
 ghost use Rattle.tl_sides.specs.declared.per_channel.PerChannel.{PerChannel as PerChannelOf};
 ghost use Rattle.tl_trace.specs.Scripts.{HasCounts, HasLetGo};
-ghost use Rattle.tl_run.specs.Parts.{AreEnd, AreHalf, ArePart, HaveGone, none_counted};
+ghost use Rattle.tl_run.specs.Parts.{AreEnd, AreGoing, ArePart, AreWaiting, HaveGone, none_counted};
 ghost use Rattle.tl_run.specs.Scripts.{HasShortLists};
+ghost use Rattle.tl_run.specs.Stopping.{AreStuck};
 ghost use Rattle.tl_run.specs.Streaming.{CanRun, HasBegun, HasRun, IsAtRest};
 ghost use Rattle.tl_run.specs.Inner.Going.{AreStopsOf, HasStopped, IsSound, all_counts, stop_by};
 ghost use Rattle.tl_run.specs.Inner.Running.{HaveRoomToCount, IsNew, IsRunning};
@@ -40,7 +41,7 @@ pub struct SyncRun<const C: usize, const M: usize> {
     at: PerChannel<usize>,
     taken: PerChannel<usize>,
     /// How many beats of each channel are not held any more.
-    pub gone: Counts,
+    gone: Counts,
 }
 
 // How many beats of all channels.
@@ -92,6 +93,9 @@ fn go_through<F: FarSink<C, M>, const C: usize, const M: usize>(
     ensures stopped { (near : Beats C M) → AreEnd run.old.gone held.now near →
         HasRun F.Holds near far.old run.old → IfOk result (λ stopped_by.
         HasStopped F.Holds near run.new.at run.new.taken far.new run.new.bridge stopped_by) }
+    ensures stuck { (near : Beats C M) → ArePart run.old.gone held.now near →
+        HasRun F.Holds near far.old run.old →
+        IfOk result (λ _. AreStuck near run.old.gone run.new.at held.now) }
     ensures same { OnOk result (F.made_with far.new ≡ F.made_with far.old) }
 {
     'turns: loop {
@@ -166,11 +170,12 @@ impl<const C: usize, const M: usize> SyncRun<C, M> {
         }
     }
 
-    /// Goes on as far as these beats lead, of which those that had gone before are no part, and says
-    /// how many of them have to go before the next call: of each channel at least half of those that
-    /// are held, or none, so that letting them go costs no more than reading them. The far beats go to
-    /// `far` as both sides take them. Refused where there is no memory for them there: then nothing is
-    /// promised of the run any more.
+    /// Goes on as far as these beats lead, of which those that had gone before are no part: on each
+    /// channel they are used up then, or something stops the next one. Says how many of them have to go
+    /// before the next call: of each channel those that are done with where they are at least half of
+    /// those that are held, else none. So letting them go costs no more than reading them, and fewer stay
+    /// that are done with than wait. The far beats go to `far` as both sides take them. Refused where
+    /// there is no memory for them there: then nothing is promised of the run any more.
     pub fn go_on<F: FarSink<C, M>>(
         &mut self,
         held: &Script<C, M>,
@@ -180,20 +185,21 @@ impl<const C: usize, const M: usize> SyncRun<C, M> {
         requires manager { IsWidth M }
         requires held { CanRun self.old held.now }
         ensures counts { IfOk result (λ counts. HasCounts counts held.now) }
-        ensures half_a { IfOk result (λ counts. AreHalf counts.a (length held.now.a.items)) }
-        ensures half_b { IfOk result (λ counts. AreHalf counts.b (length held.now.b.items)) }
-        ensures half_c { IfOk result (λ counts. AreHalf counts.c (length held.now.c.items)) }
-        ensures half_d { IfOk result (λ counts. AreHalf counts.d (length held.now.d.items)) }
-        ensures half_e { IfOk result (λ counts. AreHalf counts.e (length held.now.e.items)) }
+        ensures going { IfOk result (AreGoing self.old.gone self.new.at held.now) }
         ensures gone { IfOk result (λ counts. HaveGone self.old.gone counts self.new.gone) }
         ensures held { IfOk result (λ counts. (rest : Script C M) →
             HasLetGo counts held.now rest → CanRun self.new rest) }
+        ensures waiting { IfOk result (λ counts. (rest : Script C M) →
+            HasLetGo counts held.now rest → AreWaiting self.new.gone self.new.at rest) }
         ensures same { OnOk result (F.made_with far.new ≡ F.made_with far.old) }
 
         // for every script of which that is a part
         ensures on { (near : Beats C M) → ArePart self.old.gone held.now near →
             HasRun F.Holds near far.old self.old →
             OnOk result (HasRun F.Holds near far.new self.new) }
+        ensures stuck { (near : Beats C M) → ArePart self.old.gone held.now near →
+            HasRun F.Holds near far.old self.old →
+            IfOk result (λ _. AreStuck near self.old.gone self.new.at held.now) }
     {
         let Ok(_) = go_through(self, held, far) else {
             return Err(AllocError);

@@ -5,7 +5,7 @@ ghost use Rattle.tl_lanes.specs.Lanes.{IsWidth};
 ghost use Rattle.tl_run.specs.declared.outcome.RunFault.TheVariants.{RingSize, OutOfMemory, Stalled};
 ghost use Rattle.tl_sides.specs.Bridges.{Bridge};
 ghost use Rattle.tl_run.specs.Arrivals.{no_beats};
-ghost use Rattle.tl_run.specs.Scripts.{HasShortLists, SettlesTo, near_beats};
+ghost use Rattle.tl_run.specs.Scripts.{AreBelow, HasShortLists, SettlesTo, near_beats, near_counts};
 ghost use Rattle.tl_run.specs.Inner.Arriving.{HasRoomFor, beats_of};
 ghost use Rattle.tl_run.specs.Inner.Running.{HasEnded};
 ghost use Rattle.tl_offer.specs.Widths.{AreWidths};
@@ -26,7 +26,7 @@ use tl_trace::Script;
 /// then staged beats go into the rings, and beats of the rings into the inboxes, as many as there
 /// is room for. A refused beat stays next. A channel whose list is used up between two messages is
 /// closed. The run ends after the first round in which no beat was accepted and after which nothing
-/// is under way.
+/// is under way: there are more rounds than beats of any channel that are accepted.
 ///
 /// The rings hold `ring` beats each. Refused with `RingSize` exactly where that is 0 or above
 /// 4,096, which is tested first, and else with `OutOfMemory` where there is no memory for the
@@ -41,6 +41,8 @@ pub fn run_sync<const C: usize, const M: usize>(
     requires manager { IsWidth M }
     requires short { HasShortLists script.now }
     ensures outcome { IfOk result (SettlesTo script.now) }
+    ensures rounds { IfOk result (λ outcome.
+        AreBelow (near_counts (near_beats script.now)) outcome.rounds) }
     ensures size { IsOk result → (1 ≤ ring) × (ring ≤ MAX_RING) }
     ensures ring_size { IfErr result (λ fault. (fault ≡ RingSize) ↔
         ((ring ≡ 0) ⊎ (MAX_RING < ring))) }
@@ -72,6 +74,7 @@ fn run_into_lists<const C: usize, const M: usize>(
         HasRoomFor (near_beats script.now) far.old }
     ensures ended { IfOk result (λ end. (s : Bridge C M) ×
         HasEnded (near_beats script.now) end.at (beats_of far.new) s end.stops end.rounds) }
+    ensures each { IfOk result (λ end. AreBelow end.at end.rounds) }
     ensures size { IsOk result → (1 ≤ ring) × (ring ≤ MAX_RING) }
     ensures memory { IfErr result (λ fault. fault ≡ OutOfMemory) }
 {

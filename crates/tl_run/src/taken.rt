@@ -9,7 +9,7 @@ ghost use Rattle.tl_run.specs.Scripts.{EndsIn, HasEnding, HasShortLists, near_be
 ghost use Rattle.tl_offer.specs.Widths.{AreWidths};
 ghost use Rattle.tl_run.specs.Inner.Running.{CanAdd, added, inboxes, lengths};
 ghost use Rattle.tl_run.specs.Inner.Sizes.{BeatFits};
-ghost use Rattle.tl_run.specs.Inner.Arriving.{beats_of, HaveCapacity, HaveRoom, HasRoomFor};
+ghost use Rattle.tl_run.specs.Inner.Arriving.{beats_of, AreDueCounts, HaveCapacity, HasRoomFor};
 
 use crate::far_sink::FarSink;
 use crate::outcome::{Ending, Outcome};
@@ -47,10 +47,10 @@ fn short<B>(list: &Vec<B>) -> &[B]
     list
 }
 
-// Room for all far beats of each channel that a script can make due.
+// How many far beats of each channel a script makes due at most: no more room is asked for than that.
 fn far_rooms<const C: usize, const M: usize>(script: &Script<C, M>) -> PerChannel<usize>
     requires { AreWidths C M × HasShortLists script.now }
-    ensures { HaveRoom (near_beats script.now) result }
+    ensures { AreDueCounts (near_beats script.now) result }
 {
     beats_fit::<C, M>();
     let a = far_count::<ChA, C, M>(short(&script.a));
@@ -92,8 +92,9 @@ impl<const C: usize, const M: usize> Taken<C, M> {
     // The outcome of a run that took these and ended so.
     pub(crate) fn into_outcome(self, ending: Ending) -> Outcome<C, M>
         requires { AreWidths C M }
-        ensures { (near : Beats C M) → HasEnding near ending →
+        ensures ends { (near : Beats C M) → HasEnding near ending →
             beats_of self.entry ≡ far_beats near → EndsIn near result }
+        ensures rounds { result.rounds ≡ ending.rounds }
     {
         let Taken { a, b, c, d, e } = self;
         let Ending { verdicts, rounds } = ending;

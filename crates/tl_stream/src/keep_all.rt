@@ -1,5 +1,5 @@
 //! A listener that keeps all beats.
-ghost use Rattle.tl_stream.specs.Inner.Keeping.{Keeps};
+ghost use Rattle.tl_stream.specs.Inner.Keeping.{Keeps, LetsNoneGo};
 
 use crate::listener::Listener;
 use std::alloc::AllocError;
@@ -11,6 +11,8 @@ pub(crate) struct KeepAll;
 
 impl<const C: usize, const M: usize> Listener<KeepAll, C, M> for KeepAll {
     ghost Listens = { Keeps };
+
+    ghost Hears = { LetsNoneGo };
 
     fn hear(&mut self, _held: &Script<C, M>) -> Result<Counts, AllocError> {
         Ok(Counts {

@@ -3,6 +3,7 @@ ghost use Rattle.std.specs.Prelude.{ℕ, IfOk};
 ghost use Rattle.tl_lanes.specs.Lanes.{IsWidth};
 ghost use Rattle.tl_trace.specs.Scripts.{Gone, HasCounts, HasGrown, HasLetGo, more_gone};
 ghost use Rattle.tl_trace.specs.declared.script.Script.{Script as TheScript};
+ghost use Rattle.tl_trace.specs.declared.script.Counts.{Counts as TheCounts};
 ghost use Rattle.tl_stream.specs.Listening.{AreFew};
 
 use std::alloc::AllocError;
@@ -18,12 +19,17 @@ pub trait Listener<By, const C: usize, const M: usize> {
     // those that the script holds
     ghost Listens: { (version : ℕ) → Self → Gone C M → TheScript C M → Type 0 };
 
+    // it went on from what it was, as far as the beats lead that the script holds, and so many of these have to
+    // go
+    ghost Hears: { (before : Self) → (after : Self) → TheScript C M → TheCounts → Type 0 };
+
     /// Goes on as far as the beats that are held lead, and says how many of them have to go before
     /// more is read. Refused where there is no memory, which ends the reading.
     fn hear(&mut self, held: &Script<C, M>) -> Result<Counts, AllocError>
         requires { IsWidth C × IsWidth M ×
             ((version : ℕ) × (gone : Gone C M) × Listens version self.old gone held.now) }
         ensures counts { IfOk result (λ counts. HasCounts counts held.now) }
+        ensures heard { IfOk result (Hears self.old self.new held.now) }
 
         // whatever is left of them, and is read behind it
         ensures on { (version : ℕ) (gone : Gone C M) → Listens version self.old gone held.now →

@@ -1,7 +1,11 @@
 -- What a run into texts is to the beats of a trace of a version. Only private contracts cite these words.
 use Rattle.std.specs.Prelude.{◌≡◌, ℕ}
-use Rattle.tl_trace.specs.Scripts.{Gone}
+use Rattle.tl_settle.specs.Outcomes.{Beats}
+use Rattle.tl_trace.specs.Scripts.{Gone, HasLetGo}
 use Rattle.tl_trace.specs.declared.script.Script.{Script}
+use Rattle.tl_trace.specs.declared.script.Counts.{Counts}
+use Rattle.tl_run.specs.Parts.{AreGoing, ArePart, AreWaiting}
+use Rattle.tl_run.specs.Stopping.{AreStuck}
 use Rattle.tl_run.specs.Streaming.{CanRun, HasRun}
 use Rattle.tl_answer.specs.Inner.FarTexts.{HasLines}
 use Rattle.tl_answer.specs.Inner.Listening.{GoesWith}
@@ -11,3 +15,10 @@ use Rattle.tl_answer.specs.declared.crossing.Crossing.{Crossing}
 pub record Crosses {C M : ℕ} (version : ℕ) (x : Crossing C M) (gone : Gone C M) (s : Script C M) : Type 0 where
   pub version_is : x.far.version ≡ version
   pub goes : GoesWith x.run.gone (CanRun x.run) (λ beats. HasRun HasLines beats x.far x.run) gone s
+
+-- it goes on as far as these beats lead, and of those so many go that fewer stay that it is done with than wait
+pub record CrossesOn {C M : ℕ} (before after : Crossing C M) (s : Script C M) (counts : Counts) : Type 0 where
+  pub stuck : (near : Beats C M) → ArePart before.run.gone s near → HasRun HasLines near before.far before.run →
+      AreStuck near before.run.gone after.run.at s
+  pub going : AreGoing before.run.gone after.run.at s counts
+  pub waiting : (rest : Script C M) → HasLetGo counts s rest → AreWaiting after.run.gone after.run.at rest

@@ -1,5 +1,5 @@
 -- The lists of far beats of a run, and their room. Only contracts within the two runs cite these words.
-use Rattle.std.specs.Prelude.{◌≤◌, ℕ, List, length, vec_capacity}
+use Rattle.std.specs.Prelude.{◌≡◌, ◌≤◌, ℕ, List, length, vec_capacity}
 use Rattle.tl_msg.specs.Rules.{Rules}
 use Rattle.tl_msg.specs.Tables.{rules_a, rules_b, rules_c, rules_d, rules_e}
 use Rattle.tl_msg.specs.declared.beat.BeatOf.{BeatOf}
@@ -13,7 +13,19 @@ use Rattle.tl_run.specs.declared.taken.Taken.{Taken}
 abbrev pub HasRoom : {H : Type 0} (r : Rules H) {w : ℕ} (v : ℕ) → (bs : List (BeatOf H w)) → (room : ℕ) → Type 0
 HasRoom r {w = w} v bs room = (homes : List ℕ) → length (due r w v (accepted_of r bs) homes) ≤ room
 
+-- so many beats the longest first part of a list that is handed makes due, whatever the homes are
+abbrev pub IsDueCount : {H : Type 0} (r : Rules H) {w : ℕ} (v : ℕ) → (bs : List (BeatOf H w)) → (count : ℕ) → Type 0
+IsDueCount r {w = w} v bs count = (homes : List ℕ) → count ≡ length (due r w v (accepted_of r bs) homes)
+
 module _ {C M : ℕ} where
+  -- so many beats the near beats of a script make due on each channel, those of A and D where nothing holds them back
+  pub record AreDueCounts (near : Beats C M) (count : PerChannel ℕ) : Type 0 where
+    pub of_a : IsDueCount rules_a M near.a count.a
+    pub of_b : IsDueCount rules_b C near.b count.b
+    pub of_c : IsDueCount rules_c M near.c count.c
+    pub of_d : IsDueCount rules_d C near.d count.d
+    pub of_e : IsDueCount rules_e M near.e count.e
+
   -- the beats that were taken
   abbrev pub beats_of : Taken C M → Beats M C
   beats_of t = record { a = t.a.items; b = t.b.items; c = t.c.items; d = t.d.items; e = t.e.items }

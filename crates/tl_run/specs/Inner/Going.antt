@@ -54,13 +54,17 @@ module _ {C M : ℕ} where
     pub stands : StandsFor t past
     pub is_at : (near : Beats C M) (far : Beats M C) → ArePart gone held near → IsAt near n far x → IsAt near m far past
 
-  -- why each channel rests
+  -- why each channel rests at these lists
   pub record AllRest (near : Beats C M) (n : PerChannel ℕ) (x : Past C M) (o : PerChannel (Option SideFault)) : Type 0 where
     pub a : RestsIn near.a n.a (client_answer x.client) x.a o.a
     pub b : RestsIn near.b n.b (stops_alone rules_b x.b.accepted) x.b o.b
     pub c : RestsIn near.c n.c (stops_alone rules_c x.c.accepted) x.c o.c
     pub d : RestsIn near.d n.d (manager_answer x.manager) x.d o.d
     pub e : RestsIn near.e n.e (stops_alone rules_e x.e.accepted) x.e o.e
+
+-- so many of the beats that are held were accepted, of which so many have gone before
+abbrev pub behind : Counts → PerChannel ℕ → PerChannel ℕ
+behind gone n = record { a = n.a - gone.a; b = n.b - gone.b; c = n.c - gone.c; d = n.d - gone.d; e = n.e - gone.e }
 
 -- no channel has come less far
 pub record AreOn (n m : PerChannel ℕ) : Type 0 where

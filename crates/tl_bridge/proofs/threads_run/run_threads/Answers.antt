@@ -19,7 +19,7 @@ returns g c =
     let end = c.play_rounds-end.result in
     let bridge = bridge_of c.play_rounds-end.new.client.side c.play_rounds-end.new.manager.side in
     record {
-      outcome = c.outcome_at.ensures near bridge
+      outcome = c.outcome_at.ensures.outcome near bridge
           (subst (λ (t : _). HasEnded near end.at (beats_of t) bridge end.stops end.rounds) (sym c.lists_of.ensures) c.play_rounds-end.ensures);
       size = λ _. c.in-Ok-bridge.ensures.size refl;
       ring_size = tt;

@@ -1,9 +1,10 @@
-use Rattle.tl_check.proofs.Names.{rules, ◌-◌, length, take, refl, slice_get_within, tracker-fits, read_some, end-past, part-get, part-of}
-use denote.Memory.{lone}
-use denote.Param.{layout}
-use Rattle.tl_check.proofs.Parts.{low, none-left, steps}
-use Rattle.tl_check.proofs.Passing.{alone-all, alone-stops}
-use Rattle.tl_check.proofs.Sizes.{progress-fits}
+use Rattle.std.specs.Prelude.{IfSome}
+use Rattle.tl_msg.specs.declared.fault.SideFault.TheVariants.{Beat}
+use Rattle.tl_sides.specs.Crossings.{stops_alone}
+use Rattle.tl_check.proofs.Names.{◌≢◌, ◌∙◌, None, Some, sym, ap, subst, option_map_or}
+use Rattle.tl_check.proofs.Names.{◌-◌, length, take, refl, slice_get_within, read_some, end-past, part-get, part-of}
+use Rattle.tl_check.proofs.Parts.{none-held, none-left, steps}
+use Rattle.tl_check.proofs.Passing.{alone-all, alone-stops, says-after}
 use Rattle.tl_check.proofs.alone.judge_alone.Goals as goal
 
 pub beats-init : goal.beats-init
@@ -36,6 +37,14 @@ returns-in-Err g c = record {
       alone-stops g.K.Channel.rules bs progress.tracker progress.at progress.far (c.beats.invariant.come bs part was) c.in-Some.beat.now
       (part-get c.args.gone progress.at c.args.beats.now bs part c.beats.invariant.within.from c.in-Some.beat.now next)
       c.in-Err.fault c.in-Err.ensures.fault;
+  stuck = λ bs part was.
+      let progress = c.beats.progress in
+      let next = read_some c.args.beats.now (progress.at - c.args.gone) c.in-Some.beat.now c.in-Some.ensures.lookup.0 c.in-Some.ensures.lookup.1 in
+      let after = says-after g.K.Channel.rules bs progress.tracker progress.at progress.far (c.beats.invariant.come bs part was) c.in-Some.beat.now
+      (part-get c.args.gone progress.at c.args.beats.now bs part c.beats.invariant.within.from c.in-Some.beat.now next)
+      (Some c.in-Err.fault) c.in-Err.ensures.fault in
+      subst (λ q. IfSome q (λ b. stops_alone g.K.Channel.rules (take progress.at bs) b ≢ None)) (sym next)
+      (λ free. cc (sym (ap (λ o. option_map_or (λ f. Some (Beat f)) o None) after) ∙ free));
 }
 
 pub returns : goal.returns
@@ -48,4 +57,9 @@ returns g c = record {
       let past = none-left c.args.gone progress.at c.args.beats.now c.in_default.ensures.lookup.0 c.beats.invariant.within in
       alone-all g.K.Channel.rules bs progress.tracker progress.at progress.far (c.beats.invariant.come bs part was)
       (end-past c.args.gone progress.at c.args.beats.now bs end past);
+  stuck = λ bs part was.
+      let progress = c.beats.progress in
+      let past = none-left c.args.gone progress.at c.args.beats.now c.in_default.ensures.lookup.0 c.beats.invariant.within in
+      subst (λ q. IfSome q (λ b. stops_alone g.K.Channel.rules (take progress.at bs) b ≢ None))
+      (sym (none-held c.args.gone progress.at c.args.beats.now past)) tt;
 }

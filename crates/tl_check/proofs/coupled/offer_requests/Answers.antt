@@ -1,8 +1,8 @@
 use Rattle.tl_check.proofs.Names.{lit<, ◌≡◌, ◌-◌, None, length, take, refl, sym, ap, subst, ◌∙◌, arith}
 use Rattle.tl_check.proofs.Names.{IsOk, IfOk, IsPlace, option_map_or, slice_get_past, slice_get_within}
-use Rattle.tl_check.proofs.Names.{rules_a, stops_a, AreAt, read_some, end-past, part-get, part-of, beat_small}
+use Rattle.tl_check.proofs.Names.{rules_a, stops_a, AreAt, read_some, part-get}
 use Rattle.tl_check.proofs.Ends.{stopped-at}
-use Rattle.tl_check.proofs.Parts.{low, none-left, steps}
+use Rattle.tl_check.proofs.Parts.{none-left, steps}
 use Rattle.tl_check.proofs.Passing.{says-after}
 use Rattle.tl_check.proofs.Steps.{ask-accepted, ask-checked, ask-stops}
 use Rattle.tl_check.proofs.coupled.offer_requests.Goals as goal
@@ -64,16 +64,14 @@ returns-in-Err g c = record {
   accepted = λ a d j part was start.
       subst (λ client. AreAt a d c.beats.asks.at j client c.beats.manager) (sym c.in-Err.ensures.admits.refused)
       (c.beats.invariant.accepted a d j part was start);
-  stopped = λ a d j end was start.
+  stopped = λ a d j part was start.
       let asks = c.beats.asks in
       let beat = c.in-Some.beat.now in
-      let part = part-of c.args.gone asks.at c.args.beats.now a end in
       let held = read_some c.args.beats.now (asks.at - c.args.gone) beat c.in-Some.ensures.lookup.0 c.in-Some.ensures.lookup.1 in
-      let next = part-get c.args.gone asks.at c.args.beats.now a part c.beats.invariant.within.from beat held in
       let s = c.beats.invariant.accepted a d j part was start in
       let checked = ask-checked c.requires.0 c.requires.1 a d asks.at j c.beats.client c.beats.manager s beat asks.tracker asks.far c.check.result
       (c.beats.invariant.come a part was) c.check.ensures.accepts c.check.ensures.fault c.check.ensures.head c.check.ensures.place in
-      stopped-at (λ b. stops_a a d asks.at j b) a asks.at beat c.in-Err.fault next
+      stopped-at (λ b. stops_a a d asks.at j b) c.args.beats.now (asks.at - c.args.gone) beat c.in-Err.fault held
       (ask-stops c.requires.0 c.requires.1 a d asks.at j c.beats.client c.beats.manager s beat c.in-Err.fault
       (c.in-Err.ensures.admits.fault s.client_history beat s.client_knows checked));
   all = λ none. absurd (cc (none));
@@ -84,9 +82,9 @@ returns g c = record {
   within = c.beats.invariant.within;
   come = c.beats.invariant.come;
   accepted = c.beats.invariant.accepted;
-  stopped = λ a d j end was start.
+  stopped = λ a d j part was start.
       let past = none-left c.args.gone c.beats.asks.at c.args.beats.now c.in_default.ensures.lookup.0 c.beats.invariant.within in
       sym (ap (λ o. option_map_or (λ b. stops_a a d c.beats.asks.at j b) o None)
-      (slice_get_past a c.beats.asks.at (end-past c.args.gone c.beats.asks.at c.args.beats.now a end past)));
+      (slice_get_past c.args.beats.now (c.beats.asks.at - c.args.gone) (omega (arith, past))));
   all = λ _. none-left c.args.gone c.beats.asks.at c.args.beats.now c.in_default.ensures.lookup.0 c.beats.invariant.within;
 }

@@ -1,8 +1,8 @@
 use Rattle.tl_check.proofs.Names.{lit<, ◌≡◌, ◌-◌, None, length, take, refl, sym, ap, subst, ◌∙◌, arith}
 use Rattle.tl_check.proofs.Names.{IsOk, IfOk, IsPlace, option_map_or, slice_get_past, slice_get_within}
-use Rattle.tl_check.proofs.Names.{rules_d, stops_d, AreAt, read_some, end-past, part-get, part-of, beat_small}
+use Rattle.tl_check.proofs.Names.{rules_d, stops_d, AreAt, read_some, part-get}
 use Rattle.tl_check.proofs.Ends.{stopped-at}
-use Rattle.tl_check.proofs.Parts.{low, none-left, steps}
+use Rattle.tl_check.proofs.Parts.{none-left, steps}
 use Rattle.tl_check.proofs.Passing.{says-after}
 use Rattle.tl_check.proofs.Steps.{answer-accepted, answer-checked, answer-stops}
 use Rattle.tl_check.proofs.coupled.offer_responses.Goals as goal
@@ -66,17 +66,15 @@ returns-in-Err g c = record {
   accepted = λ a d i part was start.
       subst (λ manager. AreAt a d i c.beats.answers.at c.beats.client manager) (sym c.in-Err.ensures.admits.refused)
       (c.beats.invariant.accepted a d i part was start);
-  stopped = λ a d i end was start.
+  stopped = λ a d i part was start.
       let answers = c.beats.answers in
       let beat = c.in-Some.beat.now in
-      let part = part-of c.args.gone answers.at c.args.beats.now d end in
       let held = read_some c.args.beats.now (answers.at - c.args.gone) beat c.in-Some.ensures.lookup.0 c.in-Some.ensures.lookup.1 in
-      let next = part-get c.args.gone answers.at c.args.beats.now d part c.beats.invariant.within.from beat held in
       let s = c.beats.invariant.accepted a d i part was start in
       let checked = answer-checked c.requires.0 c.requires.1 a d i answers.at c.beats.client c.beats.manager s beat answers.tracker answers.far
       c.check.result
       (c.beats.invariant.come d part was) c.check.ensures.accepts c.check.ensures.fault c.check.ensures.head c.check.ensures.place in
-      stopped-at (λ b. stops_d a d i answers.at b) d answers.at beat c.in-Err.fault next
+      stopped-at (λ b. stops_d a d i answers.at b) c.args.beats.now (answers.at - c.args.gone) beat c.in-Err.fault held
       (answer-stops c.requires.0 c.requires.1 a d i answers.at c.beats.client c.beats.manager s beat c.in-Err.fault
       (c.in-Err.ensures.admits.fault s.manager_history beat s.manager_knows checked));
   all = λ none. absurd (cc (none));
@@ -88,9 +86,9 @@ returns g c = record {
   on = c.beats.invariant.on;
   come = c.beats.invariant.come;
   accepted = c.beats.invariant.accepted;
-  stopped = λ a d i end was start.
+  stopped = λ a d i part was start.
       let past = none-left c.args.gone c.beats.answers.at c.args.beats.now c.in_default.ensures.lookup.0 c.beats.invariant.within in
       sym (ap (λ o. option_map_or (λ b. stops_d a d i c.beats.answers.at b) o None)
-      (slice_get_past d c.beats.answers.at (end-past c.args.gone c.beats.answers.at c.args.beats.now d end past)));
+      (slice_get_past c.args.beats.now (c.beats.answers.at - c.args.gone) (omega (arith, past))));
   all = λ _. none-left c.args.gone c.beats.answers.at c.args.beats.now c.in_default.ensures.lookup.0 c.beats.invariant.within;
 }

@@ -1,6 +1,9 @@
-use Rattle.tl_check.proofs.Names.{refl, sym, subst, length, IsWithin, IsPart}
+use Rattle.tl_check.proofs.Names.{refl, sym, subst, take, stops_a, stops_d, length, IsWithin, IsPart}
 use Rattle.tl_run.proofs.Lives.{lives-long}
+use Rattle.tl_msg.specs.Tables.{rules_b, rules_c, rules_e}
+use Rattle.tl_sides.specs.Crossings.{stops_alone}
 use Rattle.tl_run.specs.Parts.{IsEnd}
+use Rattle.tl_run.specs.Stopping.{IsStuck}
 use Rattle.tl_check.proofs.judge.go_through.Goals as goal
 
 pub deref-requires : goal.deref-requires
@@ -59,5 +62,18 @@ returns g c =
             c = c'.ensures.stopped near.c (subst (λ q. IsEnd gone.c q near.c) (sym of_c) end.c) was.c;
             d = both.1;
             e = e.ensures.stopped near.e (subst (λ q. IsEnd gone.e q near.e) (sym of_e) end.e) was.e;
+          };
+      stuck = λ near part was.
+          let both = coupled.ensures.stuck near.a near.d (subst (λ q. IsPart gone.a q near.a) (sym of_a) part.a)
+          (subst (λ q. IsPart gone.d q near.d) (sym of_d) part.d) was.a was.d was.both in
+          record {
+            a = subst (λ q. IsStuck gone.a coupled.new.asks.at q (stops_a near.a near.d coupled.new.asks.at coupled.new.answers.at)) of_a both.0;
+            b = subst (λ q. IsStuck gone.b b.new.progress.at q (stops_alone rules_b (take b.new.progress.at near.b))) of_b
+                (b.ensures.stuck near.b (subst (λ q. IsPart gone.b q near.b) (sym of_b) part.b) was.b);
+            c = subst (λ q. IsStuck gone.c c'.new.progress.at q (stops_alone rules_c (take c'.new.progress.at near.c))) of_c
+                (c'.ensures.stuck near.c (subst (λ q. IsPart gone.c q near.c) (sym of_c) part.c) was.c);
+            d = subst (λ q. IsStuck gone.d coupled.new.answers.at q (stops_d near.a near.d coupled.new.asks.at coupled.new.answers.at)) of_d both.1;
+            e = subst (λ q. IsStuck gone.e e.new.progress.at q (stops_alone rules_e (take e.new.progress.at near.e))) of_e
+                (e.ensures.stuck near.e (subst (λ q. IsPart gone.e q near.e) (sym of_e) part.e) was.e);
           };
     }

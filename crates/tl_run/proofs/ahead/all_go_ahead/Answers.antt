@@ -95,16 +95,16 @@ returns g c =
       stays = λ same x stands.
           d.stays (ap (λ q. q.d) same) x (a.stays (ap (λ q. q.a) same) x (e.stays (ap (λ q. q.e) same) x
           (c'.stays (ap (λ q. q.c) same) x (b.stays (ap (λ q. q.b) same) x stands))));
-      rests = λ same x stands near end.
+      rests = λ same x stands.
           let after_b = b.stays (ap (λ q. q.b) same) x stands in
           let after_c = c'.stays (ap (λ q. q.c) same) x after_b in
           let after_e = e.stays (ap (λ q. q.e) same) x after_c in
           let after_a = a.stays (ap (λ q. q.a) same) x after_e in
           record {
-            a = a.rests (ap (λ q. q.a) same) near.a end.a x after_e;
-            b = b.rests (ap (λ q. q.b) same) near.b end.b x stands;
-            c = c'.rests (ap (λ q. q.c) same) near.c end.c x after_b;
-            d = d.rests (ap (λ q. q.d) same) near.d end.d x after_a;
-            e = e.rests (ap (λ q. q.e) same) near.e end.e x after_c;
+            a = a.rests (ap (λ q. q.a) same) x after_e;
+            b = b.rests (ap (λ q. q.b) same) x stands;
+            c = c'.rests (ap (λ q. q.c) same) x after_b;
+            d = d.rests (ap (λ q. q.d) same) x after_a;
+            e = e.rests (ap (λ q. q.e) same) x after_c;
           };
     }

@@ -1,4 +1,5 @@
-use Rattle.tl_run.proofs.Names.{arith}
+use Rattle.tl_run.proofs.Names.{◌-◌, arith}
+use Rattle.tl_run.proofs.Parts.{going-all, going-none}
 use Rattle.tl_run.proofs.leaving.leaving.Goals.{then-past-held, else-past-held}
 use Rattle.tl_run.proofs.leaving.leaving.Goals as goal
 
@@ -7,4 +8,10 @@ pub returns-clause-past : goal.returns-clause-past
 returns-clause-past c = elim c.if-past-held.branch [
   | then-past-held w ↦ omega (arith, c.requires.from, w.count-is)
   | else-past-held w ↦ omega (arith, c.requires.from, w.count-is)
+]
+
+pub returns-clause-all : goal.returns-clause-all
+returns-clause-all c = elim c.if-past-held.branch [
+  | then-past-held w ↦ going-all _ (c.args.at - c.args.gone.now) c.args.held w.count-is (omega (arith, w.if-past-held.true))
+  | else-past-held w ↦ going-none _ (c.args.at - c.args.gone.now) c.args.held w.count-is (omega (arith, w.if-past-held.false))
 ]

@@ -1,5 +1,6 @@
-use Rattle.tl_run.proofs.Names.{◌≡◌, ◌+◌, ◌≤◌, ℕ, List, length, length-drop, drop, sym, subst, ap, ◌∙◌, arith, IsBetween}
-use Rattle.tl_run.specs.Parts.{AreHalf}
+use Rattle.tl_run.proofs.Names.{◌≡◌, ◌+◌, ◌-◌, ◌≤◌, ℕ, List, length, length-drop, drop, sym, subst, ap, ◌∙◌, arith, IsBetween}
+use Rattle.tl_run.proofs.Parts.{left-waiting}
+use Rattle.tl_run.specs.Parts.{going}
 use Rattle.tl_run.proofs.leaving.let_leave.Goals as goal
 
 -- no more go than are held
@@ -36,6 +37,8 @@ returns g c =
     let d = c.leaving-4.ensures in
     let e = c.leaving-5.ensures in
     let held = c.args.held.now in
+    let gone = c.args.gone.now in
+    let at = c.args.at.now in
     let is = c.requires in
     record {
       counts = record {
@@ -45,11 +48,13 @@ returns g c =
         d = few is.d d.counted d.past;
         e = few is.e e.counted e.past;
       };
-      half_a = subst (λ n. AreHalf c.leaving.result n) (c.len.ensures ∙ held.a.ok.0) a.half;
-      half_b = subst (λ n. AreHalf c.leaving-2.result n) (c.len-2.ensures ∙ held.b.ok.0) b.half;
-      half_c = subst (λ n. AreHalf c.leaving-3.result n) (c.len-3.ensures ∙ held.c.ok.0) c'.half;
-      half_d = subst (λ n. AreHalf c.leaving-4.result n) (c.len-4.ensures ∙ held.d.ok.0) d.half;
-      half_e = subst (λ n. AreHalf c.leaving-5.result n) (c.len-5.ensures ∙ held.e.ok.0) e.half;
+      going = record {
+        a = subst (λ n. c.leaving.result ≡ going (at.a - gone.a) n) (c.len.ensures ∙ held.a.ok.0) a.all;
+        b = subst (λ n. c.leaving-2.result ≡ going (at.b - gone.b) n) (c.len-2.ensures ∙ held.b.ok.0) b.all;
+        c = subst (λ n. c.leaving-3.result ≡ going (at.c - gone.c) n) (c.len-3.ensures ∙ held.c.ok.0) c'.all;
+        d = subst (λ n. c.leaving-4.result ≡ going (at.d - gone.d) n) (c.len-4.ensures ∙ held.d.ok.0) d.all;
+        e = subst (λ n. c.leaving-5.result ≡ going (at.e - gone.e) n) (c.len-5.ensures ∙ held.e.ok.0) e.all;
+      };
       gone = record { a = a.counted; b = b.counted; c = c'.counted; d = d.counted; e = e.counted };
       rest = λ rest goes. record {
         a = behind held.a.items rest.a.items c.leaving.result goes.a is.a a.counted a.past;
@@ -57,5 +62,17 @@ returns g c =
         c = behind held.c.items rest.c.items c.leaving-3.result goes.c is.c c'.counted c'.past;
         d = behind held.d.items rest.d.items c.leaving-4.result goes.d is.d d.counted d.past;
         e = behind held.e.items rest.e.items c.leaving-5.result goes.e is.e e.counted e.past;
+      };
+      waiting = λ rest goes. record {
+        a = left-waiting is.a (subst (λ n. c.leaving.result ≡ going (at.a - gone.a) n) (c.len.ensures ∙ held.a.ok.0) a.all) a.counted
+            (ap length goes.a ∙ length-drop c.leaving.result held.a.items);
+        b = left-waiting is.b (subst (λ n. c.leaving-2.result ≡ going (at.b - gone.b) n) (c.len-2.ensures ∙ held.b.ok.0) b.all) b.counted
+            (ap length goes.b ∙ length-drop c.leaving-2.result held.b.items);
+        c = left-waiting is.c (subst (λ n. c.leaving-3.result ≡ going (at.c - gone.c) n) (c.len-3.ensures ∙ held.c.ok.0) c'.all) c'.counted
+            (ap length goes.c ∙ length-drop c.leaving-3.result held.c.items);
+        d = left-waiting is.d (subst (λ n. c.leaving-4.result ≡ going (at.d - gone.d) n) (c.len-4.ensures ∙ held.d.ok.0) d.all) d.counted
+            (ap length goes.d ∙ length-drop c.leaving-4.result held.d.items);
+        e = left-waiting is.e (subst (λ n. c.leaving-5.result ≡ going (at.e - gone.e) n) (c.len-5.ensures ∙ held.e.ok.0) e.all) e.counted
+            (ap length goes.e ∙ length-drop c.leaving-5.result held.e.items);
       };
     }

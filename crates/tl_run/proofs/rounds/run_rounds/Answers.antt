@@ -1,4 +1,6 @@
 use Rattle.tl_run.proofs.Names.{◌+◌, ◌^◌, ◌<◌, ◌≤◌, refl, sym, subst, arith, zero-le, near_beats, beats_of, HasEnded, IsUnderWay}
+use Rattle.tl_run.specs.Scripts.{AreBelow}
+use Rattle.tl_run.proofs.Below.{counted-below, stopped-below}
 use Rattle.tl_run.proofs.Counting.{counts-on, nearer, one-round-more}
 use Rattle.tl_run.proofs.Ended.{progress_here, progress-ends, end-few, ended, further, starts}
 use Rattle.tl_run.proofs.rounds.run_rounds.Given.{Over}
@@ -9,6 +11,7 @@ rounds-init g c = record {
   under_way = starts (near_beats c.args.script.now) _ (beats_of c.args.far.now) c.args.bridge.now refl c.requires.3
       c.requires.2;
   room = c.requires.4;
+  each = record { a = omega arith; b = omega arith; c = omega arith; d = omega arith; e = omega arith };
   few = zero-le;
 }
 
@@ -21,8 +24,8 @@ overflow_add-rounds g c =
     (end-few near c.requires.0.client c.requires.0.manager c.requires.1) in
     omega (arith, l)
 
-pub returns-in-Some : goal.returns-in-Some
-returns-in-Some g c =
+pub returns-in-Some-clause-ended : goal.returns-in-Some-clause-ended
+returns-in-Some-clause-ended g c =
     let u = c.rounds.invariant.under_way in
     let h = c.round-offers.ensures.round u.past u.stands u.is_at in
     subst (λ n. HasEnded (near_beats c.args.script.now) n (beats_of c.round-offers.new.far) c.round-offers.new.bridge c.in-Some.stops
@@ -30,6 +33,11 @@ returns-in-Some g c =
     (ended (near_beats c.args.script.now) c.rounds.at (beats_of c.rounds.far) (beats_of c.round-offers.new.far) c.rounds.bridge
     c.round-offers.new.bridge u.past c.round-offers.result u.stands u.is_at h
     c.rounds.rounds c.rounds.invariant.few c.in-Some.stops c.in-Some.ensures.stops (c.in-Some.ensures.rests h.past h.stands))
+
+pub returns-in-Some-clause-each : goal.returns-in-Some-clause-each
+returns-in-Some-clause-each g c =
+    stopped-below c.rounds.at c.round-offers.new.at (c.rounds.rounds + 1) c.round-offers.result c.in-Some.stops c.round-offers.ensures.counted
+    c.in-Some.ensures.stops c.rounds.invariant.each
 
 -- a round that is not the last one
 onward : (g : Over) (c : goal.In_default g) → progress_here c.rounds.at (beats_of c.rounds.far) c.rounds.bridge + 1 ≤
@@ -64,5 +72,7 @@ pub rounds-preserved : goal.rounds-preserved
 rounds-preserved g c = record {
   under_way = after g c;
   room = c.round-offers.ensures.room;
+  each = subst (λ n. AreBelow n (c.rounds.rounds + 1 + 1)) (sym c.round-offers.ensures.counted)
+      (counted-below c.rounds.at (c.rounds.rounds + 1) c.round-offers.result c.rounds.invariant.each);
   few = one-round-more _ _ _ c.rounds.invariant.few (onward g c);
 }

@@ -1,12 +1,14 @@
-use Rattle.tl_run.proofs.Names.{◌-◌, ◌≤◌, near_beats, beats_of, IsUnderWay}
+use Rattle.tl_run.proofs.Names.{◌+◌, ◌-◌, ◌≤◌, near_beats, beats_of, IsUnderWay}
 use Rattle.tl_run.proofs.Ended.{progress_here, run_end}
 use Rattle.tl_run.specs.Inner.Arriving.{HasRoomFor}
+use Rattle.tl_run.specs.Scripts.{AreBelow}
 use Rattle.tl_run.proofs.rounds.run_rounds.Given as goal
 
 abbrev pub invariant-rounds : goal.invariant-rounds
 invariant-rounds g l = record {
   under_way : IsUnderWay (near_beats l.script) l.at (beats_of l.far) l.bridge;
   room : HasRoomFor (near_beats l.script) l.far;
+  each : AreBelow l.at (l.rounds + 1);
   few : l.rounds ≤ progress_here l.at (beats_of l.far) l.bridge;
 }
 

@@ -2,6 +2,8 @@ use Rattle.tl_run.proofs.Names.{lit<, refl, sym, subst, ◌∙◌, bridge_small,
 use Rattle.tl_run.proofs.Counting.{nearer}
 use Rattle.tl_run.proofs.Parts.{are-part}
 use Rattle.tl_run.proofs.Pieces.{all-on, all-same, all-within, rests-too, room-to-count}
+use Rattle.tl_run.proofs.Stuck.{all-rest, all-stuck}
+use Rattle.tl_run.specs.Stopping.{AreStuck}
 use Rattle.tl_run.proofs.streaming.go_through.Goals as goal
 
 pub turns-init : goal.turns-init
@@ -90,8 +92,17 @@ returns-then-total-before g c =
             is_at = subst (λ n. IsAt near n r.all u.past) (sym same) u.is_at;
             at_rest = rests-too c.turns.run.bridge rests.past u.past rests.stands u.stands rests.rest;
             rests = subst (λ n. AllRest near n u.past c.all_go_ahead-stopped_by.result) (sym same)
-                (turn.rests same u.past u.stands near (subst (λ q. AreEnd q c.args.held.now near) (sym here.gone) end));
+                (all-rest _ _ c.args.held.now here.can.within near u.past _ (turn.rests same u.past u.stands)
+                (subst (λ q. AreEnd q c.args.held.now near) (sym here.gone) end));
           };
+      stuck = λ near part was.
+          let r = here.on near part was in
+          let u = r.under_way in
+          subst (λ q. AreStuck near q c.all_go_ahead-stopped_by.new.at c.args.held.now) here.gone
+          (subst (λ n. AreStuck near c.turns.run.gone n c.args.held.now) (sym same)
+          (all-stuck _ _ c.args.held.now here.can.within near u.past _ (turn.rests same u.past u.stands) c.requires.0.client c.requires.0.manager
+          (subst (λ q. ArePart q c.args.held.now near) (sym here.gone) part) r.all c.turns.run.bridge u.stands u.is_at
+          (rests-too c.turns.run.bridge rests.past u.past rests.stands u.stands rests.rest)));
       same = here.same;
     }
 
@@ -102,5 +113,6 @@ returns-in_default g c =
       gone = c.turns.invariant.gone;
       on = λ near part was. tt;
       stopped = λ near end was. tt;
+      stuck = λ near part was. tt;
       same = tt;
     }

@@ -14,3 +14,7 @@ returns-clause-on g c = λ version gone h rest more went grown few.
     judged.counts judged.gone went grown
     (can-judge judge _ rest more (counted-on gone s was.gone counts judge.gone judged.counts judged.gone h.counted) few grown (judged.held rest went))
     judged.judged h
+
+pub returns-clause-heard : goal.returns-clause-heard
+returns-clause-heard g c =
+    let judged = c.go_on.ensures in record { stuck = judged.stuck; going = judged.going; waiting = judged.waiting }

@@ -1,7 +1,5 @@
-use Rattle.tl_check.proofs.Names.{refl, sym, take, arith, tracker-fits}
+use Rattle.tl_check.proofs.Names.{refl, sym, take, arith}
 use Rattle.tl_check.proofs.Passing.{come-more}
-use denote.Memory.{lone}
-use denote.Param.{layout}
 use Rattle.tl_check.proofs.progress.Progress.accept.Goals as goal
 
 pub overflow_add-self : goal.overflow_add-self

@@ -1,8 +1,8 @@
 use Rattle.tl_run.proofs.Names.{ap}
 use Rattle.tl_run.proofs.taken.Taken.into_outcome.Goals as goal
 
-pub returns : goal.returns
-returns g c = λ near ending same. record {
+pub returns-clause-ends : goal.returns-clause-ends
+returns-clause-ends g c = λ near ending same. record {
   far_a = ap (λ q. q.a) same;
   far_b = ap (λ q. q.b) same;
   far_c = ap (λ q. q.c) same;
