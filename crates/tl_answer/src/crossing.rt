@@ -22,6 +22,7 @@ use crate::parts::AnswerParts;
 use std::alloc::{AllocError, Global};
 use std::io::Read;
 use tl_run::SyncRun;
+use tl_run::laws::a_new_run_has_run;
 use tl_sides::SyncBridge;
 use tl_stream::{Input, Listener, TextFault, read_through};
 use tl_trace::{Counts, Script};
@@ -48,10 +49,11 @@ impl<const C: usize, const M: usize> Crossing<C, M> {
         };
         run_fits::<C, M>();
         match SyncBridge::<C, M, Global>::new(alloc, ring) {
-            Ok(bridge) => Ok(Crossing {
-                run: SyncRun::new(bridge),
-                far,
-            }),
+            Ok(bridge) => {
+                let run = SyncRun::new(bridge);
+                a_new_run_has_run(&run, &far);
+                Ok(Crossing { run, far })
+            }
             // the rings have a size that rings may have
             Err(_) => Err(TextFault::OutOfMemory),
         }

@@ -17,7 +17,7 @@ mod turns;
 
 pub use gates::{Gate, NoGate};
 pub use threads_run::run_threads;
-pub use tl_run::{Ending, FarSink, Outcome, RunFault, SyncRun, run_sync};
+pub use tl_run::{FarSink, Outcome, RunFault, SyncRun, run_sync};
 pub use tl_settle::{Request, RequestTable, SourceTable, laws};
 pub use tl_sides::{
     ClientSide, ManagerSide, PerChannel, Standings, SyncBridge, bridge, meet_sides,

@@ -1,5 +1,5 @@
 //! The rounds of a run in two threads.
-ghost use Rattle.std.specs.Prelude.{◌≡◌};
+ghost use Rattle.std.specs.Prelude.{◌≡◌, ◌+◌, ℕ};
 ghost use Rattle.tl_run.specs.Arrivals.{no_beats};
 ghost use Rattle.tl_run.specs.Scripts.{HasShortLists, near_beats};
 ghost use Rattle.tl_offer.specs.Widths.{AreWidths};
@@ -47,6 +47,10 @@ fn play_both<
         client.new result.0 }
     ensures manager { HasPlayedTurns Y.playing (near_beats script.now) at.now manager.old
         manager.new result.1 }
+    ensures client_passed { (n : ℕ) → G.HasPassed n client_gate.old →
+        G.HasPassed (n + 1) client_gate.new }
+    ensures manager_passed { (n : ℕ) → H.HasPassed n manager_gate.old →
+        H.HasPassed (n + 1) manager_gate.new }
 {
     join_mut(
         rt,
@@ -54,13 +58,15 @@ fn play_both<
             requires { AreWidths C M × HasShortLists script.now ×
                 MayPlay X.playing (near_beats script.now) at.now client.now }
             ensures { HasPlayedTurns X.playing (near_beats script.entry.now) at.entry.now
-                client.entry.now client.exit.now result }
+                client.entry.now client.exit.now result × ((n : ℕ) →
+                G.HasPassed n client_gate.entry.now → G.HasPassed (n + 1) client_gate.exit.now) }
         { play(client, script, at, turns, client_gate) },
         &mut || -> Turn
             requires { AreWidths C M × HasShortLists script.now ×
                 MayPlay Y.playing (near_beats script.now) at.now manager.now }
             ensures { HasPlayedTurns Y.playing (near_beats script.entry.now) at.entry.now
-                manager.entry.now manager.exit.now result }
+                manager.entry.now manager.exit.now result × ((n : ℕ) →
+                H.HasPassed n manager_gate.entry.now → H.HasPassed (n + 1) manager_gate.exit.now) }
         { play(manager, script, at, turns, manager_gate) },
     )
 }
@@ -90,6 +96,10 @@ fn round<R: Threads, G: Gate + Send, H: Gate + Send, const C: usize, const M: us
         result.1 (beats_of (taken_of client.new manager.new)) client.new.side manager.new.side }
     ensures capacity { KeepsRoom (taken_of client.old manager.old)
         (taken_of client.new manager.new) }
+    ensures client_passed { (n : ℕ) → G.HasPassed n client_gate.old →
+        G.HasPassed (n + 1) client_gate.new }
+    ensures manager_passed { (n : ℕ) → H.HasPassed n manager_gate.old →
+        H.HasPassed (n + 1) manager_gate.new }
 {
     let (there, back) = play_both(
         rt,
@@ -129,9 +139,13 @@ pub(crate) fn play_rounds<
         HasRoomFor (near_beats script.now) (taken_of client.old manager.old) ×
         AreNew client.old.side manager.old.side ×
         (beats_of (taken_of client.old manager.old) ≡ no_beats) }
-    ensures { HasEnded (near_beats script.now) result.at
+    ensures ended { HasEnded (near_beats script.now) result.at
         (beats_of (taken_of client.new manager.new)) (bridge_of client.new.side manager.new.side)
         result.stops result.rounds }
+    ensures client_passed { (n : ℕ) → G.HasPassed n client_gate.old →
+        G.HasPassed (n + result.rounds) client_gate.new }
+    ensures manager_passed { (n : ℕ) → H.HasPassed n manager_gate.old →
+        H.HasPassed (n + result.rounds) manager_gate.new }
 {
     let mut at = PerChannel {
         a: 0,

@@ -1,5 +1,5 @@
 //! The run of a whole script in two threads.
-ghost use Rattle.std.specs.Prelude.{◌≡◌, ◌≢◌, ◌≤◌, ◌<◌, ◌⊎◌, ◌↔◌, IsOk, IfOk, IfErr};
+ghost use Rattle.std.specs.Prelude.{◌≡◌, ◌≢◌, ◌≤◌, ◌<◌, ◌⊎◌, ◌↔◌, ◌+◌, ℕ, IsOk, IfOk, IfErr};
 ghost use Rattle.tl_ring.specs.declared.pipe.TheConstants.{MAX_RING};
 ghost use Rattle.tl_lanes.specs.Lanes.{IsWidth};
 ghost use Rattle.tl_run.specs.declared.outcome.RunFault.TheVariants.{RingSize, Stalled};
@@ -45,7 +45,8 @@ fn lists_of<const C: usize, const M: usize>(
 /// moves, offers the next beat of each of its channels that is ready, moves staged beats into its
 /// rings, and beats of the other side's rings into its inboxes. Both sides do so at the same time; then they meet. A refused beat stays next.
 /// A channel whose list is used up between two messages is closed. The run ends after the first
-/// round in which no beat was accepted and after which nothing is under way.
+/// round in which no beat was accepted and after which nothing is under way. The outcome's `rounds` is
+/// the number of rounds: each gate was passed that often.
 ///
 /// The rings hold `ring` beats each. Refused with `RingSize` exactly where that is 0 or above
 /// 4,096, which is tested first, and else with `OutOfMemory` where there is no memory for the bridge
@@ -66,6 +67,10 @@ pub fn run_threads<R: Threads, G: Gate + Send, H: Gate + Send, const C: usize, c
     requires short { HasShortLists script.now }
     requires turns { 1 ≤ turns }
     ensures outcome { IfOk result (SettlesTo script.now) }
+    ensures client_rounds { (n : ℕ) → G.HasPassed n client_gate.old →
+        IfOk result (λ outcome. G.HasPassed (n + outcome.rounds) client_gate.new) }
+    ensures manager_rounds { (n : ℕ) → H.HasPassed n manager_gate.old →
+        IfOk result (λ outcome. H.HasPassed (n + outcome.rounds) manager_gate.new) }
     ensures size { IsOk result → (1 ≤ ring) × (ring ≤ MAX_RING) }
     ensures ring_size { IfErr result (λ fault. (fault ≡ RingSize) ↔
         ((ring ≡ 0) ⊎ (MAX_RING < ring))) }

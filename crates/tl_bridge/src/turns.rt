@@ -1,4 +1,5 @@
 //! What a side of a run in two threads does in a round, whichever of the two it is.
+ghost use Rattle.std.specs.Prelude.{◌+◌, ℕ};
 ghost use Rattle.tl_run.specs.Scripts.{HasShortLists, near_beats};
 ghost use Rattle.tl_offer.specs.Widths.{AreWidths};
 ghost use Rattle.tl_run.specs.Inner.Running.{HaveRoomToCount};
@@ -38,7 +39,8 @@ pub(crate) fn play<S: PlaysRounds<C, M>, G: Gate, const C: usize, const M: usize
 ) -> Turn
     requires { AreWidths C M × HasShortLists script.now ×
         MayPlay S.playing (near_beats script.now) at.now side.old }
-    ensures { HasPlayedTurns S.playing (near_beats script.now) at.now side.old side.new result }
+    ensures played { HasPlayedTurns S.playing (near_beats script.now) at.now side.old side.new result }
+    ensures passed { (n : ℕ) → G.HasPassed n gate.old → G.HasPassed (n + 1) gate.new }
 {
     gate.pass();
     side.take_each();

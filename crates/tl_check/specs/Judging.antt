@@ -4,7 +4,7 @@ use Rattle.tl_msg.specs.Tables.{rules_a, rules_b, rules_c, rules_d, rules_e}
 use Rattle.tl_settle.specs.Outcomes.{Beats}
 use Rattle.tl_sides.specs.declared.per_channel.PerChannel.{PerChannel}
 use Rattle.tl_trace.specs.declared.script.Script.{Script}
-use Rattle.tl_check.specs.Inner.Passing.{AreAt, HasCome, IsWithin}
+use Rattle.tl_check.specs.Places.{AreAt, HasCome, IsWithin}
 use Rattle.tl_check.specs.declared.judge.Judge.{Judge}
 
 module _ {C M : ℕ} where

@@ -103,11 +103,11 @@ impl<const C: usize, const M: usize> Judge<C, M> {
         }
     }
 
-    /// Goes on as far as these beats lead, of which those that had gone before are no part: on each
-    /// channel they are used up then, or something stops the next one. Says how many of them have to go
-    /// before the next call: of each channel those that are done with where they are at least half of
-    /// those that are held, else none. So letting them go costs no more than reading them, and fewer stay
-    /// that are done with than wait.
+    /// Goes on as far as these beats lead, which begin behind those that have gone. Afterwards each
+    /// channel has used them up, or something stops its next beat. Returns how many beats of each channel
+    /// have to go before the next call: all that are done with if they are at least half of those held,
+    /// else none. So dropping them costs no more than reading them, and fewer done beats stay than waiting
+    /// ones.
     pub fn go_on(&mut self, held: &Script<C, M>) -> Counts
         requires client { IsWidth C }
         requires manager { IsWidth M }

@@ -1,17 +1,13 @@
 -- A run whose rings' size was tested is refused for want of memory alone.
 pub use Rattle.tl_ring.proofs.Moves.{not-ok}
 use Rattle.tl_run.proofs.Names.{◌≡◌, ◌≢◌, ◌≤◌, ◌<◌, ◌⊎◌, ◌↔◌, ⊎_elim, ℕ, arith}
-use Rattle.tl_ring.specs.declared.fault.BuildFault.{BuildFault}
-use Rattle.tl_ring.specs.declared.fault.BuildFault.TheVariants as building
 use Rattle.tl_ring.specs.declared.pipe.TheConstants.{MAX_RING}
 use Rattle.tl_run.specs.declared.outcome.RunFault.{RunFault}
 use Rattle.tl_run.specs.declared.outcome.RunFault.TheVariants.{RingSize, OutOfMemory, Stalled}
-use Rattle.tl_run.specs.Names.{of_build_fault}
 
--- a fault of a bridge that is not made is no Stalled
-pub stalled-never : (fault : BuildFault) (e : RunFault) → e ≡ of_build_fault fault → e ≢ Stalled
-stalled-never building.RingSize e is same = cc (is, same)
-stalled-never building.OutOfMemory e is same = cc (is, same)
+-- a wrong size of the rings is no Stalled
+pub stalled-never : (fault : RunFault) → fault ≡ RingSize → fault ≢ Stalled
+stalled-never fault is same = cc (is, same)
 
 -- want of memory is no RingSize, and no Stalled
 pub only-memory : (fault : RunFault) → fault ≡ OutOfMemory → (ring : ℕ) → ring ≢ 0 → ring ≤ MAX_RING →

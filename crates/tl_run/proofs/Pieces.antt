@@ -14,7 +14,6 @@ use Rattle.tl_ring.specs.declared.queue.TheConstants.{ROOM}
 use Rattle.tl_ring.specs.declared.standing.Standing.{Standing}
 use Rattle.tl_trace.specs.declared.script.Script.{Script}
 use Rattle.tl_trace.specs.declared.script.Counts.{Counts}
-use Rattle.tl_run.specs.Streaming.{HasBegun, HasRun}
 use Rattle.tl_run.specs.declared.streaming.SyncRun.{SyncRun}
 use Rattle.tl_run.proofs.ChannelOffer.{sent-passed}
 use Rattle.tl_run.proofs.ChannelRound.{none-or-some, size-behind, stage-full}
@@ -24,10 +23,6 @@ use Rattle.tl_run.proofs.EndsIn.{each-zero}
 use Rattle.tl_run.proofs.RunRound.{takes-round}
 
 -- ---- where a run begins
-
-pub begun : {F : Type 0} {C M : ℕ} (Holds : F → Beats M C → Type 0) (near : Beats C M) (far : F) (run : SyncRun C M) → Holds far no_beats →
-    HasBegun near run → HasRun Holds near far run
-begun Holds near far run holds begins = record { all = no_beats; holds = holds; counts = begins.0; under_way = begins.1 }
 
 pub new-within : {C M : ℕ} (held : Script C M) → HasShortLists held → AreBetween none_counted (record { a = 0; b = 0; c = 0; d = 0; e = 0 }) held
 new-within held short = record {

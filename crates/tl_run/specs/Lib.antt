@@ -1,5 +1,6 @@
 pub mod Arrivals
 pub mod Parts
+pub mod Running
 pub mod Scripts
 pub mod Streaming
 pub mod Stopping

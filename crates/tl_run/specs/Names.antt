@@ -1,7 +1,5 @@
 -- The numbers and names of faults (this project's choice).
 use Rattle.std.specs.Prelude.{ℕ, List, codes}
-use Rattle.tl_ring.specs.declared.fault.BuildFault.{BuildFault}
-use Rattle.tl_ring.specs.declared.fault.BuildFault.TheVariants as building
 use Rattle.tl_run.specs.declared.outcome.RunFault.{RunFault}
 use Rattle.tl_run.specs.declared.outcome.RunFault.TheVariants as running
 
@@ -14,8 +12,3 @@ abbrev pub run_fault_name : RunFault → List ℕ
 run_fault_name running.RingSize = codes "RingSize"
 run_fault_name running.OutOfMemory = codes "OutOfMemory"
 run_fault_name running.Stalled = codes "Stalled"
-
--- a bridge that can't be built can't run
-abbrev pub of_build_fault : BuildFault → RunFault
-of_build_fault building.RingSize = running.RingSize
-of_build_fault building.OutOfMemory = running.OutOfMemory

@@ -59,11 +59,11 @@ pub record HaveGone (before counts after : Counts) : Type 0 where
   pub d : after.d ≡ before.d + counts.d
   pub e : after.e ≡ before.e + counts.e
 
--- of n items that are held, the first `done` of which are done with, so many go: all of these where they are half of what is held at least, else none
+-- how many of n items that are held go, if the first `done` of them are done with: all of those if they are at least half of the n, else none
 abbrev pub going : (done n : ℕ) → ℕ
 going done n = if nat_lt (2 * done) n then 0 else done
 
--- of each channel of a script so many go, where so many have gone before and the first `at` are done with
+-- these counts go of each channel of a script, if `gone` have gone before and the first `at` are done with
 pub record AreGoing {C M : ℕ} (gone : Counts) (at : PerChannel ℕ) (held : Script C M) (counts : Counts) : Type 0 where
   pub a : counts.a ≡ going (at.a - gone.a) (length held.a.items)
   pub b : counts.b ≡ going (at.b - gone.b) (length held.b.items)
@@ -71,7 +71,7 @@ pub record AreGoing {C M : ℕ} (gone : Counts) (at : PerChannel ℕ) (held : Sc
   pub d : counts.d ≡ going (at.d - gone.d) (length held.d.items)
   pub e : counts.e ≡ going (at.e - gone.e) (length held.e.items)
 
--- of n items that are held fewer are done with than wait, or none is
+-- of n items that are held behind `gone`, fewer are done with than wait, or none is done with (the first `at` of all items are)
 abbrev pub IsWaiting : (gone at n : ℕ) → Type 0
 IsWaiting gone at n = gone < at → at - gone < gone + n - at
 

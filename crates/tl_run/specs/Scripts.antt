@@ -6,7 +6,6 @@ use Rattle.tl_settle.specs.Settling.{settled_state}
 use Rattle.tl_settle.specs.Outcomes.{Beats, far_beats, verdicts}
 use Rattle.tl_sides.specs.declared.per_channel.PerChannel.{PerChannel}
 use Rattle.tl_trace.specs.declared.script.Script.{Script}
-use Rattle.tl_run.specs.declared.outcome.Ending.{Ending}
 use Rattle.tl_run.specs.declared.outcome.Outcome.{Outcome}
 
 -- each of five counts is less than a number
@@ -46,11 +45,6 @@ module _ {C M : ℕ} (near : Beats C M) where
   abbrev pub far_count : ℕ
   far_count =
       let far = far_beats near in length far.a + length far.b + length far.c + length far.d + length far.e
-
-  -- the five verdicts are those of the settled state, and there were not too many rounds
-  pub record HasEnding (ending : Ending) : Type 0 where
-    pub verdicts_are : ending.verdicts ≡ verdicts near
-    pub few_rounds : ending.rounds ≤ near_count + 2 * far_count + 1
 
   -- the five lists of far beats and the five verdicts are those of the settled state, and there were not too many rounds
   pub record EndsIn (outcome : Outcome C M) : Type 0 where

@@ -3,9 +3,9 @@ use Rattle.std.specs.Prelude.{◌≡◌, ℕ}
 use Rattle.tl_settle.specs.Outcomes.{Beats}
 use Rattle.tl_sides.specs.Bridges.{Bridge, Past, StandsFor}
 use Rattle.tl_trace.specs.declared.script.Script.{Script}
-use Rattle.tl_run.specs.Arrivals.{no_beats}
 use Rattle.tl_run.specs.Parts.{AreBetween}
-use Rattle.tl_run.specs.Inner.Running.{IsRunning, IsUnderWay, all_under_way, lengths}
+use Rattle.tl_run.specs.Arrivals.{no_beats}
+use Rattle.tl_run.specs.Running.{IsRunning, IsUnderWay, all_under_way, lengths}
 use Rattle.tl_run.specs.declared.streaming.SyncRun.{SyncRun}
 
 -- a bridge stands for a past in which nothing is under way any more

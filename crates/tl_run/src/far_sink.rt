@@ -20,9 +20,8 @@ pub trait FarSink<const C: usize, const M: usize> {
     // what it was made with, which stays as it is
     ghost made_with: { Self → ℕ };
 
-    /// Takes beats of the five channels, behind those that came before: all that stands in the
-    /// inboxes, at most [`tl_ring::ROOM`] beats each. Refused where there is no memory for them,
-    /// which ends the run, and never where it has room for them.
+    /// Takes beats of the five channels, behind those that came before. Refused only if there is no
+    /// memory for them, which ends the run, and never if it has room for them.
     fn take(
         &mut self,
         a: &[Beat<ChA, M>],

@@ -6,8 +6,8 @@ ghost use Rattle.tl_run.specs.Parts.{AreBetween, AreGoing, AreWaiting, HaveGone,
 use tl_sides::PerChannel;
 use tl_trace::{Counts, Script};
 
-// How many of these beats may go, where so many of all have gone, to which they are counted, and so
-// many are done with: all that are done with where they are at least half of these, else none.
+// How many of the beats that are held may go, behind `gone` that have gone before, if the first `at` are
+// done with: all of those if they are at least half of the beats held, else none. `gone` counts them.
 fn leaving(held: usize, gone: &mut usize, at: usize) -> usize
     requires { IsBetween gone.old at held }
     ensures counted { gone.new ≡ gone.old + result }
@@ -20,11 +20,10 @@ fn leaving(held: usize, gone: &mut usize, at: usize) -> usize
     count
 }
 
-/// Lets go beats of a script that comes piece by piece, of which `gone` have gone and `at` are done
-/// with: answers how many of those that are held have to go now, and counts them in `gone`. Of each
-/// channel they are all that are done with where these are at least half of those that are held, else
-/// none, so that letting them go costs no more than reading them, and fewer are held that are done with
-/// than wait (this project's choice).
+/// Returns how many of the beats of a script that comes piece by piece have to go now, if `gone` have
+/// gone before and the first `at` are done with, and counts them in `gone`. On each channel they are all
+/// that are done with if these are at least half of the beats held, else none. So dropping them costs no
+/// more than reading them, and fewer done beats stay than waiting ones (this project's choice).
 pub fn let_leave<const C: usize, const M: usize>(
     gone: &mut Counts,
     held: &Script<C, M>,

@@ -10,6 +10,7 @@
 mod ahead;
 mod channel_state;
 mod far_sink;
+pub mod laws;
 mod leaving;
 mod outcome;
 mod rounds;
@@ -20,7 +21,7 @@ mod turn;
 
 pub use far_sink::FarSink;
 pub use leaving::let_leave;
-pub use outcome::{Ending, Outcome, RunFault};
+pub use outcome::{Outcome, RunFault};
 pub use rounds::{End, outcome_at};
 pub use streaming::SyncRun;
 pub use sync_run::run_sync;

@@ -2,15 +2,12 @@
 ghost use Rattle.std.specs.Prelude.{◌≡◌, Some};
 ghost use Rattle.tl_msg.specs.Names.{numbered};
 ghost use Rattle.tl_run.specs.Inner.Running.{stop_verdict};
-ghost use Rattle.tl_run.specs.Names.{run_fault_number, run_fault_name, of_build_fault};
-ghost use Rattle.tl_run.specs.declared.outcome.RunFault.TheVariants.{OutOfMemory};
+ghost use Rattle.tl_run.specs.Names.{run_fault_number, run_fault_name};
 
-use std::alloc::AllocError;
 use std::fmt;
 use thiserror::Error;
 use tl_msg::{Beat, ChA, ChB, ChC, ChD, ChE, SideFault, Verdict};
 use tl_offer::Stop;
-use tl_ring::BuildFault;
 
 /// What a script ends in: the far beats that each side took, one verdict for each channel from A to
 /// E, and how many rounds the run had. The manager's side takes A, C and E, on `M` lanes; the
@@ -22,14 +19,6 @@ pub struct Outcome<const C: usize, const M: usize> {
     pub c: Vec<Beat<ChC, M>>,
     pub d: Vec<Beat<ChD, C>>,
     pub e: Vec<Beat<ChE, M>>,
-    pub verdicts: [Verdict; 5],
-    pub rounds: u64,
-}
-
-/// How a run ends whose far beats stand elsewhere: one verdict for each channel from A to E, and how
-/// many rounds it had.
-#[derive(Drop)]
-pub struct Ending {
     pub verdicts: [Verdict; 5],
     pub rounds: u64,
 }
@@ -76,25 +65,6 @@ impl fmt::Display for RunFault {
 
     fn fmt<W: fmt::Write>(&self, f: &mut fmt::Formatter<W>) -> fmt::Result {
         write!(f, "{} {}", self.number(), self.name())
-    }
-}
-
-impl From<BuildFault> for RunFault {
-    ghost from_gives = { λ fault e. e ≡ of_build_fault fault };
-
-    fn from(fault: BuildFault) -> RunFault {
-        match fault {
-            BuildFault::RingSize => RunFault::RingSize,
-            BuildFault::OutOfMemory => RunFault::OutOfMemory,
-        }
-    }
-}
-
-impl From<AllocError> for RunFault {
-    ghost from_gives = { λ _ e. e ≡ OutOfMemory };
-
-    fn from(_e: AllocError) -> RunFault {
-        RunFault::OutOfMemory
     }
 }
 

@@ -7,10 +7,11 @@ ghost use Rattle.tl_run.specs.Arrivals.{no_beats};
 ghost use Rattle.tl_run.specs.Scripts.{AreBelow, EndsIn, HasShortLists, near_beats, near_counts};
 ghost use Rattle.tl_offer.specs.Widths.{AreWidths};
 ghost use Rattle.tl_run.specs.Inner.Arriving.{HasRoomFor, beats_of};
-ghost use Rattle.tl_run.specs.Inner.Running.{IsAt, lengths, IsNew, IsUnderWay, HasRound, HasEnded, AreStopped, counted, standing_count, all_standing, all_under_way, all_stopped};
+ghost use Rattle.tl_run.specs.Running.{IsAt, IsNew, IsUnderWay, all_under_way, lengths};
+ghost use Rattle.tl_run.specs.Inner.Running.{HasRound, HasEnded, AreStopped, counted, standing_count, all_standing, all_stopped};
 
 use crate::channel_state::{add_accepted, all_stops};
-use crate::outcome::{Ending, Outcome, verdict};
+use crate::outcome::{Outcome, verdict};
 use crate::taken::{Taken, take_from_each};
 use tl_msg::Verdict;
 use tl_offer::{Offered, Offers, Stop};
@@ -176,8 +177,5 @@ pub fn outcome_at<const C: usize, const M: usize>(end: End, far: Taken<C, M>) ->
         e: far.e.len(),
     };
     let verdicts = verdicts_at(&end.at, &end.stops, &taken);
-    far.into_outcome(Ending {
-        verdicts,
-        rounds: end.rounds,
-    })
+    far.into_outcome(verdicts, end.rounds)
 }

@@ -8,9 +8,10 @@ ghost use Rattle.tl_trace.specs.Scripts.{HasCounts, HasLetGo};
 ghost use Rattle.tl_run.specs.Parts.{AreEnd, AreGoing, ArePart, AreWaiting, HaveGone, none_counted};
 ghost use Rattle.tl_run.specs.Scripts.{HasShortLists};
 ghost use Rattle.tl_run.specs.Stopping.{AreStuck};
+ghost use Rattle.tl_run.specs.Running.{IsNew, IsRunning};
 ghost use Rattle.tl_run.specs.Streaming.{CanRun, HasBegun, HasRun, IsAtRest};
 ghost use Rattle.tl_run.specs.Inner.Going.{AreStopsOf, HasStopped, IsSound, all_counts, stop_by};
-ghost use Rattle.tl_run.specs.Inner.Running.{HaveRoomToCount, IsNew, IsRunning};
+ghost use Rattle.tl_run.specs.Inner.Running.{HaveRoomToCount};
 ghost use Rattle.tl_offer.specs.Widths.{AreWidths};
 
 use crate::ahead::all_go_ahead;
@@ -170,12 +171,12 @@ impl<const C: usize, const M: usize> SyncRun<C, M> {
         }
     }
 
-    /// Goes on as far as these beats lead, of which those that had gone before are no part: on each
-    /// channel they are used up then, or something stops the next one. Says how many of them have to go
-    /// before the next call: of each channel those that are done with where they are at least half of
-    /// those that are held, else none. So letting them go costs no more than reading them, and fewer stay
-    /// that are done with than wait. The far beats go to `far` as both sides take them. Refused where
-    /// there is no memory for them there: then nothing is promised of the run any more.
+    /// Goes on as far as these beats lead, which begin behind those that have gone. Afterwards each
+    /// channel has used them up, or something stops its next beat. Returns how many beats of each channel
+    /// have to go before the next call: all that are done with if they are at least half of those held,
+    /// else none. So dropping them costs no more than reading them, and fewer done beats stay than waiting
+    /// ones. The far beats go to `far` as both sides take them. Refused if `far` has no memory for them:
+    /// then nothing is promised of the run any more.
     pub fn go_on<F: FarSink<C, M>>(
         &mut self,
         held: &Script<C, M>,

@@ -1,21 +1,22 @@
 //! The far beats that the two sides of a run take.
-ghost use Rattle.std.specs.Prelude.{◌≡◌, ◌≤◌, ◌+◌, ◌++◌, ◌^◌, ℕ, length, vec_len, vec_capacity, IsOk, IfOk, OnOk};
-ghost use Rattle.tl_settle.specs.Outcomes.{Beats, far_beats};
+ghost use Rattle.std.specs.Prelude.{◌≡◌, ◌≤◌, ◌+◌, ◌*◌, ◌++◌, ◌^◌, ℕ, length, vec_len, vec_capacity, IsOk, IfOk, OnOk};
+ghost use Rattle.tl_settle.specs.Outcomes.{Beats, far_beats, verdicts};
 ghost use Rattle.tl_sides.specs.Bridges.{Past, StandsFor};
 ghost use Rattle.tl_sides.specs.ChannelCalls.{after_take_all};
 ghost use Rattle.tl_sides.specs.declared.per_channel.PerChannel.{PerChannel as PerChannelOf};
 ghost use Rattle.tl_run.specs.Arrivals.{Fit, joined, no_beats};
-ghost use Rattle.tl_run.specs.Scripts.{EndsIn, HasEnding, HasShortLists, near_beats};
+ghost use Rattle.tl_run.specs.Scripts.{EndsIn, HasShortLists, far_count, near_beats, near_count};
 ghost use Rattle.tl_offer.specs.Widths.{AreWidths};
-ghost use Rattle.tl_run.specs.Inner.Running.{CanAdd, added, inboxes, lengths};
+ghost use Rattle.tl_run.specs.Running.{lengths};
+ghost use Rattle.tl_run.specs.Inner.Running.{CanAdd, added, inboxes};
 ghost use Rattle.tl_run.specs.Inner.Sizes.{BeatFits};
 ghost use Rattle.tl_run.specs.Inner.Arriving.{beats_of, AreDueCounts, HaveCapacity, HasRoomFor};
 
 use crate::far_sink::FarSink;
-use crate::outcome::{Ending, Outcome};
+use crate::outcome::Outcome;
 use std::alloc::{AllocError, Global};
 use tl_convert::far_count;
-use tl_msg::{Beat, ChA, ChB, ChC, ChD, ChE};
+use tl_msg::{Beat, ChA, ChB, ChC, ChD, ChE, Verdict};
 use tl_sides::{PerChannel, SyncBridge};
 use tl_trace::Script;
 
@@ -89,22 +90,22 @@ impl<const C: usize, const M: usize> Taken<C, M> {
         Ok(far)
     }
 
-    // The outcome of a run that took these and ended so.
-    pub(crate) fn into_outcome(self, ending: Ending) -> Outcome<C, M>
+    // The outcome of a run that took these and ended with these verdicts, after so many rounds.
+    pub(crate) fn into_outcome(self, found: [Verdict; 5], rounds: u64) -> Outcome<C, M>
         requires { AreWidths C M }
-        ensures ends { (near : Beats C M) → HasEnding near ending →
+        ensures ends { (near : Beats C M) → found ≡ verdicts near →
+            rounds ≤ near_count near + 2 * far_count near + 1 →
             beats_of self.entry ≡ far_beats near → EndsIn near result }
-        ensures rounds { result.rounds ≡ ending.rounds }
+        ensures rounds { result.rounds ≡ rounds }
     {
         let Taken { a, b, c, d, e } = self;
-        let Ending { verdicts, rounds } = ending;
         Outcome {
             a,
             b,
             c,
             d,
             e,
-            verdicts,
+            verdicts: found,
             rounds,
         }
     }

@@ -14,7 +14,7 @@ use Rattle.tl_convert.specs.Laws.{DueIsOne, DueIsHanded, gathered}
 use Rattle.tl_settle.specs.InMessages.{NextOpens, IsVerdict, all_done, all_cut, not_admitted, another_size, waits, Brings, BringsAlone}
 
 -- the first items of a list
-take-front : {A : Type 0} (xs ys zs : List A) → xs ++ ys ≡ zs → take (length xs) zs ≡ xs
+pub take-front : {A : Type 0} (xs ys zs : List A) → xs ++ ys ≡ zs → take (length xs) zs ≡ xs
 take-front [] ys zs e = refl
 take-front (x ∷ xs) ys [] e = cc
 take-front (x ∷ xs) ys (z ∷ zs) e =

@@ -1,24 +1,24 @@
 -- What a script ends in, in whole messages: A and D at a state that steps lead to and that no step
 -- leaves, and each other channel by itself.
 use Rattle.tl_settle.proofs.Names.{◌≡◌, ◌≢◌, ◌≤◌, ◌<◌, ◌+◌, ◌-◌, ◌^◌, ◌↔◌, ℕ, zero, suc, Bool, true, false, cond, Option, None, Some, List, [], ◌∷◌}
-use Rattle.tl_settle.proofs.Names.{◌++◌, length, map, take, refl, sym, ap, subst, ◌∙◌, arith, zero-le, append_assoc, slice_get_within, length-filter}
+use Rattle.tl_settle.proofs.Names.{◌++◌, length, map, take, refl, sym, ap, subst, ◌∙◌, arith, append_assoc, length-filter}
 use Rattle.tl_settle.proofs.Names.{◌==◌, ◌&&◌, not, slice_get, All, option_map_or, is_none, filter, IsBeat, rules_a, rules_b, rules_c, rules_d}
 use Rattle.tl_settle.proofs.Names.{rules_e, HeadA, HeadD, BeatOf, BeatFault, Beat, SourceBusy, NoRequest, SizeMismatch, beats_of, Handed, nothing}
 use Rattle.tl_settle.proofs.Names.{IsHanded, IsHandedWith, fault_after, rest_of, with_home, heads, heads_from, left, some_beats, heads_open}
-use Rattle.tl_settle.proofs.Names.{heads_inside_one, equal_true, map_true, there_is, Extends, take-next, take-past, count_by-append, NoFaults}
+use Rattle.tl_settle.proofs.Names.{heads_inside_one, equal_true, there_is, Extends, take-next, take-past, count_by-append, NoFaults}
 use Rattle.tl_settle.proofs.Names.{no-faults-less, Beats, verdict_of, far_alone, verdict_alone, homes_after, home_of, is_release_ack, is_request_of}
 use Rattle.tl_settle.proofs.Names.{is_response_to, partner, requests_of, responses_to, IsSettledState, far_a, far_d, goes_a, goes_d, held_request}
-use Rattle.tl_settle.proofs.Names.{held_response, is_free, requests, responses, settled_state, stops_a, stops_d, Reaches, Settled, State, by_a, by_d}
-use Rattle.tl_settle.proofs.Names.{start}
+use Rattle.tl_settle.proofs.Names.{held_response, is_free, requests, responses, settled_state, stops_a, stops_d, Reaches, Settled, State}
 use Rattle.tl_msg.specs.Rules.{Rules}
 use Rattle.tl_burst.proofs.BegunMessages.{left-zero}
 use Rattle.tl_convert.proofs.Accepting.{each_beat, no_faults_handed}
 use Rattle.tl_settle.specs.InMessages.{AreBeats, Brings, BringsAlone, EndsInMessages}
+use Rattle.tl_settle.specs.Obeying.{LinksObey}
 use Rattle.tl_settle.proofs.Admits.{at_admitted}
 use Rattle.tl_settle.proofs.Brings.{Known, own_homes, brings, brings_alone}
 use Rattle.tl_settle.proofs.Grows.{homes_more}
 use Rattle.tl_settle.proofs.Manager.{whole_asks}
-use Rattle.tl_settle.proofs.Settles.{Good, good, one_settled, there_behind}
+use Rattle.tl_settle.proofs.Settles.{Good, good, one_settled, there_behind, within}
 use Rattle.tl_settle.proofs.Sides.{nth_stays}
 
 -- the next beat is stopped where no step goes
@@ -186,15 +186,6 @@ module _ {C M : ℕ} (near : 0 < C) (far : 0 < M) (a : List (BeatOf HeadA C))
     (d : List (BeatOf HeadD M)) (on_a : Known rules_a C M) (on_d : Known rules_d M C)
     (beats_a : (k : ℕ) (b : BeatOf HeadA C) → slice_get a k ≡ Some b → IsBeat rules_a b)
     (beats_d : (k : ℕ) (b : BeatOf HeadD M) → slice_get d k ≡ Some b → IsBeat rules_d b) where
-  within : {i j : ℕ} → Reaches (goes_a a d) (goes_d a d) i j → (i ≤ length a) × (j ≤ length d)
-  within start = (zero-le, zero-le)
-  within (by_a i j r g) =
-      let found = map_true (λ b. is_none (stops_a a d i j b)) (slice_get a i) g in
-      (slice_get_within a i found.0 found.1, (within r).1)
-  within (by_d i j r g) =
-      let found = map_true (λ b. is_none (stops_d a d i j b)) (slice_get d j) g in
-      ((within r).0, slice_get_within d j found.0 found.1)
-
   pub ends_a : (i j : ℕ) → Reaches (goes_a a d) (goes_d a d) i j → goes_a a d i j ≡ false →
       Brings rules_a a (far_a a d i) i (map (λ h. h.address) (requests a d i))
       (held_request a d i j)
@@ -208,7 +199,7 @@ module _ {C M : ℕ} (near : 0 < C) (far : 0 < M) (a : List (BeatOf HeadA C))
       subst (λ hs. Handed rules_a C (take i a) hs h.messages h.rest)
       (own_homes rules_a (some_beats rules_a C near) (λ x y. refl) h.handed) h.handed in
       brings rules_a (some_beats rules_a C near) (some_beats rules_a M far) on_a a beats_a i
-      (within r).0 handed
+      (within near far a d r).0 handed
       (held_request a d i j) (λ h fault e. never_a (is_free a d i j h.source) fault e)
       (λ b. stops_a a d i j b) (λ b. refl) (stays (stops_a a d i j) (slice_get a i) stop)
 
@@ -233,7 +224,7 @@ module _ {C M : ℕ} (near : 0 < C) (far : 0 < M) (a : List (BeatOf HeadA C))
       (option_map_or (λ b. stops_d a d i j b) (slice_get d j) None)))
       (first_homes (whole_asks near far a d i) [] (responses a d j) few)
       (brings rules_d (some_beats rules_d M far) (some_beats rules_d C near) on_d d beats_d j
-      (within r).1 h.2
+      (within near far a d r).1 h.2
       (held_response a d i j) (λ h fault e. never_d (is_release_ack h) _ _ fault e)
       (λ b. stops_d a d i j b) (λ b. refl) (stays (stops_d a d i j) (slice_get d j) stop))
 
@@ -248,9 +239,9 @@ alone r {w} {v} near far known fixed bs all =
 
 pub script_ends : {C M : ℕ} → 0 < C → 0 < M →
     Known rules_a C M → Known rules_b M C → Known rules_c C M → Known rules_d M C →
-    Known rules_e C M →
+    Known rules_e C M → ((bs : Beats C M) → AreBeats bs → LinksObey bs) →
     (bs : Beats C M) → AreBeats bs → EndsInMessages bs
-script_ends near far on_a on_b on_c on_d on_e bs held =
+script_ends near far on_a on_b on_c on_d on_e obey bs held =
     let a = bs.a in
     let d = bs.d in
     let settled : IsSettledState a d (settled_state a d) = one_settled near far a d in
@@ -266,4 +257,5 @@ script_ends near far on_a on_b on_c on_d on_e bs held =
       on_c = alone rules_c near far on_c (λ h x. refl) bs.c held.c;
       on_d = ends_d near far a d on_a on_d beats_a beats_d s.a s.d stands.reached stands.d_stops;
       on_e = alone rules_e near far on_e (λ h x. refl) bs.e held.e;
+      links = obey bs held;
     }

@@ -5,7 +5,7 @@ use Rattle.tl_settle.proofs.Names.{home_of, homes_after, far_a, far_d, requests,
 use Rattle.tl_settle.proofs.SameHeads.{same_a, same_d}
 use Rattle.tl_convert.proofs.Prefixes.{due_extends}
 
-map_grows : {X Y : Type 0} (f : X → Y) {xs ys : List X} → Extends xs ys → Extends (map f xs) (map f ys)
+pub map_grows : {X Y : Type 0} (f : X → Y) {xs ys : List X} → Extends xs ys → Extends (map f xs) (map f ys)
 map_grows f (more xs rest) = rw (map-append f xs rest) (more (map f xs) (map f rest))
 
 -- the homes of more messages begin with those of the first

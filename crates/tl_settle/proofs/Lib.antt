@@ -19,6 +19,8 @@ mod LastOpen
 mod Brings
 mod EndsSettled
 pub mod RunsObey
+mod Longer
+mod WholeRuns
 pub mod Entries
 pub mod Between
 pub mod Answering

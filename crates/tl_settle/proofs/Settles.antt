@@ -180,6 +180,12 @@ module _ {C M : ℕ} (near : 0 < C) (far : 0 < M) (a : List (BeatOf HeadA C)) (d
   ends_d : (i j : ℕ) → goes_d a d i j ≡ true → j < length d
   ends_d i j e = let found = map_true (λ b. is_none (stops_d a d i j b)) (slice_get d j) e in slice_get_within d j found.0 found.1
 
+  -- no more beats are accepted than there are
+  pub within : {i j : ℕ} → Reaches (goes_a a d) (goes_d a d) i j → (i ≤ length a) × (j ≤ length d)
+  within start = (zero-le, zero-le)
+  within (by_a i j r g) = (ends_a i j g, (within r).1)
+  within (by_d i j r g) = ((within r).0, ends_d i j g)
+
   pub one_settled : IsSettledState a d (settled_state a d)
   one_settled =
       settles (goes_a a d) (goes_d a d) (length a) (length d) Good Good-start Good-a Good-d stays_a stays_d ends_a ends_d

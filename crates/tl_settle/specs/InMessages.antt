@@ -20,6 +20,7 @@ use Rattle.tl_convert.specs.Laws.{FarIsHanded}
 use Rattle.tl_settle.specs.Requests.{homes_after}
 use Rattle.tl_settle.specs.Steps.{Reaches}
 use Rattle.tl_settle.specs.Settling.{IsSettledState, goes_a, goes_d, held_request, held_response, requests, responses, settled_state}
+use Rattle.tl_settle.specs.Obeying.{LinksObey}
 use Rattle.tl_settle.specs.Outcomes.{Beats, far_beats, verdict_a, verdict_d, verdict_alone}
 use Rattle.tl_settle.specs.Laws.{IsAtAdmitted}
 
@@ -103,3 +104,5 @@ module _ {C M : ℕ} (near : Beats C M) where
         (homes_after (requests near.a near.d s.a) [] (responses near.a near.d s.d))
         (held_response near.a near.d s.a s.d) (verdict_d near.a near.d)
     pub on_e : BringsAlone rules_e near.e (far_beats near).e (verdict_alone rules_e M near.e)
+    -- legal in, legal out
+    pub links : LinksObey near

@@ -5,6 +5,7 @@ pub mod Outcomes
 pub mod Histories
 pub mod Rounds
 pub mod Obeying
+pub mod Channels
 pub mod Laws
 pub mod InMessages
 pub mod Tables

@@ -61,6 +61,17 @@ pub record Beats (C M : ℕ) : Type 0 where
 
 -- what the near beats of a script end in
 module _ {C M : ℕ} (near : Beats C M) where
+  -- the near beats that are accepted
+  abbrev pub accepted_beats : Beats C M
+  accepted_beats = record {
+    a = take (settled_state near.a near.d).a near.a;
+    b = accepted_of rules_b near.b;
+    c = accepted_of rules_c near.c;
+    d = take (settled_state near.a near.d).d near.d;
+    e = accepted_of rules_e near.e;
+  }
+
+  -- the far beats that these make due
   abbrev pub far_beats : Beats M C
   far_beats = record {
     a = far_a near.a near.d (settled_state near.a near.d).a;

@@ -9,7 +9,7 @@ ghost use Rattle.tl_msg.specs.Beats.{IsBeat};
 ghost use Rattle.tl_msg.specs.Tables.{rules_a, rules_d};
 ghost use Rattle.tl_burst.specs.Handing.{IsHanded, IsHandedWith, IsAdmitted, homes_with, fault_after};
 ghost use Rattle.tl_convert.specs.Accepted.{AcceptedIsLongest};
-ghost use Rattle.tl_convert.specs.Laws.{DueIsOne, DueIsHanded};
+ghost use Rattle.tl_convert.specs.Laws.{DueIsOne, DueIsHanded, DueHasNoFaults};
 ghost use Rattle.tl_settle.specs.Steps.{Reaches};
 ghost use Rattle.tl_settle.specs.Settling.{IsSettledState, settled_state, goes_a, goes_d};
 ghost use Rattle.tl_settle.specs.Laws.{IsAtAdmitted, OpenIsLast};
@@ -17,10 +17,11 @@ ghost use Rattle.tl_settle.specs.InMessages.{AreBeats, EndsInMessages};
 ghost use Rattle.tl_settle.specs.Outcomes.{Beats};
 ghost use Rattle.tl_settle.specs.Histories.{Event};
 ghost use Rattle.tl_settle.specs.Rounds.{Run, IsOver, IsSettledRun};
-ghost use Rattle.tl_settle.specs.Obeying.{ObeysRules};
+ghost use Rattle.tl_settle.specs.Obeying.{LinksObey, ObeysRules};
+ghost use Rattle.tl_settle.specs.Channels.{ArePrefixes, NoChannelBlocksAnother, OnlyLengthens};
 
 use tl_burst::laws::{faults_are_exact, homes_are_kept};
-use tl_convert::laws::{accepted_is_longest, due_is_handed, due_is_one};
+use tl_convert::laws::{accepted_is_longest, due_has_no_faults, due_is_handed, due_is_one};
 use tl_msg::{ChA, ChB, ChC, ChD, ChE, Channel};
 
 /// For every script there is one settled state, and no order of steps goes past it.
@@ -41,9 +42,9 @@ pub fn every_run()
 {}
 
 /// Legal in, legal out: in every run each link obeys the rules that an offer is held to, whatever the
-/// two sides do at the same time within rounds. What comes out of the bridge has no fault and breaks
-/// no burst at its width; a request that comes out finds its source free, and a response that comes
-/// out finds its request open, with its size.
+/// two sides do at the same time within rounds. A beat that comes out of the bridge has no fault and
+/// breaks no burst at its width. When a request comes out, its source is free. When a response comes
+/// out, its request is open and has its size.
 pub fn every_run_obeys<const C: usize, const M: usize>()
     requires client { IsWidth C }
     requires manager { IsWidth M }
@@ -55,6 +56,38 @@ pub fn every_run_obeys<const C: usize, const M: usize>()
     one_channel::<ChA, C, M>();
     one_channel::<ChD, M, C>();
 }
+
+/// Legal in, legal out, for a whole script of beats that memory can hold: what comes out on each link
+/// obeys the rules there, together with what that link's own side sends. So a second bridge of widths
+/// `M` and any other never refuses what comes out of this one.
+pub fn links_obey<const C: usize, const M: usize>()
+    requires client { IsWidth C }
+    requires manager { IsWidth M }
+    ensures { (near : Beats C M) → AreBeats near → LinksObey near }
+{
+    one_channel::<ChA, C, M>();
+    one_channel::<ChB, M, C>();
+    one_channel::<ChC, C, M>();
+    one_channel::<ChD, M, C>();
+    one_channel::<ChE, C, M>();
+    due_has_no_faults::<ChB, M, C>();
+    due_has_no_faults::<ChC, C, M>();
+    due_has_no_faults::<ChE, C, M>();
+}
+
+/// No channel blocks another: the far beats and the verdict of B depend on the near beats of B alone.
+/// The same holds of C and of E. Those of A and D depend on the near beats of A and D alone.
+pub fn no_channel_blocks_another()
+    ensures { (c m : ℕ) → (one other : Beats c m) → NoChannelBlocksAnother one other }
+{}
+
+/// A longer script only lengthens: if each list of a script is a prefix of that of another script, then
+/// each near beat that the first one accepts is accepted in the other one, and its far beats are a
+/// prefix of the other's, on each channel.
+pub fn a_longer_script_only_lengthens()
+    ensures { (c m : ℕ) → IsWidth c → IsWidth m → (script longer : Beats c m) →
+        ArePrefixes script longer → OnlyLengthens script longer }
+{}
 
 /// Wherever steps lead, the beats accepted on A and on D are handed, the next beat of each list has
 /// no fault exactly where it is admitted, and it opens a message exactly where no burst is
@@ -81,13 +114,15 @@ pub fn open_request_is_last()
 /// the beats that are accepted bring whole messages, one after the other, and then perhaps the
 /// first beats of one more; what arrives on the far side is their layout there, of the last one as
 /// much as has come, and no burst of it is interrupted; and the verdict is `Done` or `Cut` where
-/// all beats are accepted, and else says what becomes of the next one (TileLink: burst rules, byte
-/// lanes, source and size of responses; the moments and the verdicts: this project's choice).
+/// all beats are accepted, and else says what becomes of the next one. And what comes out on each link
+/// obeys the rules there (TileLink: burst rules, byte lanes, source and size of responses; the moments
+/// and the verdicts: this project's choice).
 pub fn ends_in_messages<const C: usize, const M: usize>()
     requires client { IsWidth C }
     requires manager { IsWidth M }
     ensures { (near : Beats C M) → AreBeats near → EndsInMessages near }
 {
+    links_obey::<C, M>();
     one_channel::<ChA, C, M>();
     one_channel::<ChB, M, C>();
     one_channel::<ChC, C, M>();

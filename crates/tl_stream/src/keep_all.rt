@@ -1,5 +1,5 @@
 //! A listener that keeps all beats.
-ghost use Rattle.tl_stream.specs.Inner.Keeping.{Keeps, LetsNoneGo};
+ghost use Rattle.tl_stream.specs.Inner.Keeping.{Keeps, KeepsEach};
 
 use crate::listener::Listener;
 use std::alloc::AllocError;
@@ -12,7 +12,7 @@ pub(crate) struct KeepAll;
 impl<const C: usize, const M: usize> Listener<KeepAll, C, M> for KeepAll {
     ghost Listens = { Keeps };
 
-    ghost Hears = { LetsNoneGo };
+    ghost Hears = { KeepsEach };
 
     fn hear(&mut self, _held: &Script<C, M>) -> Result<Counts, AllocError> {
         Ok(Counts {

@@ -19,8 +19,8 @@ pub trait Listener<By, const C: usize, const M: usize> {
     // those that the script holds
     ghost Listens: { (version : ℕ) → Self → Gone C M → TheScript C M → Type 0 };
 
-    // it went on from what it was, as far as the beats lead that the script holds, and so many of these have to
-    // go
+    // what it does with a piece: what it is before and after, the beats that are held, and how many of these
+    // have to go
     ghost Hears: { (before : Self) → (after : Self) → TheScript C M → TheCounts → Type 0 };
 
     /// Goes on as far as the beats that are held lead, and says how many of them have to go before

@@ -5,7 +5,9 @@ use Rattle.std.specs.Prelude.{◌||◌, OnOk, unwrap_or}
 use Rattle.std.specs.Result.{result_and}
 use Rattle.std.specs.Str.Parse.{ParsesUnsigned, digits_value, without_leading_plus}
 use Rattle.clap.specs.Simple.{app_of_fields}
-use Rattle.clap.specs.Words.{AddsArg, AddsInTurn, AddsSubcommand, App, Row, Rule, Text, app_of, first_of, is_simple, new_app}
+use Rattle.clap.specs.Kinds.{FailsBy, Kinds}
+use Rattle.clap.specs.declared.error.Error.{Error}
+use Rattle.clap.specs.Words.{AddsArg, AddsInTurn, AddsSubcommand, App, Row, Rule, Text, app_of, first_of, is_simple, is_simple_and_free, new_app}
 use Rattle.clap.specs.Words.{subcommand_name_of, subcommand_rows, subcommand_rows_of, with_rule, with_subcommand}
 use Rattle.clap.specs.declared.builder.arg.Arg.{Arg}
 use Rattle.clap.specs.declared.builder.command.Command.{Command}
@@ -23,6 +25,16 @@ use Rattle.tl_words.specs.Inner.Rules.{HasApp, HasRule, HasShape, bare}
 pub program_is_simple : is_simple program ≡ true
 unfolding clap_on_literals
 program_is_simple = refl
+
+-- and finds each kind of error
+pub program_is_free : is_simple_and_free program ≡ true
+unfolding clap_on_literals
+program_is_free = refl
+
+-- words that were taken have none
+pub none_found : {T : Type 0} (kinds : Kinds) (r : Result T Error) → FailsBy kinds r → IfOk r (λ _. kinds ≡ [])
+none_found kinds (Ok x) none = none
+none_found kinds (Err e) some = tt
 
 -- what follows `file` is found where the rows of the subcommand are
 pub file_by_rows : (called : Option (Text × List Row)) (rows : List Row) → Some rows ≡ option_map (λ c. c.1) called
@@ -42,6 +54,12 @@ pub run_by_rows : (called : Option (Text × List Row)) (rows : List Row) (order 
 run_by_rows None rows order name found said = cc
 run_by_rows (Some c) rows (Run ring turns sync) name found said = (rows, grind arith, said)
 run_by_rows (Some c) rows Check name found said = absurd said
+
+-- where `check` was called, the order is a check
+pub check_by_rows : (called : Option (Text × List Row)) (rows : List Row) → option_map (λ c. c.0) called ≡ Some (codes "check")
+    → option_map (λ c. c.1) called ≡ Some rows → IsOrderOf called Check
+check_by_rows None rows name found = cc
+check_by_rows (Some c) rows name found = (rows, grind arith)
 
 -- the number of a word that was read
 pub number_of_word : {E : Type 0} (o : Option (Bor Text)) (d w : Bor Text) (first : Option Text) (n : ℕ) (r : Result ℕ E)

@@ -1,8 +1,9 @@
 -- What the words of a command line ask for: `tlbridge run [--ring N] [--turns N] [--sync] [FILE]`, or `tlbridge check [FILE]`.
 -- How words follow a command is clap's (`subcommand_of`); the command, its names and its defaults are this project's choice.
-use Rattle.std.specs.Prelude.{◌≡◌, ◌≢◌, ℕ, Bool, true, false, List, [], ◌∷◌, Option, Some, None, option_map, option_and_then, codes}
+use Rattle.std.specs.Prelude.{◌≡◌, ℕ, Bool, true, false, List, [], ◌∷◌, Option, Some, None, option_map, option_and_then, codes}
 use Rattle.std.specs.Str.Parse.{digits_value, without_leading_plus}
-use Rattle.clap.specs.Words.{App, Row, Rule, Shape, Text, first_of, new_rule, one_of, subcommand_of}
+use Rattle.clap.specs.Words.{App, Row, Rule, Shape, Text, fault_of, first_of, new_rule, one_of, subcommand_of}
+use Rattle.clap.specs.Kinds.{Kinds}
 use Rattle.clap.specs.Simple.{new_shape}
 use Rattle.clap.specs.declared.builder.action.ArgAction.TheVariants.{SetTrue}
 use Rattle.tl_order.specs.declared.Order.{Order}
@@ -47,6 +48,10 @@ program = record {
 unfoldable pub called_by : List Text → Option (Text × List Row)
 called_by words = subcommand_of program words
 
+-- the kinds of error that clap finds in the words: none if the command takes them
+unfoldable pub faults_in : List Text → Kinds
+faults_in words = fault_of program words
+
 -- the number that an option's word says
 abbrev pub number_in : (name : Text) → List Row → Option ℕ
 number_in name rows = option_map (λ word. digits_value 10 (without_leading_plus word)) (first_of name rows)
@@ -62,10 +67,10 @@ abbrev pub IsRunOf : List Row → Order → Type 0
 IsRunOf rows (Run ring turns sync) = (number_in (codes "ring") rows ≡ Some ring) × (number_in (codes "turns") rows ≡ Some turns) × IsSync rows sync
 IsRunOf rows Check = ⊥
 
--- the order where this was called: a run where it was `run`, and else a check
+-- the order if this was called: a run if it was `run`, and a check if it was `check`
 abbrev pub IsOrderOf : Option (Text × List Row) → Order → Type 0
 IsOrderOf called (Run ring turns sync) = (rows : List Row) × (called ≡ Some (codes "run", rows)) × IsRunOf rows (Run ring turns sync)
-IsOrderOf called Check = option_map (λ c. c.0) called ≢ Some (codes "run")
+IsOrderOf called Check = (rows : List Row) × (called ≡ Some (codes "check", rows))
 
 -- the file that was named where this was called
 abbrev pub file_of : Option (Text × List Row) → Option Text

@@ -4,7 +4,7 @@
 ghost use Rattle.std.specs.Prelude.{◌≡◌, ◌≤◌, ◌++◌, ◌∷◌, [], Some, IfOk, IsOkAnd, OnOk, codes, map, option_map};
 ghost use Rattle.clap.specs.Words.{app_of, found_of, rows_of, subcommand_rows_of};
 ghost use Rattle.tl_order.specs.Orders.{IsInRange};
-ghost use Rattle.tl_words.specs.CommandLines.{IsOrderOf, IsRunOf, called_by, check_shape, file_of, file_rule};
+ghost use Rattle.tl_words.specs.CommandLines.{IsOrderOf, IsRunOf, called_by, check_shape, faults_in, file_of, file_rule};
 ghost use Rattle.tl_words.specs.CommandLines.{number_in, number_rule, program, run_shape, sync_rule};
 ghost use Rattle.tl_words.specs.Inner.Rules.{HasRule, HasShape, bare};
 
@@ -114,7 +114,8 @@ fn command<'a>(alloc: Global) -> Result<Command<'a>, AllocError>
 
 /// What `command` takes from the words.
 fn matches_of<'a>(alloc: Global, words: &'a [&'a str]) -> Result<ArgMatches<'a>, Error>
-    ensures { IfOk result (λ m. subcommand_rows_of m ≡ called_by (map (λ w. w.now) words.entry.now)) }
+    ensures called { IfOk result (λ m. subcommand_rows_of m ≡ called_by (map (λ w. w.now) words.entry.now)) }
+    ensures taken { IfOk result (λ _. faults_in (map (λ w. w.now) words.entry.now) ≡ []) }
 {
     match command(alloc) {
         Ok(command) => command.try_get_matches_from(words),
@@ -171,14 +172,25 @@ fn run_order(alloc: Global, matches: &ArgMatches<'_>) -> Result<Order, Error>
     })
 }
 
-/// The order of a command line whose words `command` takes: `run`, or else `check`.
+/// The order of a command line that calls `check`. Any other is refused, as clap has done before.
+fn check_order(alloc: Global, matches: &ArgMatches<'_>) -> Result<Order, Error>
+    ensures range { IfOk result IsInRange }
+    ensures said { IfOk result (IsOrderOf (subcommand_rows_of matches.now)) }
+{
+    match matches.subcommand_matches("check") {
+        Some(_) => Ok(Order::Check),
+        None => Err(refusal(alloc, "the command has to be run or check")?),
+    }
+}
+
+/// The order of a command line whose words `command` takes: that of `run`, or that of `check`.
 fn order_in(alloc: Global, matches: &ArgMatches<'_>) -> Result<Order, Error>
     ensures range { IfOk result IsInRange }
     ensures said { IfOk result (IsOrderOf (subcommand_rows_of matches.now)) }
 {
     match matches.subcommand_matches("run") {
         Some(inner) => run_order(alloc, inner),
-        None => Ok(Order::Check),
+        None => check_order(alloc, matches),
     }
 }
 
@@ -199,6 +211,7 @@ fn file_in<'a>(matches: &ArgMatches<'a>) -> Option<&'a str>
 /// them to standard output. The `exit_code` of every other error is 2, and `print` writes it to
 /// standard error.
 pub fn command_line_of<'a>(alloc: Global, words: &'a [&'a str]) -> Result<CommandLine<'a>, Error>
+    ensures taken { IfOk result (λ _. faults_in (map (λ w. w.now) words.entry.now) ≡ []) }
     ensures range { IfOk result (λ line. IsInRange line.order) }
     ensures order { IfOk result (λ line. IsOrderOf (called_by (map (λ w. w.now) words.entry.now)) line.order) }
     ensures file { IfOk result (λ line. option_map (λ s. s.now) line.file ≡ file_of (called_by (map (λ w. w.now) words.entry.now))) }
@@ -219,6 +232,7 @@ pub fn command_line_of<'a>(alloc: Global, words: &'a [&'a str]) -> Result<Comman
 /// The order that the words of a command line give, whichever file they name. Refused as
 /// `command_line_of` refuses.
 pub fn order_of<'a>(alloc: Global, words: &'a [&'a str]) -> Result<Order, Error>
+    ensures taken { IfOk result (λ _. faults_in (map (λ w. w.now) words.entry.now) ≡ []) }
     ensures range { IfOk result IsInRange }
     ensures said { IfOk result (IsOrderOf (called_by (map (λ w. w.now) words.entry.now))) }
 {

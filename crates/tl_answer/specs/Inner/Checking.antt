@@ -13,7 +13,7 @@ use Rattle.tl_answer.specs.Inner.Listening.{GoesWith}
 abbrev pub Judges : {C M : ℕ} → (version : ℕ) → Judge C M → Gone C M → Script C M → Type 0
 Judges version judge gone s = GoesWith judge.gone (CanJudge judge) (λ beats. HasJudged beats judge) gone s
 
--- it goes on as far as these beats lead, and of those so many go that fewer stay that it is done with than wait
+-- it goes on as far as these beats lead, and so many of them go that fewer done beats stay than waiting ones
 pub record JudgesOn {C M : ℕ} (before after : Judge C M) (s : Script C M) (counts : Counts) : Type 0 where
   pub stuck : (near : Beats C M) → ArePart before.gone s near → HasJudged near before → AreStuck near before.gone (places after) s
   pub going : AreGoing before.gone (places after) s counts

@@ -16,7 +16,7 @@ pub record Crosses {C M : ℕ} (version : ℕ) (x : Crossing C M) (gone : Gone C
   pub version_is : x.far.version ≡ version
   pub goes : GoesWith x.run.gone (CanRun x.run) (λ beats. HasRun HasLines beats x.far x.run) gone s
 
--- it goes on as far as these beats lead, and of those so many go that fewer stay that it is done with than wait
+-- it goes on as far as these beats lead, and so many of them go that fewer done beats stay than waiting ones
 pub record CrossesOn {C M : ℕ} (before after : Crossing C M) (s : Script C M) (counts : Counts) : Type 0 where
   pub stuck : (near : Beats C M) → ArePart before.run.gone s near → HasRun HasLines near before.far before.run →
       AreStuck near before.run.gone after.run.at s

@@ -1,4 +1,4 @@
--- How far the check of a script has come. Only contracts of private functions cite these words.
+-- What each side notes of the beats that it takes. Only contracts of private functions cite these words.
 use Rattle.std.specs.Prelude.{◌≡◌, ◌≤◌, ◌+◌, ◌*◌, ◌^◌, ◌++◌, ℕ, Option, List, [], ◌∷◌, length, map, take, drop}
 use Rattle.tl_lanes.specs.declared.limits.TheConstants.{WIDEST}
 use Rattle.tl_msg.specs.Rules.{Rules}
@@ -12,16 +12,7 @@ use Rattle.tl_settle.specs.Histories.{Event, Ask, Answer, asked, answered}
 use Rattle.tl_settle.specs.Rounds.{Run}
 use Rattle.tl_settle.specs.Settling.{far_a, far_d}
 use Rattle.tl_settle.specs.Books.{Client, Manager, KnowsClient, KnowsManager}
-
--- Of a channel's near beats the first `at` were accepted: this burst is open after them, none of them has a fault where it stands, and they make
--- `far` far beats due
-pub record HasCome {H : Type 0} (r : Rules H) {w : ℕ} (v : ℕ) (bs : List (BeatOf H w)) (burst : Option (H × ℕ)) (at far : ℕ) : Type 0 where
-  pub burst_is : burst ≡ burst_after r (take at bs)
-  pub handed : IsHanded r (take at bs)
-  pub most : at ≤ length bs
-  pub lawful : accepted_of r bs ≡ take at bs ++ accepted_after r (take at bs) (drop at bs)
-  -- as many, whatever the homes are
-  pub far_is : (homes : List ℕ) → far ≡ length (due r w v (take at bs) homes)
+pub use Rattle.tl_check.specs.Places.{AreAt, HasCome, IsWithin}
 
 -- these beats have this head
 abbrev pub HaveHead : {H : Type 0} {w : ℕ} → H → List (BeatOf H w) → Type 0
@@ -39,21 +30,3 @@ abbrev pub NotesAnswers : (C : ℕ) (head : HeadD) (count : ℕ) (before after :
 NotesAnswers C head count before after = (es : List (Event C)) (bs : List (BeatOf HeadD C)) → KnowsClient before es →
     length bs ≡ count → HaveHead head bs →
     KnowsClient after (es ++ map Answer bs)
-
--- Of the near beats a of channel A and d of channel D the first i and j were accepted, in some order of the two sides' calls; each side has taken
--- all that is due, and its book knows what it did
-pub record AreAt {C M : ℕ} (a : List (BeatOf HeadA C)) (d : List (BeatOf HeadD M)) (i j : ℕ) (client : Client) (manager : Manager) : Type 0 where
-  pub client_history : List (Event C)
-  pub manager_history : List (Event M)
-  pub client_knows : KnowsClient client client_history
-  pub manager_knows : KnowsManager manager manager_history
-  pub run : Run a d i j client_history manager_history
-  pub a_taken : asked manager_history ≡ far_a a d i
-  pub d_taken : answered client_history ≡ far_d a d j
-
--- of a channel's list `gone` beats are gone and the next n are held, and `at`, to which it has come, is among those or behind them
-pub record IsWithin (gone at far n : ℕ) : Type 0 where
-  pub from : gone ≤ at
-  pub to : at ≤ gone + n
-  pub few : gone + n ≤ 2 ^ 40
-  pub few_far : far ≤ WIDEST * at

@@ -24,6 +24,7 @@ use Rattle.tl_sides.specs.declared.per_channel.PerChannel.{PerChannel}
 use Rattle.tl_sides.specs.Crossings.{stops_alone}
 use Rattle.tl_sides.specs.Bridges.{Bridge, Past, StandsFor, nothing_yet}
 pub use Rattle.tl_sides.specs.ChannelCalls.{emptied, after_take_all}
+pub use Rattle.tl_run.specs.Running.{IsAt, IsHomed, IsNew, IsRunning, IsSent, IsUnderWay, all_under_way, lengths, under_way}
 use Rattle.tl_offer.specs.Offering.{Does, steps}
 use Rattle.tl_offer.specs.declared.offered.Stop.{Stop}
 use Rattle.tl_offer.specs.declared.offered.Stop.TheVariants.{Done, Cut, Refused}
@@ -33,24 +34,9 @@ use Rattle.tl_offer.specs.declared.offered.Offered.TheVariants.{Accepted, NotRea
 -- ---- one channel
 
 module _ {H : Type 0} {w v : ℕ} where
-  -- how many beats are under way
-  abbrev pub under_way : World H w v → ℕ
-  under_way x = length x.stage + length x.ring + length x.inbox
-
   -- how far a channel has come: the beats that were accepted, those that went into its ring, and those that came out of it
   abbrev pub progress : (n : ℕ) → World H w v → ℕ
   progress n x = n + (length x.taken + length x.inbox + length x.ring) + (length x.taken + length x.inbox)
-
-module _ {H : Type 0} (r : Rules H) {w v : ℕ} (bs : List (BeatOf H w)) (n : ℕ) where
-  -- the first n beats of a list were accepted, all of them before the first one that has a fault of its own, and `far` was taken
-  pub record IsSent (far : List (BeatOf H v)) (x : World H w v) : Type 0 where
-    pub accepted : x.accepted ≡ take n bs
-    pub most : n ≤ length bs
-    pub lawful : accepted_of r bs ≡ take n bs ++ accepted_after r (take n bs) (drop n bs)
-    pub taken : far ≡ x.taken
-    -- a channel that is closed has no beat left
-    pub shuts : x.closed ≡ true → n ≡ length bs
-    pub room : 1 ≤ x.room
 
 module _ {H : Type 0} (r : Rules H) {w : ℕ} (bs : List (BeatOf H w)) (n : ℕ) where
   -- why no beat was accepted in the round that led here, where none was
@@ -60,10 +46,6 @@ module _ {H : Type 0} (r : Rules H) {w : ℕ} (bs : List (BeatOf H w)) (n : ℕ)
   Stops answer accepted (Stopped (Refused fault)) = (b : BeatOf H w) × (slice_get bs n ≡ Some b) × (answer b ≡ Some fault)
   Stops answer accepted (Stopped Done) = (slice_get bs n ≡ None) × (rest_of r w accepted ≡ [])
   Stops answer accepted (Stopped Cut) = (slice_get bs n ≡ None) × (rest_of r w accepted ≢ [])
-
--- the homes of a channel on which the beats themselves say them
-abbrev pub IsHomed : {H : Type 0} (r : Rules H) {w v : ℕ} → World H w v → Type 0
-IsHomed r {w = w} x = x.homes ≡ map (λ h. r.lane_address h 0) (heads r w x.accepted)
 
 -- a channel that nothing stopped, or on which beats are under way after a round, has come further in it
 abbrev pub IsStopped : Offered → Type 0
@@ -97,16 +79,9 @@ module _ {C M : ℕ} where
   abbrev pub arriving : Past C M → Beats M C
   arriving x = record { a = x.a.inbox; b = x.b.inbox; c = x.c.inbox; d = x.d.inbox; e = x.e.inbox }
 
-  -- how many beats there are of each channel
-  abbrev pub lengths : Beats C M → PerChannel ℕ
-  lengths bs = record { a = length bs.a; b = length bs.b; c = length bs.c; d = length bs.d; e = length bs.e }
-
   -- how far a run has come
   abbrev pub all_progress : PerChannel ℕ → Past C M → ℕ
   all_progress n x = progress n.a x.a + progress n.b x.b + progress n.c x.c + progress n.d x.d + progress n.e x.e
-
-  abbrev pub all_under_way : Past C M → ℕ
-  all_under_way x = under_way x.a + under_way x.b + under_way x.c + under_way x.d + under_way x.e
 
 -- how many beats were accepted on all channels
 abbrev pub all_steps : PerChannel Offered → ℕ
@@ -166,20 +141,6 @@ module _ {C M : ℕ} (near : Beats C M) where
     pub does_d : Does rules_d near.d n.d (manager_answer x.manager) (λ y. manager_home x.manager y.head) x.d o.d beats_d past.d
     pub does_e : Does rules_e near.e n.e (stops_alone rules_e x.e.accepted) (λ _. 0) x.e o.e beats_e past.e
 
-  -- where a run stands between two rounds, when so many beats of each list were accepted and these beats were taken
-  pub record IsAt (n : PerChannel ℕ) (far : Beats M C) (past : Past C M) : Type 0 where
-    -- what has happened on A and D is a run in rounds
-    pub run : Run near.a near.d n.a n.d past.client past.manager
-    pub a_sent : IsSent rules_a near.a n.a far.a past.a
-    pub b_sent : IsSent rules_b near.b n.b far.b past.b
-    pub c_sent : IsSent rules_c near.c n.c far.c past.c
-    pub d_sent : IsSent rules_d near.d n.d far.d past.d
-    pub e_sent : IsSent rules_e near.e n.e far.e past.e
-    pub a_homed : IsHomed rules_a past.a
-    pub b_homed : IsHomed rules_b past.b
-    pub c_homed : IsHomed rules_c past.c
-    pub e_homed : IsHomed rules_e past.e
-
   -- why each channel stands still, where it does
   pub record AllStop (n : PerChannel ℕ) (past : Past C M) (o : PerChannel Offered) : Type 0 where
     pub stop_a : Stops rules_a near.a n.a (client_answer past.client) past.a.accepted o.a
@@ -192,35 +153,17 @@ module _ {C M : ℕ} (near : Beats C M) where
   pub record HasRound (n : PerChannel ℕ) (far : Beats M C) (x : Past C M) (s : Bridge C M) (o : PerChannel Offered) : Type 0 where
     pub past : Past C M
     pub stands : StandsFor s past
-    pub is_at : IsAt (counted n o) far past
+    pub is_at : IsAt near (counted n o) far past
     pub stops : AllStop (counted n o) past o
     pub keeps : all_progress n x ≤ all_progress (counted n o) past
     pub goes : (all_progress n x + 1 ≤ all_progress (counted n o) past) ⊎ (AreStopped o × (all_under_way past ≡ 0))
-
-  -- a run is under way: its bridge stands for a past that it has come to
-  pub record IsUnderWay (n : PerChannel ℕ) (far : Beats M C) (s : Bridge C M) : Type 0 where
-    pub past : Past C M
-    pub stands : StandsFor s past
-    pub is_at : IsAt n far past
 
   -- a run has ended: every channel stands still, nothing is under way, and there was at most one round more than beats that were accepted, that
   -- went into a ring or that came out of one
   pub record HasEnded (n : PerChannel ℕ) (far : Beats M C) (s : Bridge C M) (stops : PerChannel Stop) (rounds : ℕ) : Type 0 where
     pub past : Past C M
     pub stands : StandsFor s past
-    pub is_at : IsAt n far past
+    pub is_at : IsAt near n far past
     pub all_stop : AllStop n past (all_stopped stops)
     pub at_rest : all_under_way past ≡ 0
     pub few_rounds : rounds ≤ all_progress n past + 1
-
--- the same where what was taken went to where `Holds` says that it is, and was counted
-module _ {F : Type 0} {C M : ℕ} (Holds : F → Beats M C → Type 0) (near : Beats C M) where
-  pub record IsRunning (n taken : PerChannel ℕ) (far : F) (s : Bridge C M) : Type 0 where
-    pub all : Beats M C
-    pub holds : Holds far all
-    pub counts : taken ≡ lengths all
-    pub under_way : IsUnderWay near n all s
-
--- a new bridge, whose rings hold a beat at least
-abbrev pub IsNew : {C M : ℕ} → Bridge C M → Type 0
-IsNew s = (room : ℕ) × (1 ≤ room) × StandsFor s (nothing_yet room)

@@ -8,6 +8,6 @@ use Rattle.tl_stream.specs.declared.keep_all.KeepAll.{KeepAll}
 abbrev pub Keeps : {C M : ℕ} → (version : ℕ) → KeepAll → Gone C M → Script C M → Type 0
 Keeps version keeper gone s = gone ≡ none_gone
 
--- none of the beats that are held has to go
-abbrev pub LetsNoneGo : {C M : ℕ} → (before after : KeepAll) → Script C M → Counts → Type 0
-LetsNoneGo before after s counts = counts ≡ record { a = 0; b = 0; c = 0; d = 0; e = 0 }
+-- every beat that is held stays
+abbrev pub KeepsEach : {C M : ℕ} → (before after : KeepAll) → Script C M → Counts → Type 0
+KeepsEach before after s counts = counts ≡ record { a = 0; b = 0; c = 0; d = 0; e = 0 }

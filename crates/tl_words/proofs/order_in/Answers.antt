@@ -1,4 +1,4 @@
-use Rattle.std.proofs.Common.{◌≡◌, ◌∙◌, false, rules, sym, true}
+use Rattle.std.proofs.Common.{◌∙◌, rules}
 use Rattle.std.proofs.lemmas.Result.{IfOk-weaker}
 use Rattle.clap.specs.Words.{subcommand_rows_of}
 use Rattle.tl_words.proofs.Options.{name_by_rows, run_by_rows}
@@ -9,8 +9,3 @@ returns-in-Some-clause-said c =
     let m = c.args.matches.now in
     IfOk-weaker c.run_order.result _ _ (λ order said. run_by_rows (subcommand_rows_of m) _ order
     (name_by_rows m ∙ c.in-Some.ensures.found.0 (search rules)) c.in-Some.ensures.rows said) c.run_order.ensures.said
-
-pub returns-in-None-clause-said : goal.returns-in-None-clause-said
-returns-in-None-clause-said c = λ e.
-    let bad : false ≡ true = c.in-None.ensures.found.1 (sym (name_by_rows c.args.matches.now) ∙ e) in
-    cc

@@ -1,4 +1,4 @@
-use Rattle.std.proofs.Common.{◌+◌, ◌^◌, ◌<◌, ◌≤◌, refl, sym, subst, ◌∙◌, arith, zero-le, ⊎_elim}
+use Rattle.std.proofs.Common.{◌≡◌, ◌+◌, ◌^◌, ◌<◌, ◌≤◌, ℕ, refl, sym, subst, ◌∙◌, arith, zero-le, ⊎_elim}
 use Rattle.tl_bridge.proofs.Words.{near_beats, beats_of, AllStop, counts-on, last-one, nearer, one-round-more, end-few}
 use Rattle.tl_bridge.specs.Inner.Arriving.{taken_of}
 use Rattle.tl_bridge.specs.Inner.Sides.{met_progress, past_of}
@@ -6,6 +6,10 @@ use Rattle.tl_bridge.proofs.Rooms.{keeps-room}
 use Rattle.tl_bridge.proofs.Meeting.{met-most, met-ended, new-met}
 use Rattle.tl_bridge.proofs.thread_rounds.play_rounds.Given.{Over}
 use Rattle.tl_bridge.proofs.thread_rounds.play_rounds.Goals as goal
+
+-- no round yet
+from-none : (P : ℕ → Type 0) (n : ℕ) → P n → P (n + 0)
+from-none P n h = let e : n ≡ n + 0 = omega arith in subst P e h
 
 pub rounds-init : goal.rounds-init
 rounds-init g c = record {
@@ -26,6 +30,8 @@ rounds-init g c = record {
       (c.meet_sides.ensures.meets _ _ c.requires.3.client c.requires.3.manager);
   room = c.requires.2;
   few = zero-le;
+  client_passed = λ n h. from-none (λ k. g.G.Gate.HasPassed k c.args.client_gate.now) n h;
+  manager_passed = λ n h. from-none (λ k. g.H.Gate.HasPassed k c.args.manager_gate.now) n h;
 }
 
 pub overflow_add-rounds : goal.overflow_add-rounds
@@ -37,15 +43,25 @@ overflow_add-rounds g c =
     (end-few (near_beats c.args.script.now) c.requires.0.client c.requires.0.manager c.requires.1) in
     omega (arith, l)
 
+-- one round more
+passed-on : (P : ℕ → Type 0) (n rounds : ℕ) → P (n + rounds + 1) → P (n + (rounds + 1))
+passed-on P n rounds h = let e : n + rounds + 1 ≡ n + (rounds + 1) = omega arith in subst P e h
+
 pub returns-in-Some : goal.returns-in-Some
 returns-in-Some g c =
     let h = c.round.ensures.round in
     let near = near_beats c.args.script.now in
-    met-ended near c.round.result.0.at (beats_of (taken_of c.round.new.client c.round.new.manager)) c.round.new.client.side
+    record {
+      client_passed = λ n passed. passed-on (λ k. g.G.Gate.HasPassed k c.round.new.client_gate) n c.rounds.rounds
+          (c.round.ensures.client_passed (n + c.rounds.rounds) (c.rounds.invariant.client_passed n passed));
+      manager_passed = λ n passed. passed-on (λ k. g.H.Gate.HasPassed k c.round.new.manager_gate) n c.rounds.rounds
+          (c.round.ensures.manager_passed (n + c.rounds.rounds) (c.rounds.invariant.manager_passed n passed));
+      ended = met-ended near c.round.result.0.at (beats_of (taken_of c.round.new.client c.round.new.manager)) c.round.new.client.side
     c.round.new.manager.side h.met c.in-Some.stops (c.rounds.rounds + 1)
     (subst (λ o. AllStop near c.round.result.0.at
     (past_of c.round.new.client.side c.round.new.manager.side h.met.client h.met.manager) o) c.in-Some.ensures.stops h.stops)
-    (sym h.standing ∙ c.in-Some.ensures.rests) (last-one _ _ _ c.rounds.invariant.few h.keeps)
+    (sym h.standing ∙ c.in-Some.ensures.rests) (last-one _ _ _ c.rounds.invariant.few h.keeps);
+    }
 
 -- a round that is not the last one
 onward : (g : Over) (c : goal.In_default g) → met_progress c.rounds.at c.rounds.client.side c.rounds.manager.side + 1 ≤
@@ -67,4 +83,8 @@ rounds-preserved g c =
       room = keeps-room (near_beats c.args.script.now) (taken_of c.rounds.client c.rounds.manager)
           (taken_of c.round.new.client c.round.new.manager) c.round.ensures.capacity c.rounds.invariant.room;
       few = one-round-more _ _ _ c.rounds.invariant.few (onward g c);
+      client_passed = λ n passed. passed-on (λ k. g.G.Gate.HasPassed k c.round.new.client_gate) n c.rounds.rounds
+          (c.round.ensures.client_passed (n + c.rounds.rounds) (c.rounds.invariant.client_passed n passed));
+      manager_passed = λ n passed. passed-on (λ k. g.H.Gate.HasPassed k c.round.new.manager_gate) n c.rounds.rounds
+          (c.round.ensures.manager_passed (n + c.rounds.rounds) (c.rounds.invariant.manager_passed n passed));
     }

@@ -61,4 +61,6 @@ returns g c = record {
     d = c.play_both.ensures.client.same.2;
     e = c.play_both.ensures.manager.same.3;
   };
+  client_passed = c.play_both.ensures.client_passed;
+  manager_passed = c.play_both.ensures.manager_passed;
 }

@@ -1,16 +1,17 @@
-use Rattle.std.proofs.Common.{refl, sym, subst, ⊎_elim, inl, inr}
+use Rattle.std.proofs.Common.{◌+◌, refl, sym, subst, ⊎_elim, inl, inr}
 use Rattle.tl_bridge.proofs.Words.{near_beats, beats_of, HasEnded, not-ok}
 use Rattle.tl_bridge.proofs.Words.{only-memory, stalled-never}
 use Rattle.tl_bridge.specs.Inner.Sides.{bridge_of}
-use Rattle.tl_ring.specs.declared.fault.BuildFault.TheVariants as building
 use Rattle.tl_bridge.proofs.threads_run.run_threads.Goals as goal
 
 pub returns-then-ring-eq0 : goal.returns-then-ring-eq0
 returns-then-ring-eq0 g c = record {
   outcome = tt;
+  client_rounds = λ n passed. tt;
+  manager_rounds = λ n passed. tt;
   size = λ ok. not-ok ok;
   ring_size = (λ same. ⊎_elim (λ z. inl z) (λ p. inr p.1) c.then-ring-eq0.either, λ either. refl);
-  never_stalled = stalled-never building.RingSize _ refl;
+  never_stalled = stalled-never _ refl;
 }
 
 pub returns : goal.returns
@@ -20,7 +21,11 @@ returns g c =
     let bridge = bridge_of c.play_rounds-end.new.client.side c.play_rounds-end.new.manager.side in
     record {
       outcome = c.outcome_at.ensures.outcome near bridge
-          (subst (λ (t : _). HasEnded near end.at (beats_of t) bridge end.stops end.rounds) (sym c.lists_of.ensures) c.play_rounds-end.ensures);
+          (subst (λ (t : _). HasEnded near end.at (beats_of t) bridge end.stops end.rounds) (sym c.lists_of.ensures) c.play_rounds-end.ensures.ended);
+      client_rounds = λ n passed. subst (λ k. g.G.Gate.HasPassed (n + k) c.play_rounds-end.new.client_gate) (sym c.outcome_at.ensures.rounds)
+          (c.play_rounds-end.ensures.client_passed n passed);
+      manager_rounds = λ n passed. subst (λ k. g.H.Gate.HasPassed (n + k) c.play_rounds-end.new.manager_gate) (sym c.outcome_at.ensures.rounds)
+          (c.play_rounds-end.ensures.manager_passed n passed);
       size = λ _. c.in-Ok-bridge.ensures.size refl;
       ring_size = tt;
       never_stalled = tt;
@@ -30,10 +35,10 @@ returns g c =
 pub returns-in_default : goal.returns-in_default
 returns-in_default g c =
     let only = only-memory _ refl c.args.ring c.if-ring-eq0.false c.if-ring-gt-MAX_RING.false in
-    record { outcome = tt; size = λ ok. not-ok ok; ring_size = only.0; never_stalled = only.1 }
+    record { outcome = tt; client_rounds = λ n passed. tt; manager_rounds = λ n passed. tt; size = λ ok. not-ok ok; ring_size = only.0; never_stalled = only.1 }
 
 -- or for the bridge
 pub returns-in_default-bridge : goal.returns-in_default-bridge
 returns-in_default-bridge g c =
     let only = only-memory _ refl c.args.ring c.if-ring-eq0.false c.if-ring-gt-MAX_RING.false in
-    record { outcome = tt; size = λ ok. not-ok ok; ring_size = only.0; never_stalled = only.1 }
+    record { outcome = tt; client_rounds = λ n passed. tt; manager_rounds = λ n passed. tt; size = λ ok. not-ok ok; ring_size = only.0; never_stalled = only.1 }

@@ -16,10 +16,8 @@ returns-clause-outcome g c = λ near s ended.
       c.len-5.ensures ∙ c.args.far.e.ok.0,
     ) refl in
     c.into_outcome.ensures.ends near
-    (record {
-      verdicts_are = c.verdicts_at-verdicts.ensures g.row.C g.row.M near far s end.rounds c.requires.client c.requires.manager counts ended;
-      few_rounds = rounds-few c.requires.client c.requires.manager near end.at far s end.stops end.rounds ended;
-    })
+    (c.verdicts_at-verdicts.ensures g.row.C g.row.M near far s end.rounds c.requires.client c.requires.manager counts ended)
+    (rounds-few c.requires.client c.requires.manager near end.at far s end.stops end.rounds ended)
     (far-is c.requires.client c.requires.manager near end.at far s end.stops end.rounds ended)
 
 pub returns-clause-counts : goal.returns-clause-counts

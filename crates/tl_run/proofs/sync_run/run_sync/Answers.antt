@@ -1,7 +1,6 @@
 use Rattle.tl_run.proofs.Names.{near_beats, refl, sym, subst, ⊎_elim, inl, inr}
 use Rattle.tl_run.specs.Scripts.{AreBelow, near_counts}
 use Rattle.tl_run.proofs.OnlyMemory.{not-ok, only-memory, stalled-never}
-use Rattle.tl_ring.specs.declared.fault.BuildFault.TheVariants as building
 use Rattle.tl_run.proofs.sync_run.run_sync.Goals as goal
 
 pub returns-then-ring-eq0 : goal.returns-then-ring-eq0
@@ -10,7 +9,7 @@ returns-then-ring-eq0 g c = record {
   rounds = tt;
   size = λ ok. not-ok ok;
   ring_size = (λ same. ⊎_elim (λ z. inl z) (λ p. inr p.1) c.then-ring-eq0.either, λ either. refl);
-  never_stalled = stalled-never building.RingSize _ refl;
+  never_stalled = stalled-never _ refl;
 }
 
 pub returns-in_default : goal.returns-in_default
