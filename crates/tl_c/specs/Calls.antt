@@ -2,12 +2,16 @@
 use Rattle.std.specs.Prelude.{◌≡◌, ◌+◌, ℕ, Bool, true, false, Option, Some, None, List, [], length, slice_get, take, IfSome}
 use Rattle.tl_msg.specs.Faults.{IsLawfulBeat}
 use Rattle.tl_msg.specs.Rules.{Rules}
+use Rattle.tl_msg.specs.Tables.{rules_b, rules_c, rules_e}
 use Rattle.tl_msg.specs.declared.head.HeadA.{HeadA}
 use Rattle.tl_msg.specs.declared.head.HeadB.{HeadB}
 use Rattle.tl_msg.specs.declared.head.HeadC.{HeadC}
 use Rattle.tl_msg.specs.declared.head.HeadD.{HeadD}
 use Rattle.tl_msg.specs.declared.head.HeadE.{HeadE}
 use Rattle.tl_msg.specs.declared.beat.BeatOf.{BeatOf}
+use Rattle.tl_convert.specs.Laws.{HasNoFaults}
+use Rattle.tl_settle.specs.Obeying.{ObeysRules}
+use Rattle.tl_sides.specs.Legal.{WentOn}
 use Rattle.tl_ring.specs.Ends.{Sending, Taking, known_items}
 use Rattle.std.specs.Global.{Global}
 use Rattle.tl_sides.specs.Calls.{SendingChannel}
@@ -149,11 +153,26 @@ MayMeet None t = Unit
 MayMeet (Some s) None = Unit
 MayMeet (Some s) (Some t) = AreSides s.side t.side
 
--- two sides have met: each channel is one crossing, to which a list of events leads
+-- two sides have met: each channel is one crossing, to which a list of events leads. And both links obey the protocol's rules, each at its own width:
+-- what came out is held to the rules that an offer is held to
+pub record MeetLegally (s : ClientState Global CLIENT MANAGER) (t : ManagerState Global CLIENT MANAGER) (x : ClientPast CLIENT MANAGER)
+    (y : ManagerPast CLIENT MANAGER) : Type 0 where
+  pub meets : SidesMeet s t x y
+  -- no beat of B, C or E that was taken has a fault after those before it
+  pub b : HasNoFaults rules_b x.b
+  pub c : HasNoFaults rules_c y.c
+  pub e : HasNoFaults rules_e y.e
+  -- on A and D new links obey, and those that obeyed up to here do so later, whatever calls each side makes, if these take no more of A and D than
+  -- had come to that side by now
+  pub begins : ObeysRules {w = CLIENT} [] × ObeysRules {w = MANAGER} []
+  pub goes_on : ObeysRules x.history × ObeysRules y.history → (s' : ClientState Global CLIENT MANAGER) (t' : ManagerState Global CLIENT MANAGER)
+      (x' : ClientPast CLIENT MANAGER) (y' : ManagerPast CLIENT MANAGER) → WentOn s s' t t' x x' y y' →
+      ObeysRules x'.history × ObeysRules y'.history
+
 abbrev pub HaveMet : Option ClientHeld → Option ManagerHeld → ClientPast CLIENT MANAGER → ManagerPast CLIENT MANAGER → Type 0
 HaveMet None t x y = ⊥
 HaveMet (Some s) None x y = ⊥
-HaveMet (Some s) (Some t) x y = SidesMeet s.side t.side x y
+HaveMet (Some s) (Some t) x y = MeetLegally s.side t.side x y
 
 -- how many far beats wait on a channel whose sides have met, and on all five
 abbrev pub beat_counts : {K A H : Type 0} {v : ℕ} → Sending K A H v → Taking K A H v → BeatCounts

@@ -9,6 +9,7 @@ use crate::manager_handle::ManagerHandle;
 use crate::widths::{CLIENT, MANAGER};
 use std::alloc::Global;
 use tl_c_beats::{ChannelCounts, NO_SIDE, OTHER_BRIDGE, channel_counts, settle};
+use tl_sides::laws::sides_obey;
 use tl_sides::meet_sides;
 
 // Makes a call on what two handles hold, which is taken out for it and put back, and writes the
@@ -38,7 +39,9 @@ macro_rules! on_both {
 
 /// Brings both sides of one bridge together, in one thread, and writes how many far beats stand in
 /// the stage, the ring and the inbox of each channel. No beat moves. Each side then knows all that
-/// is in the rings that it takes from, and each place that is free in those that it sends to.
+/// is in the rings that it takes from, and each place that is free in those that it sends to. Legal in,
+/// legal out: no beat that was taken on B, C or E has a fault, and A and D obey the rules of both links
+/// from meeting to meeting, where each side takes no more of them than had come to it by the last one.
 ///
 /// 0 where they met. Else nothing changes: `NO_SIDE` where a handle holds none, and else
 /// `OTHER_BRIDGE`, where their numbers differ.
@@ -64,6 +67,7 @@ pub extern "C" fn tl_meet(
     ensures same { result ≢ 0 → (client.new.owned.held ≡ client.old.owned.held) ×
         (manager.new.owned.held ≡ manager.old.owned.held) × (counts.new ≡ counts.old) }
 {
+    sides_obey::<CLIENT, MANAGER, Global>();
     on_both!(client, manager, alloc, counts, meet_sides)
 }
 

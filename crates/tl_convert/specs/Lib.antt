@@ -5,3 +5,4 @@ pub mod Accepted
 pub mod Partial
 pub mod Counting
 pub mod Inner
+pub mod CutThrough

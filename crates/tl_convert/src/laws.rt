@@ -2,6 +2,7 @@
 
 ghost use Rattle.tl_lanes.specs.Lanes.{IsWidth};
 ghost use Rattle.tl_convert.specs.Accepted.{AcceptedIsLongest};
+ghost use Rattle.tl_convert.specs.CutThrough.{CutThrough};
 ghost use Rattle.tl_convert.specs.Laws.{DueIsOne, DueGrows, DueIsHanded, DueIsLawful, DueHasNoFaults, LayoutSpells};
 
 use tl_msg::Channel;
@@ -19,6 +20,14 @@ pub fn due_grows<K: Channel, const W: usize, const V: usize>()
     requires near { IsWidth W }
     requires far { IsWidth V }
     ensures { DueGrows K.rules W V }
+{}
+
+/// Cut-through: a far beat is due as soon as the near beat that carries its last byte is accepted, and no sooner. It waits neither for
+/// the rest of its message nor for anything else.
+pub fn cut_through<K: Channel, const W: usize, const V: usize>()
+    requires near { IsWidth W }
+    requires far { IsWidth V }
+    ensures { CutThrough K.rules W V }
 {}
 
 /// The far layout of a message, lawful or not, brings that message, where in each far beat all bytes

@@ -22,6 +22,10 @@ pub record Outgoing (H : Type 0) (v : ℕ) : Type 0 where
 abbrev pub IsOpen : {H : Type 0} {v : ℕ} → Outgoing H v → Type 0
 IsOpen o = (o.stage ≡ []) × (o.closed ≡ false)
 
+-- no beat may be offered any more, and all that was made due was sent
+abbrev pub IsSentOut : {H : Type 0} {v : ℕ} → Outgoing H v → Type 0
+IsSentOut o = (o.closed ≡ true) × (o.stage ≡ [])
+
 -- beats that are lawful each by itself
 abbrev pub AreLawful : {H : Type 0} → Rules H → {v : ℕ} → List (BeatOf H v) → Type 0
 AreLawful r bs = All (λ b. IsLawfulBeat r b) bs

@@ -4,3 +4,4 @@ pub mod Ends
 pub mod Laws
 pub mod Names
 pub mod Pipe
+pub mod Soon

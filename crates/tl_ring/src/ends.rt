@@ -6,11 +6,11 @@ ghost use Rattle.tl_msg.specs.Faults.{IsLawfulBeat};
 ghost use Rattle.tl_msg.specs.declared.beat.BeatOf.{BeatOf};
 ghost use Rattle.tl_burst.specs.Handing.{IsAdmitted, rest_of, fault_after};
 ghost use Rattle.tl_ring.specs.Crossing.{World, offered, shut, inbox_room};
-ghost use Rattle.tl_ring.specs.Ends.{Sends, Takes, Pushed, Fetched, Shows, Shown, LookedAfter, IsReceiptOf, IsReceiptFor, Finishes, sending_of, known_free, known_items, passed, closing, took_first};
+ghost use Rattle.tl_ring.specs.Ends.{Sends, Takes, Pushed, Fetched, Shows, Shown, LookedAfter, IsReceiptOf, IsReceiptFor, Finishes, sending_of, taking_of, known_free, known_items, passed, closing, took_first};
 ghost use Rattle.tl_ring.specs.declared.queue.TheConstants.{ROOM};
 
 use crate::fault::EndFault;
-use crate::halves::{Intake, SendHalf, receive, send_staged};
+use crate::halves::{Intake, SendHalf, finish, is_drained, receive, send_staged};
 use crate::inbox::Inbox;
 use crate::lawful::LawfulAt;
 use crate::outbox::Outbox;
@@ -172,14 +172,8 @@ impl<K: Channel, const W: usize, const V: usize, A: Allocator> ClosingEnd<K, W, 
         ensures shows { (x : World K.Head W V) → Sends K.rules self x →
             IfSome result (λ receipt. Shows K.rules receipt x) }
     {
-        let ClosingEnd {
-            outbox: _,
-            producer,
-        } = self;
-        match producer.finish() {
-            Some(finished) => Some(Receipt { finished }),
-            None => None,
-        }
+        let ClosingEnd { outbox, producer } = self;
+        finish(outbox, producer)
     }
 }
 
@@ -187,7 +181,7 @@ impl<K: Channel, const W: usize, const V: usize, A: Allocator> ClosingEnd<K, W, 
 /// the thread of the taking end.
 #[derive(Drop)]
 pub struct Receipt<K: Channel, const W: usize, const V: usize, A: Allocator = Global> {
-    finished: Finished<Beat<K, V>, A, LawfulAt<K, V>>,
+    pub(crate) finished: Finished<Beat<K, V>, A, LawfulAt<K, V>>,
 }
 
 impl<K: Channel, const W: usize, const V: usize, A: Allocator> Model for Receipt<K, W, V, A> {
@@ -218,6 +212,13 @@ impl<K: Channel, const W: usize, const V: usize, A: Allocator> Model for TakeEnd
 }
 
 impl<K: Channel, const W: usize, const V: usize, A: Allocator> TakeEnd<K, W, V, A> {
+    /// The end over an inbox and its half of a ring.
+    pub fn over(inbox: Inbox<K, V>, intake: Intake<K, V, A>) -> Self
+        ensures { result ≡ taking_of inbox intake.half }
+    {
+        TakeEnd { inbox, intake }
+    }
+
     /// Moves beats from the ring to the inbox, in order, and answers their number. They are all
     /// that the inbox has room for, or as many as are there: no fewer than the end knows of. After
     /// a meeting it knows each beat that the ring holds.
@@ -257,9 +258,6 @@ impl<K: Channel, const W: usize, const V: usize, A: Allocator> TakeEnd<K, W, V, 
             Shows K.rules receipt.old x → Takes self.old taken →
             Shown K.rules receipt.new self.new x taken }
     {
-        let in_ring = self.intake.half.slots_after(&mut receipt.finished);
-        let waiting = self.inbox.len();
-        let ring_is_empty = in_ring == 0;
-        ring_is_empty & (waiting == 0)
+        is_drained(&mut self.intake, &self.inbox, receipt)
     }
 }

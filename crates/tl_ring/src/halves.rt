@@ -1,13 +1,15 @@
 //! The ring between two threads, by its halves, and what moves between these and an outbox or an inbox.
-ghost use Rattle.std.specs.Prelude.{◌≡◌, ◌≤◌, ◌<◌, ◌+◌, ◌-◌, ◌++◌, ◌↔◌, ◌⊎◌, List, length, min, drop, take, IsOk, IfOk, IfErr};
+ghost use Rattle.std.specs.Prelude.{◌≡◌, ◌≤◌, ◌<◌, ◌+◌, ◌-◌, ◌++◌, ◌↔◌, ◌⊎◌, [], List, true, length, min, drop, take, IsOk, IsTrue, IfOk, IfErr, IfSome};
 ghost use Rattle.rtrb.specs.Fifo.{EachAllowed};
 ghost use Rattle.rtrb.specs.Ring as rtrb;
 ghost use Rattle.tl_msg.specs.declared.beat.BeatOf.{BeatOf};
 ghost use Rattle.tl_ring.specs.Crossing.{World, inbox_room};
-ghost use Rattle.tl_ring.specs.Ends.{Sends, Takes, Pushed, Fetched, IsNewRing, sending_of, taking_of, passed};
+ghost use Rattle.tl_ring.specs.Ends.{Sends, Takes, Pushed, Fetched, IsNewRing, sending_of, taking_of, passed, known_items};
+ghost use Rattle.tl_ring.specs.Ends.{Finishes, IsReceiptFor, IsReceiptOf, LookedAfter, Shows, Shown};
 ghost use Rattle.tl_ring.specs.declared.pipe.TheConstants.{MAX_RING};
 ghost use Rattle.tl_ring.specs.declared.queue.TheConstants.{ROOM};
 
+use crate::ends::Receipt;
 use crate::fault::BuildFault;
 use crate::inbox::Inbox;
 use crate::lawful::LawfulAt;
@@ -146,4 +148,50 @@ pub fn look<T, A: Allocator, P: Protocol<T>>(
 {
     producer.slots_beside(consumer);
     consumer.slots_beside(producer)
+}
+
+/// Gives up the sending half of a ring with its outbox, which is closed and has nothing staged, and
+/// answers the receipt that shows the taking half all that was sent. On None there is no receipt, and
+/// what was sent can still be fetched. No contract says when None comes.
+pub fn finish<K: Channel, const W: usize, const V: usize, A: Allocator>(
+    outbox: Outbox<K, W, V>,
+    producer: SendHalf<K, V, A>,
+) -> Option<Receipt<K, W, V, A>>
+    requires { (outbox.stage ≡ []) × (outbox.closed ≡ true) }
+    ensures receipt { IfSome result (λ receipt. Finishes (sending_of outbox producer) receipt) }
+    // the taking half of the same ring may be asked with it
+    ensures taker { IfSome result (λ receipt. IsReceiptFor (sending_of outbox producer) receipt) }
+    // for every crossing that both stand for
+    ensures shows { (x : World K.Head W V) → Sends K.rules (sending_of outbox producer) x →
+        IfSome result (λ receipt. Shows K.rules receipt x) }
+{
+    match producer.finish() {
+        Some(finished) => Some(Receipt { finished }),
+        None => None,
+    }
+}
+
+/// Whether ring and inbox are empty, where the receipt is of the other half of the ring. What was
+/// taken, and then what stands in the inbox and the ring, is the far layout of all that was
+/// accepted: each beat once, in order; where both are empty, what was taken is that layout. The half
+/// then knows each beat that the ring holds. No beat moves.
+pub fn is_drained<K: Channel, const W: usize, const V: usize, A: Allocator>(
+    intake: &mut Intake<K, V, A>,
+    inbox: &Inbox<K, V>,
+    receipt: &mut Receipt<K, W, V, A>,
+) -> bool
+    requires { IsReceiptOf receipt.old (taking_of inbox.now intake.old.half) }
+    ensures looked { LookedAfter receipt.old (taking_of inbox.now intake.old.half) receipt.new
+        (taking_of inbox.now intake.new.half) }
+    ensures drained { IsTrue result ↔ ((inbox.now ≡ []) ×
+        (known_items (taking_of inbox.now intake.new.half) ≡ [])) }
+    // for every crossing that the receipt shows
+    ensures shown { (x : World K.Head W V) (taken : List (BeatOf K.Head V)) →
+        Shows K.rules receipt.old x → Takes (taking_of inbox.now intake.old.half) taken →
+        Shown K.rules receipt.new (taking_of inbox.now intake.new.half) x taken }
+{
+    let in_ring = intake.half.slots_after(&mut receipt.finished);
+    let waiting = inbox.len();
+    let ring_is_empty = in_ring == 0;
+    ring_is_empty & (waiting == 0)
 }

@@ -1,5 +1,6 @@
-//! The law of the crossing. It is the contract of a function that does nothing.
+//! The laws of the crossing. Each is the contract of a function that does nothing.
 ghost use Rattle.tl_ring.specs.Laws.{EveryRunCrosses};
+ghost use Rattle.tl_ring.specs.Soon.{HowSoon};
 
 use tl_msg::Channel;
 
@@ -9,4 +10,11 @@ use tl_msg::Channel;
 /// was taken is the whole layout of whole messages.
 pub fn every_run_crosses<K: Channel>()
     ensures { EveryRunCrosses K.rules }
+{}
+
+/// How soon far beats can be taken, counted in calls. If nothing is under way, one offer of the near beat that makes them due, one
+/// pump and one fetch bring them into the inbox, as many as ring and inbox have room for. Staged beats leave in as many pumps as
+/// they fill rings, if the ring is emptied before each.
+pub fn how_soon<K: Channel>()
+    ensures { HowSoon K.rules }
 {}

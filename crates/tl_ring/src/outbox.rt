@@ -4,7 +4,7 @@ ghost use Rattle.tl_lanes.specs.Lanes.{IsWidth};
 ghost use Rattle.tl_msg.specs.declared.beat.BeatOf.{BeatOf};
 ghost use Rattle.tl_burst.specs.Handing.{IsAdmitted, rest_of, fault_after, homes_with};
 ghost use Rattle.tl_burst.specs.Tracking.{IsPlaceOf};
-ghost use Rattle.tl_ring.specs.Boxes.{AreLawful, HasSent, IsOpen};
+ghost use Rattle.tl_ring.specs.Boxes.{AreLawful, HasSent, IsOpen, IsSentOut};
 ghost use Rattle.tl_ring.specs.declared.queue.TheConstants.{ROOM};
 
 use crate::fault::EndFault;
@@ -54,6 +54,13 @@ impl<K: Channel, const W: usize, const V: usize> Outbox<K, W, V> {
         ensures { IsTrue result ↔ IsOpen self.now }
     {
         (self.stage.len() == 0) & !self.closed
+    }
+
+    /// Whether the outbox is closed and nothing is staged.
+    pub fn is_sent_out(&self) -> bool
+        ensures { IsTrue result ↔ IsSentOut self.now }
+    {
+        (self.stage.len() == 0) & self.closed
     }
 
     /// How many far beats are staged.

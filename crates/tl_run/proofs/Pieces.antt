@@ -3,7 +3,7 @@ use Rattle.tl_run.proofs.Names.{◌≡◌, ◌≢◌, ◌+◌, ◌-◌, ◌*◌,
 use Rattle.tl_run.proofs.Names.{take, drop, min, refl, sym, ap, subst, ◌∙◌, arith, zero-le, length-append, IsOk, OnOk, OnErr, length-take-le}
 use Rattle.tl_run.proofs.Names.{nil_from_length, IsWidth, Rules, rules_a, rules_b, rules_c, rules_d, rules_e, BeatOf, SideFault, rest_of, World}
 use Rattle.tl_run.proofs.Names.{pushed, popped, Pipe, client_answer, manager_answer, Beats, PerChannel, Bridge, Past, StandsFor, IsStanding}
-use Rattle.tl_run.proofs.Names.{fetch_count, pump_count, after_fetch, after_pump, stops_alone, joined, no_beats, AreBetween, none_counted}
+use Rattle.tl_run.proofs.Names.{fetch_count, pump_count, after_fetch, after_pump, stops_alone, joined, AreBetween, none_counted}
 use Rattle.tl_run.proofs.Names.{HasShortLists, AreOn, AreStopsOf, HasStopped, IsStopOf, RestsIn, all_counts, all_ways, stop_by, way_in}
 use Rattle.tl_run.proofs.Names.{HaveRoomToCount, HasEnded, IsAt, IsSent, Stops, after_take_all, all_standing, all_under_way, arriving, emptied}
 use Rattle.tl_run.proofs.Names.{standing_count, under_way, Stop, Stopped}
@@ -14,7 +14,6 @@ use Rattle.tl_ring.specs.declared.queue.TheConstants.{ROOM}
 use Rattle.tl_ring.specs.declared.standing.Standing.{Standing}
 use Rattle.tl_trace.specs.declared.script.Script.{Script}
 use Rattle.tl_trace.specs.declared.script.Counts.{Counts}
-use Rattle.tl_run.specs.declared.streaming.SyncRun.{SyncRun}
 use Rattle.tl_run.proofs.ChannelOffer.{sent-passed}
 use Rattle.tl_run.proofs.ChannelRound.{none-or-some, size-behind, stage-full}
 use Rattle.tl_run.proofs.Counting.{few-enough, same-sums}

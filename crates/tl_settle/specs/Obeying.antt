@@ -24,9 +24,9 @@ module _ {w : ℕ} where
     pub requests : RequestsObey es
     pub responses : ResponsesObey es
 
--- Legal in, legal out, for a whole script. On each link there is an order of the beats of A and D that it carries, both those that were accepted
--- there and those that came out there, in which the link obeys the rules. And no far beat of B, C or E has a fault after those before it. So a
--- second bridge, whose near side is the far side of this one, refuses no beat that came out
+-- Legal in, legal out, for a whole script. On each link there is an order of the beats of A and D that it carries, both those that are accepted
+-- there and those that come out there, in which the link obeys the rules. And no far beat of B, C or E has a fault after those before it. So a
+-- second bridge behind this one is offered only beats that its rules allow
 pub record LinksObey {C M : ℕ} (near : Beats C M) : Type 0 where
   pub client : List (Event C)
   pub client_asked : asked client ≡ (accepted_beats near).a

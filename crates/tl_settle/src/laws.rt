@@ -58,8 +58,8 @@ pub fn every_run_obeys<const C: usize, const M: usize>()
 }
 
 /// Legal in, legal out, for a whole script of beats that memory can hold: what comes out on each link
-/// obeys the rules there, together with what that link's own side sends. So a second bridge of widths
-/// `M` and any other never refuses what comes out of this one.
+/// obeys the rules there, together with what that link's own side sends. So a second bridge behind this
+/// one, of widths `M` and any other, is offered only beats that its rules allow.
 pub fn links_obey<const C: usize, const M: usize>()
     requires client { IsWidth C }
     requires manager { IsWidth M }

@@ -12,6 +12,8 @@ use Rattle.tl_ring.specs.Pipe as piping
 use Rattle.tl_settle.specs.Books.{Client, Manager, KnowsClient, KnowsManager}
 use Rattle.tl_settle.specs.Inner.Noting.{begun_with}
 use Rattle.tl_settle.specs.Obeying.{ObeysRules}
+use Rattle.tl_sides.specs.ChannelCalls.{pumped, fetched}
+use Rattle.tl_sides.specs.Separate.{each_pumped, each_fetched}
 use Rattle.tl_sides.specs.Bridges.{Bridge, Past, StandsFor, pump_count, fetch_count, all_pumped, all_fetched, after_pump, after_fetch}
 use Rattle.tl_sides.proofs.Sums.{sum_most}
 
@@ -183,65 +185,71 @@ pub none_taken : {A : Type 0} (bs : List A) → slice_get bs 0 ≡ None → take
 none_taken [] e = refl
 none_taken (x ∷ bs) e = cc
 
--- what a pump of a crossing says, or a fetch, which moves n of its beats by `step`
-abbrev pub Moves : {H : Type 0} (r : Rules H) (w : ℕ) {v : ℕ} (p p' : Pipe H v) (result n : ℕ) (step : ℕ → World H w v → World H w v) → Type 0
-Moves {H} r w {v} p p' result n step = record {
+-- what a pump of a crossing says, or a fetch, which moves n of its beats by `step`, and so makes another pipe of it
+abbrev pub Moves : {H : Type 0} (r : Rules H) (w : ℕ) {v : ℕ} (p p' : Pipe H v) (result n : ℕ) (step : ℕ → World H w v → World H w v)
+    (next : Pipe H v → Pipe H v) → Type 0
+Moves {H} r w {v} p p' result n step next = record {
   count : result ≡ n;
   moved : (x : World H w v) → piping.StandsFor r p x → piping.StandsFor r p' (step result x);
   most : result ≤ ROOM;
+  is : p' ≡ next p;
 }
 
-pub moved_by : {H : Type 0} (r : Rules H) (w : ℕ) {v : ℕ} (p p' : Pipe H v) (result n : ℕ) (step : ℕ → World H w v → World H w v) →
-    Moves r w p p' result n step → (x : World H w v) → piping.StandsFor r p x → piping.StandsFor r p' (step n x)
-moved_by r w p p' result n step e x h = subst (λ k. piping.StandsFor r p' (step k x)) e.count (e.moved x h)
+pub moved_by : {H : Type 0} (r : Rules H) (w : ℕ) {v : ℕ} (p p' : Pipe H v) (result n : ℕ) (step : ℕ → World H w v → World H w v)
+    (next : Pipe H v → Pipe H v) →
+    Moves r w p p' result n step next → (x : World H w v) → piping.StandsFor r p x → piping.StandsFor r p' (step n x)
+moved_by r w p p' result n step next e x h = subst (λ k. piping.StandsFor r p' (step k x)) e.count (e.moved x h)
 
 module _ {C M : ℕ} where
   -- and what one of all five says
-  abbrev pub AllMove : (s s' : Bridge C M) (result total : ℕ) (next : Past C M → Past C M) → Type 0
-  AllMove s s' result total next = record {
+  abbrev pub AllMove : (s s' : Bridge C M) (result total : ℕ) (next : Past C M → Past C M) (each : Bridge C M → Bridge C M) → Type 0
+  AllMove s s' result total next each = record {
     count : result ≡ total;
     moved : (x : Past C M) → StandsFor s x → StandsFor s' (next x);
     most : result ≤ 5 * ROOM;
+    each : s' ≡ each s;
   }
 
   pub all_pushed : {inside s : Bridge C M} → inside ≡ s →
       (a : Pipe HeadA M) (b : Pipe HeadB C) (c : Pipe HeadC M) (d : Pipe HeadD C) (e : Pipe HeadE M)
-      (i j k l m : ℕ) → Moves rules_a C inside.a a i (pump_count inside.a) pushed → Moves rules_b M inside.b b j (pump_count inside.b) pushed →
-      Moves rules_c C inside.c c k (pump_count inside.c) pushed → Moves rules_d M inside.d d l (pump_count inside.d) pushed →
-      Moves rules_e C inside.e e m (pump_count inside.e) pushed →
-      AllMove s (record inside { a = a; b = b; c = c; d = d; e = e }) (i + j + k + l + m) (all_pumped s) (after_pump s)
+      (i j k l m : ℕ) → Moves rules_a C inside.a a i (pump_count inside.a) pushed pumped → Moves rules_b M inside.b b j (pump_count inside.b) pushed pumped →
+      Moves rules_c C inside.c c k (pump_count inside.c) pushed pumped → Moves rules_d M inside.d d l (pump_count inside.d) pushed pumped →
+      Moves rules_e C inside.e e m (pump_count inside.e) pushed pumped →
+      AllMove s (record inside { a = a; b = b; c = c; d = d; e = e }) (i + j + k + l + m) (all_pumped s) (after_pump s) each_pumped
   all_pushed {inside} view a b c d e i j k l m on_a on_b on_c on_d on_e =
-      subst (λ s. AllMove s (record inside { a = a; b = b; c = c; d = d; e = e }) (i + j + k + l + m) (all_pumped s) (after_pump s)) view (record {
+      subst (λ s. AllMove s (record inside { a = a; b = b; c = c; d = d; e = e }) (i + j + k + l + m) (all_pumped s) (after_pump s) each_pumped) view (record {
         count = λ t. on_a.count t + on_b.count t + on_c.count t + on_d.count t + on_e.count t;
         moved = λ x h. go_on inside x h a b c d e (pushed (pump_count inside.a) x.a) (pushed (pump_count inside.b) x.b)
             (pushed (pump_count inside.c) x.c)
             (pushed (pump_count inside.d) x.d) (pushed (pump_count inside.e) x.e)
-            (moved_by rules_a C inside.a a i (pump_count inside.a) pushed on_a x.a h.a)
-            (moved_by rules_b M inside.b b j (pump_count inside.b) pushed on_b x.b h.b)
-            (moved_by rules_c C inside.c c k (pump_count inside.c) pushed on_c x.c h.c)
-            (moved_by rules_d M inside.d d l (pump_count inside.d) pushed on_d x.d h.d)
-            (moved_by rules_e C inside.e e m (pump_count inside.e) pushed on_e x.e h.e)
+            (moved_by rules_a C inside.a a i (pump_count inside.a) pushed pumped on_a x.a h.a)
+            (moved_by rules_b M inside.b b j (pump_count inside.b) pushed pumped on_b x.b h.b)
+            (moved_by rules_c C inside.c c k (pump_count inside.c) pushed pumped on_c x.c h.c)
+            (moved_by rules_d M inside.d d l (pump_count inside.d) pushed pumped on_d x.d h.d)
+            (moved_by rules_e C inside.e e m (pump_count inside.e) pushed pumped on_e x.e h.e)
             (refl, refl) (refl, refl, refl);
         most = sum_most i j k l m on_a.most on_b.most on_c.most on_d.most on_e.most;
+        each = λ t. record inside { a = on_a.is t; b = on_b.is t; c = on_c.is t; d = on_d.is t; e = on_e.is t };
       })
 
   pub all_popped : {inside s : Bridge C M} → inside ≡ s →
       (a : Pipe HeadA M) (b : Pipe HeadB C) (c : Pipe HeadC M) (d : Pipe HeadD C) (e : Pipe HeadE M)
-      (i j k l m : ℕ) → Moves rules_a C inside.a a i (fetch_count inside.a) popped → Moves rules_b M inside.b b j (fetch_count inside.b) popped →
-      Moves rules_c C inside.c c k (fetch_count inside.c) popped → Moves rules_d M inside.d d l (fetch_count inside.d) popped →
-      Moves rules_e C inside.e e m (fetch_count inside.e) popped →
-      AllMove s (record inside { a = a; b = b; c = c; d = d; e = e }) (i + j + k + l + m) (all_fetched s) (after_fetch s)
+      (i j k l m : ℕ) → Moves rules_a C inside.a a i (fetch_count inside.a) popped fetched → Moves rules_b M inside.b b j (fetch_count inside.b) popped fetched →
+      Moves rules_c C inside.c c k (fetch_count inside.c) popped fetched → Moves rules_d M inside.d d l (fetch_count inside.d) popped fetched →
+      Moves rules_e C inside.e e m (fetch_count inside.e) popped fetched →
+      AllMove s (record inside { a = a; b = b; c = c; d = d; e = e }) (i + j + k + l + m) (all_fetched s) (after_fetch s) each_fetched
   all_popped {inside} view a b c d e i j k l m on_a on_b on_c on_d on_e =
-      subst (λ s. AllMove s (record inside { a = a; b = b; c = c; d = d; e = e }) (i + j + k + l + m) (all_fetched s) (after_fetch s)) view (record {
+      subst (λ s. AllMove s (record inside { a = a; b = b; c = c; d = d; e = e }) (i + j + k + l + m) (all_fetched s) (after_fetch s) each_fetched) view (record {
         count = λ t. on_a.count t + on_b.count t + on_c.count t + on_d.count t + on_e.count t;
         moved = λ x h. go_on inside x h a b c d e (popped (fetch_count inside.a) x.a) (popped (fetch_count inside.b) x.b)
             (popped (fetch_count inside.c) x.c)
             (popped (fetch_count inside.d) x.d) (popped (fetch_count inside.e) x.e)
-            (moved_by rules_a C inside.a a i (fetch_count inside.a) popped on_a x.a h.a)
-            (moved_by rules_b M inside.b b j (fetch_count inside.b) popped on_b x.b h.b)
-            (moved_by rules_c C inside.c c k (fetch_count inside.c) popped on_c x.c h.c)
-            (moved_by rules_d M inside.d d l (fetch_count inside.d) popped on_d x.d h.d)
-            (moved_by rules_e C inside.e e m (fetch_count inside.e) popped on_e x.e h.e)
+            (moved_by rules_a C inside.a a i (fetch_count inside.a) popped fetched on_a x.a h.a)
+            (moved_by rules_b M inside.b b j (fetch_count inside.b) popped fetched on_b x.b h.b)
+            (moved_by rules_c C inside.c c k (fetch_count inside.c) popped fetched on_c x.c h.c)
+            (moved_by rules_d M inside.d d l (fetch_count inside.d) popped fetched on_d x.d h.d)
+            (moved_by rules_e C inside.e e m (fetch_count inside.e) popped fetched on_e x.e h.e)
             (refl, refl) (refl, refl, refl);
         most = sum_most i j k l m on_a.most on_b.most on_c.most on_d.most on_e.most;
+        each = λ t. record inside { a = on_a.is t; b = on_b.is t; c = on_c.is t; d = on_d.is t; e = on_e.is t };
       })

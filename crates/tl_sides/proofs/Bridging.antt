@@ -11,6 +11,8 @@ use Rattle.tl_sides.specs.Bridges.{Bridge, Past, StandsFor, nothing_yet}
 use Rattle.tl_sides.specs.Bridges.{bridge_sends_a, bridge_sends_b, bridge_sends_c, bridge_sends_d, bridge_sends_e, bridge_takes_a, bridge_takes_b}
 use Rattle.tl_sides.specs.Bridges.{bridge_takes_c, bridge_takes_d, bridge_takes_e}
 use Rattle.tl_sides.specs.Bridges.{pump_count, fetch_count}
+use Rattle.tl_sides.specs.ChannelCalls as calls
+use Rattle.tl_sides.proofs.Passing.{is_pumped, is_fetched}
 use Rattle.tl_sides.proofs.BridgeSteps.{Moves, with_a, with_b, with_c, with_d, with_e, client_goes_on, manager_goes_on, homes_given, asked_answers}
 use Rattle.tl_sides.proofs.BridgeSteps.{answered_asks, homes_asks}
 use Rattle.tl_convert.proofs.Extends.{extends-refl}
@@ -282,20 +284,22 @@ module _ {H : Type 0} (r : Rules H) (masked : (h : H) → r.partial h ≡ true �
     (ring : Buffer (BeatOf H v)) (inbox : List (BeatOf H v)) (k : ℕ) where
   pub pumped : {o' : Outgoing H v} {ring' : Buffer (BeatOf H v)} → k ≡ min (length o.stage) (ring.capacity - length ring.items) →
       o' ≡ record o { stage = drop k o.stage } → ring' ≡ buffer (ring.items ++ take k o.stage) ring.capacity → k ≤ ROOM →
-      Moves r w (pipe_of o ring inbox) (pipe_of o' ring' inbox) k (pump_count (pipe_of o ring inbox)) pushed
+      Moves r w (pipe_of o ring inbox) (pipe_of o' ring' inbox) k (pump_count (pipe_of o ring inbox)) pushed calls.pumped
   pumped count rest grown most = record {
     count = count;
     moved = λ x h. rw (rest, grown) (stands_pushed r masked k (pipe_of o ring inbox) x (omega (arith, count)) h);
     most = most;
+    is = is_pumped o ring inbox k count rest grown;
   }
 
   pub fetched : {ring' : Buffer (BeatOf H v)} {inbox' : List (BeatOf H v)} → k ≡ min (length ring.items) (inbox_room - length inbox) →
       ring' ≡ buffer (drop k ring.items) ring.capacity → inbox' ≡ inbox ++ take k ring.items → k ≤ ROOM →
-      Moves r w (pipe_of o ring inbox) (pipe_of o ring' inbox') k (fetch_count (pipe_of o ring inbox)) popped
+      Moves r w (pipe_of o ring inbox) (pipe_of o ring' inbox') k (fetch_count (pipe_of o ring inbox)) popped calls.fetched
   fetched count left more most = record {
     count = count;
     moved = λ x h. rw (left, more) (stands_popped r masked k (pipe_of o ring inbox) x (omega (arith, count)) h);
     most = most;
+    is = is_fetched o ring inbox k count left more;
   }
 
 -- a new bridge

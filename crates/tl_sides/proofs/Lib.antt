@@ -12,3 +12,5 @@ pub mod Sums
 pub mod BridgeSize
 mod Layouts
 pub mod Legal
+pub mod Separate
+pub mod Finishing

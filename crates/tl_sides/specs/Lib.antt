@@ -9,3 +9,5 @@ pub mod Ends
 pub mod Sides
 pub mod Legal
 pub mod Inner
+pub mod Separate
+pub mod Receipts

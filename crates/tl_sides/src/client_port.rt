@@ -1,7 +1,7 @@
 //! The client's side, whatever carries its beats.
 ghost use Rattle.std.specs.Prelude.{◌≡◌, ◌↔◌, ◌++◌, [], map, IsTrue};
 ghost use Rattle.tl_lanes.specs.Lanes.{IsWidth};
-ghost use Rattle.tl_ring.specs.Boxes.{IsOpen};
+ghost use Rattle.tl_ring.specs.Boxes.{IsOpen, IsSentOut};
 ghost use Rattle.tl_settle.specs.Histories.{Answer};
 ghost use Rattle.tl_settle.specs.Books.{KnowsClient};
 ghost use Rattle.tl_sides.specs.Calls.{OffersBeat, ClosesChannel, TakesBeat};
@@ -174,6 +174,13 @@ impl<const C: usize, const M: usize, A: Allocator> ClientPort<C, M, A> {
         ensures { ClosesChannel port_sends_e self.old result self.new }
     {
         self.e.close()
+    }
+
+    /// Whether A, C and E are closed and nothing of them is staged.
+    pub fn is_sent_out(&self) -> bool
+        ensures { IsTrue result ↔ (IsSentOut self.now.a × IsSentOut self.now.c × IsSentOut self.now.e) }
+    {
+        self.a.is_sent_out() & self.c.is_sent_out() & self.e.is_sent_out()
     }
 
     // Lets the port go.

@@ -1,19 +1,21 @@
 //! The client's side of the bridge.
 ghost use Rattle.std.specs.Prelude.{◌≡◌, ◌+◌, ◌*◌, ◌≤◌, ◌↔◌, [], true, None, Some, length, slice_get, take, IsOk, IsTrue, IfErr, IfSome, OnOk, OnErr};
 ghost use Rattle.tl_lanes.specs.Lanes.{IsWidth};
-ghost use Rattle.tl_ring.specs.Ends.{as_pipe, closing, took_first};
+ghost use Rattle.tl_ring.specs.Ends.{LookedAfter, as_pipe, closing, took_first};
 ghost use Rattle.tl_ring.specs.Pipe.{IsReady};
 ghost use Rattle.tl_ring.specs.declared.queue.TheConstants.{ROOM};
 ghost use Rattle.tl_sides.specs.Calls.{OffersBeat, ClosesChannel, TakesBeat};
-ghost use Rattle.tl_sides.specs.Ends.{Pumps, Fetches, pump_count, fetch_count};
-ghost use Rattle.tl_sides.specs.Sides.{ClientPast, ClientStandsFor, client_pumps, client_takes_b, client_takes_d};
+ghost use Rattle.tl_sides.specs.Ends.{Pumps, Fetches, IsIdle, pump_count, fetch_count};
+ghost use Rattle.tl_sides.specs.Receipts.{ClientIsSentOut, ClientLeaves, LeftShowsClient, AreManagersReceipts, ShowsManager, ManagerIsShown};
+ghost use Rattle.tl_sides.specs.Sides.{ClientPast, ClientStandsFor, ManagerPast, ManagerState, AreSides, client_pumps, client_takes_b, client_takes_d};
 ghost use Rattle.tl_sides.specs.Sides.{side_sends_a, side_sends_c, side_sends_e, side_takes_b, side_takes_d};
 
 use crate::client_port::ClientPort;
+use crate::receipts::{FinishedClient, ManagerReceipt};
 use std::alloc::{Allocator, Global};
 use std::marker::Model;
 use tl_msg::{BeatOf, ChA, ChB, ChC, ChD, ChE, HeadA, HeadB, HeadC, HeadD, HeadE, SideFault};
-use tl_ring::{EndFault, Intake, SendHalf, receive, send_staged};
+use tl_ring::{EndFault, Intake, SendHalf, TakeEnd, finish, is_drained, receive, send_staged};
 
 /// The client's side of the bridge, on a bus of `C` bytes. It offers beats of A, C and E, and takes
 /// those of B and D.
@@ -205,5 +207,66 @@ impl<const C: usize, const M: usize, A: Allocator> ClientSide<C, M, A> {
         let b = receive(&mut self.b, &mut self.port.b);
         let d = receive(&mut self.d, &mut self.port.d);
         b + d
+    }
+
+    /// Whether the side may finish: A, C and E are closed, and nothing of them is staged.
+    pub fn is_sent_out(&self) -> bool
+        ensures { IsTrue result ↔ ClientIsSentOut self.now }
+    {
+        self.port.is_sent_out()
+    }
+
+    /// Ends the sending, once A, C and E are closed and nothing of them is staged. What still comes on B and D can be taken by
+    /// what is left of the side. Each receipt shows the manager's side all that was sent on its channel. On None there is none,
+    /// and what was sent can still be fetched. No contract says when None comes: it does if the other side is gone.
+    pub fn finish(self) -> FinishedClient<C, M, A>
+        requires { ClientIsSentOut self }
+        ensures takes { (result.b ≡ self.b) × (result.d ≡ self.d) }
+        // the other side of the same bridge may be asked with them
+        ensures taker { (t : ManagerState A C M) → AreSides self t → ClientLeaves result t }
+        // for every past that the side stands for
+        ensures shows { (x : ClientPast C M) → ClientStandsFor self x → LeftShowsClient result x }
+    {
+        let ClientSide {
+            port,
+            a,
+            b,
+            c,
+            d,
+            e,
+        } = self;
+        let ClientPort {
+            a: out_a,
+            b: in_b,
+            c: out_c,
+            d: in_d,
+            e: out_e,
+            book: _,
+        } = port;
+        FinishedClient {
+            a: finish(out_a, a),
+            b: TakeEnd::over(in_b, b),
+            c: finish(out_c, c),
+            d: TakeEnd::over(in_d, d),
+            e: finish(out_e, e),
+        }
+    }
+
+    /// Whether this side has taken all that the manager's side sent, whose receipt this is. What it took, and what stands in its
+    /// inboxes and in the rings, is the far layout of all that the other side's accepted beats made due, each beat once, in
+    /// order. The side then knows each beat that its rings hold. No beat moves.
+    pub fn drained(&mut self, receipt: &mut ManagerReceipt<C, M, A>) -> bool
+        requires { AreManagersReceipts receipt.old self.old }
+        ensures b { LookedAfter receipt.old.b self.old.b receipt.new.b self.new.b }
+        ensures d { LookedAfter receipt.old.d self.old.d receipt.new.d self.new.d }
+        ensures rest { self.new ≡ record self.old { b = self.new.b; d = self.new.d } }
+        ensures drained { IsTrue result ↔ (IsIdle self.new.b × IsIdle self.new.d) }
+        // for every past that the receipt shows, and every one that this side stands for
+        ensures shown { (y : ManagerPast C M) (x : ClientPast C M) → ShowsManager receipt.old y →
+            ClientStandsFor self.old x → ManagerIsShown receipt.new self.new y x }
+    {
+        let b = is_drained(&mut self.b, &self.port.b, &mut receipt.b);
+        let d = is_drained(&mut self.d, &self.port.d, &mut receipt.d);
+        b & d
     }
 }

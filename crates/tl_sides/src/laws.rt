@@ -3,6 +3,7 @@
 ghost use Rattle.tl_lanes.specs.Lanes.{IsWidth};
 ghost use Rattle.tl_sides.specs.Bridges.{Bridge, Past, StandsFor};
 ghost use Rattle.tl_sides.specs.Legal.{BothLinksObey, SidesObey};
+ghost use Rattle.tl_sides.specs.Separate.{NoChannelBlocks};
 
 use std::alloc::Allocator;
 use tl_convert::laws::due_has_no_faults;
@@ -34,3 +35,11 @@ pub fn sides_obey<const C: usize, const M: usize, A: Allocator>()
     due_has_no_faults::<ChC, C, M>();
     due_has_no_faults::<ChE, C, M>();
 }
+
+/// No channel blocks another. Whether a beat of a channel may be offered, and what a pump and a fetch do on
+/// it, goes by that channel's own stage, ring and inbox, whatever the other four hold. So a response is
+/// never held back by a request. (That a source is busy, or a request not yet taken, is a rule of the
+/// link: it refuses a beat of A or D, and holds up none that was accepted.)
+pub fn no_channel_blocks_another<const C: usize, const M: usize, A: Allocator>()
+    ensures { NoChannelBlocks A C M }
+{}

@@ -26,6 +26,7 @@ mod manager_side;
 mod noting;
 mod offering;
 mod per_channel;
+mod receipts;
 mod sides;
 mod sync_bridge;
 
@@ -35,5 +36,6 @@ pub use client_side::ClientSide;
 pub use manager_port::ManagerPort;
 pub use manager_side::ManagerSide;
 pub use per_channel::PerChannel;
+pub use receipts::{ClientReceipt, FinishedClient, FinishedManager, ManagerReceipt};
 pub use sides::{bridge, meet_sides};
 pub use sync_bridge::{Standings, SyncBridge};

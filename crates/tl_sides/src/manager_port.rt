@@ -1,7 +1,7 @@
 //! The manager's side, whatever carries its beats.
 ghost use Rattle.std.specs.Prelude.{◌≡◌, ◌↔◌, ◌++◌, [], map, IsTrue};
 ghost use Rattle.tl_lanes.specs.Lanes.{IsWidth};
-ghost use Rattle.tl_ring.specs.Boxes.{IsOpen};
+ghost use Rattle.tl_ring.specs.Boxes.{IsOpen, IsSentOut};
 ghost use Rattle.tl_settle.specs.Histories.{Ask};
 ghost use Rattle.tl_settle.specs.Books.{KnowsManager};
 ghost use Rattle.tl_sides.specs.Calls.{OffersBeat, ClosesChannel, TakesBeat};
@@ -161,6 +161,13 @@ impl<const C: usize, const M: usize, A: Allocator> ManagerPort<C, M, A> {
         ensures { ClosesChannel port_sends_d self.old result self.new }
     {
         self.d.close()
+    }
+
+    /// Whether B and D are closed and nothing of them is staged.
+    pub fn is_sent_out(&self) -> bool
+        ensures { IsTrue result ↔ (IsSentOut self.now.b × IsSentOut self.now.d) }
+    {
+        self.b.is_sent_out() & self.d.is_sent_out()
     }
 
     // Lets the port go.

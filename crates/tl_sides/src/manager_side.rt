@@ -1,19 +1,21 @@
 //! The manager's side of the bridge.
 ghost use Rattle.std.specs.Prelude.{◌≡◌, ◌+◌, ◌*◌, ◌≤◌, ◌↔◌, [], true, None, Some, length, slice_get, take, IsOk, IsTrue, IfErr, IfSome, OnOk, OnErr};
 ghost use Rattle.tl_lanes.specs.Lanes.{IsWidth};
-ghost use Rattle.tl_ring.specs.Ends.{as_pipe, closing, took_first};
+ghost use Rattle.tl_ring.specs.Ends.{LookedAfter, as_pipe, closing, took_first};
 ghost use Rattle.tl_ring.specs.Pipe.{IsReady};
 ghost use Rattle.tl_ring.specs.declared.queue.TheConstants.{ROOM};
 ghost use Rattle.tl_sides.specs.Calls.{OffersBeat, ClosesChannel, TakesBeat};
-ghost use Rattle.tl_sides.specs.Ends.{Pumps, Fetches, pump_count, fetch_count};
-ghost use Rattle.tl_sides.specs.Sides.{ManagerPast, ManagerStandsFor, manager_pumps, manager_takes_a, manager_takes_c, manager_takes_e};
+ghost use Rattle.tl_sides.specs.Ends.{Pumps, Fetches, IsIdle, pump_count, fetch_count};
+ghost use Rattle.tl_sides.specs.Receipts.{ManagerIsSentOut, ManagerLeaves, LeftShowsManager, AreClientsReceipts, ShowsClient, ClientIsShown};
+ghost use Rattle.tl_sides.specs.Sides.{ManagerPast, ManagerStandsFor, ClientPast, ClientState, AreSides, manager_pumps, manager_takes_a, manager_takes_c, manager_takes_e};
 ghost use Rattle.tl_sides.specs.Sides.{side_sends_b, side_sends_d, side_takes_a, side_takes_c, side_takes_e};
 
 use crate::manager_port::ManagerPort;
+use crate::receipts::{ClientReceipt, FinishedManager};
 use std::alloc::{Allocator, Global};
 use std::marker::Model;
 use tl_msg::{BeatOf, ChA, ChB, ChC, ChD, ChE, HeadA, HeadB, HeadC, HeadD, HeadE, SideFault};
-use tl_ring::{EndFault, Intake, SendHalf, receive, send_staged};
+use tl_ring::{EndFault, Intake, SendHalf, TakeEnd, finish, is_drained, receive, send_staged};
 
 /// The manager's side of the bridge, on a bus of `M` bytes. It offers beats of B and D, and takes
 /// those of A, C and E.
@@ -197,5 +199,69 @@ impl<const C: usize, const M: usize, A: Allocator> ManagerSide<C, M, A> {
         let c = receive(&mut self.c, &mut self.port.c);
         let e = receive(&mut self.e, &mut self.port.e);
         a + c + e
+    }
+
+    /// Whether the side may finish: B and D are closed, and nothing of them is staged.
+    pub fn is_sent_out(&self) -> bool
+        ensures { IsTrue result ↔ ManagerIsSentOut self.now }
+    {
+        self.port.is_sent_out()
+    }
+
+    /// Ends the sending, once B and D are closed and nothing of them is staged. What still comes on A, C and E can be taken by
+    /// what is left of the side. Each receipt shows the client's side all that was sent on its channel. On None there is none,
+    /// and what was sent can still be fetched. No contract says when None comes: it does if the other side is gone.
+    pub fn finish(self) -> FinishedManager<C, M, A>
+        requires { ManagerIsSentOut self }
+        ensures takes { (result.a ≡ self.a) × (result.c ≡ self.c) × (result.e ≡ self.e) }
+        // the other side of the same bridge may be asked with them
+        ensures taker { (s : ClientState A C M) → AreSides s self → ManagerLeaves result s }
+        // for every past that the side stands for
+        ensures shows { (y : ManagerPast C M) → ManagerStandsFor self y → LeftShowsManager result y }
+    {
+        let ManagerSide {
+            port,
+            a,
+            b,
+            c,
+            d,
+            e,
+        } = self;
+        let ManagerPort {
+            a: in_a,
+            b: out_b,
+            c: in_c,
+            d: out_d,
+            e: in_e,
+            book: _,
+        } = port;
+        FinishedManager {
+            a: TakeEnd::over(in_a, a),
+            b: finish(out_b, b),
+            c: TakeEnd::over(in_c, c),
+            d: finish(out_d, d),
+            e: TakeEnd::over(in_e, e),
+        }
+    }
+
+    /// Whether this side has taken all that the client's side sent, whose receipt this is. What it took, and what stands in its
+    /// inboxes and in the rings, is the far layout of all that the other side's accepted beats made due, each beat once, in
+    /// order. The side then knows each beat that its rings hold. No beat moves.
+    pub fn drained(&mut self, receipt: &mut ClientReceipt<C, M, A>) -> bool
+        requires { AreClientsReceipts receipt.old self.old }
+        ensures a { LookedAfter receipt.old.a self.old.a receipt.new.a self.new.a }
+        ensures c { LookedAfter receipt.old.c self.old.c receipt.new.c self.new.c }
+        ensures e { LookedAfter receipt.old.e self.old.e receipt.new.e self.new.e }
+        ensures rest { self.new ≡
+            record self.old { a = self.new.a; c = self.new.c; e = self.new.e } }
+        ensures drained { IsTrue result ↔ (IsIdle self.new.a × IsIdle self.new.c × IsIdle self.new.e) }
+        // for every past that the receipt shows, and every one that this side stands for
+        ensures shown { (x : ClientPast C M) (y : ManagerPast C M) → ShowsClient receipt.old x →
+            ManagerStandsFor self.old y → ClientIsShown receipt.new self.new x y }
+    {
+        let a = is_drained(&mut self.a, &self.port.a, &mut receipt.a);
+        let c = is_drained(&mut self.c, &self.port.c, &mut receipt.c);
+        let e = is_drained(&mut self.e, &self.port.e, &mut receipt.e);
+        a & c & e
     }
 }

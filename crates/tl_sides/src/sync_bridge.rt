@@ -10,6 +10,7 @@ ghost use Rattle.tl_settle.specs.Books.{KnowsClient, KnowsManager};
 ghost use Rattle.tl_sides.specs.Bridges.{bridge_sends_a, bridge_sends_b, bridge_sends_c, bridge_sends_d, bridge_sends_e};
 ghost use Rattle.tl_sides.specs.Bridges.{bridge_takes_a, bridge_takes_b, bridge_takes_c, bridge_takes_d, bridge_takes_e};
 ghost use Rattle.tl_sides.specs.Calls.{OffersBeat, ClosesChannel, TakesBeat};
+ghost use Rattle.tl_sides.specs.Separate.{each_pumped, each_fetched};
 
 use crate::client_port::ClientPort;
 use crate::making::{Parts, new_parts};
@@ -296,6 +297,8 @@ impl<const C: usize, const M: usize, A: Allocator> SyncBridge<C, M, A> {
         ensures moved { (x : Past C M) → StandsFor self.old x →
             StandsFor self.new (after_pump self.old x) }
         ensures most { result ≤ 5 * ROOM }
+        // on each channel by that channel alone
+        ensures each { self.new ≡ each_pumped self.old }
     {
         let a = pump(&mut self.client.a, &mut self.a);
         let b = pump(&mut self.manager.b, &mut self.b);
@@ -312,6 +315,8 @@ impl<const C: usize, const M: usize, A: Allocator> SyncBridge<C, M, A> {
         ensures moved { (x : Past C M) → StandsFor self.old x →
             StandsFor self.new (after_fetch self.old x) }
         ensures most { result ≤ 5 * ROOM }
+        // on each channel by that channel alone
+        ensures each { self.new ≡ each_fetched self.old }
     {
         let a = fetch(&mut self.a, &mut self.manager.a);
         let b = fetch(&mut self.b, &mut self.client.b);

@@ -14,7 +14,7 @@ use std::alloc::{AllocError, Global};
 use tl_order::{MAX_RING, MAX_TURNS, Order};
 
 /// The program's version.
-const VERSION: &str = "0.1.0";
+const VERSION: &str = "0.6.0";
 
 /// What a command line asks for.
 #[derive(Clone, Copy, Debug, PartialEq, Eq)]

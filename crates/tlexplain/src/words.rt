@@ -6,7 +6,7 @@ use std::alloc::{AllocError, Global};
 use tl_explain::{Choice, Look};
 
 /// The program's version.
-const VERSION: &str = "0.1.0";
+const VERSION: &str = "0.6.0";
 
 /// What the program does, as the help says it.
 const ABOUT: &str =

@@ -1,16 +1,9 @@
 -- What each side notes of the beats that it takes. Only contracts of private functions cite these words.
-use Rattle.std.specs.Prelude.{◌≡◌, ◌≤◌, ◌+◌, ◌*◌, ◌^◌, ◌++◌, ℕ, Option, List, [], ◌∷◌, length, map, take, drop}
-use Rattle.tl_lanes.specs.declared.limits.TheConstants.{WIDEST}
-use Rattle.tl_msg.specs.Rules.{Rules}
+use Rattle.std.specs.Prelude.{◌≡◌, ◌++◌, ℕ, List, [], ◌∷◌, length, map}
 use Rattle.tl_msg.specs.declared.head.HeadA.{HeadA}
 use Rattle.tl_msg.specs.declared.head.HeadD.{HeadD}
 use Rattle.tl_msg.specs.declared.beat.BeatOf.{BeatOf}
-use Rattle.tl_burst.specs.Handing.{IsHanded, burst_after}
-use Rattle.tl_convert.specs.Due.{due}
-use Rattle.tl_convert.specs.Accepted.{accepted_of, accepted_after}
-use Rattle.tl_settle.specs.Histories.{Event, Ask, Answer, asked, answered}
-use Rattle.tl_settle.specs.Rounds.{Run}
-use Rattle.tl_settle.specs.Settling.{far_a, far_d}
+use Rattle.tl_settle.specs.Histories.{Event, Ask, Answer}
 use Rattle.tl_settle.specs.Books.{Client, Manager, KnowsClient, KnowsManager}
 pub use Rattle.tl_check.specs.Places.{AreAt, HasCome, IsWithin}
 

@@ -1,5 +1,5 @@
 -- What each channel of a run does within a round. Only contracts within the two runs cite these words.
-use Rattle.std.specs.Prelude.{◌≡◌, ◌≢◌, ◌+◌, ◌≤◌, ◌<◌, ◌^◌, ◌⊎◌, ◌++◌, ℕ, true, Option, None, Some, List, [], length, map, take, drop, slice_get}
+use Rattle.std.specs.Prelude.{◌≡◌, ◌≢◌, ◌+◌, ◌≤◌, ◌<◌, ◌^◌, ◌⊎◌, ◌++◌, ℕ, Option, None, Some, List, [], length, map, slice_get}
 use Rattle.tl_msg.specs.Rules.{Rules}
 use Rattle.tl_msg.specs.Tables.{rules_a, rules_b, rules_c, rules_d, rules_e}
 use Rattle.tl_msg.specs.declared.head.HeadA.{HeadA}
@@ -12,17 +12,14 @@ use Rattle.tl_msg.specs.declared.fault.SideFault.{SideFault}
 use Rattle.tl_msg.specs.declared.fault.SideFault.TheVariants.{Beat, SourceBusy, NoRequest, SizeMismatch}
 use Rattle.tl_msg.specs.declared.verdict.Verdict.{Verdict}
 use Rattle.tl_msg.specs.declared.verdict.Verdict.TheVariants as ending
-use Rattle.tl_burst.specs.Begun.{heads}
 use Rattle.tl_burst.specs.Handing.{rest_of}
-use Rattle.tl_convert.specs.Accepted.{accepted_of, accepted_after}
 use Rattle.tl_ring.specs.Crossing.{World}
 use Rattle.tl_ring.specs.declared.standing.Standing.{Standing}
 use Rattle.tl_settle.specs.Histories.{Ask, Answer, client_answer, manager_answer, manager_home}
-use Rattle.tl_settle.specs.Rounds.{Run}
 use Rattle.tl_settle.specs.Outcomes.{Beats}
 use Rattle.tl_sides.specs.declared.per_channel.PerChannel.{PerChannel}
 use Rattle.tl_sides.specs.Crossings.{stops_alone}
-use Rattle.tl_sides.specs.Bridges.{Bridge, Past, StandsFor, nothing_yet}
+use Rattle.tl_sides.specs.Bridges.{Bridge, Past, StandsFor}
 pub use Rattle.tl_sides.specs.ChannelCalls.{emptied, after_take_all}
 pub use Rattle.tl_run.specs.Running.{IsAt, IsHomed, IsNew, IsRunning, IsSent, IsUnderWay, all_under_way, lengths, under_way}
 use Rattle.tl_offer.specs.Offering.{Does, steps}

@@ -57,10 +57,10 @@ returns-in-Some g c =
       manager_passed = λ n passed. passed-on (λ k. g.H.Gate.HasPassed k c.round.new.manager_gate) n c.rounds.rounds
           (c.round.ensures.manager_passed (n + c.rounds.rounds) (c.rounds.invariant.manager_passed n passed));
       ended = met-ended near c.round.result.0.at (beats_of (taken_of c.round.new.client c.round.new.manager)) c.round.new.client.side
-    c.round.new.manager.side h.met c.in-Some.stops (c.rounds.rounds + 1)
-    (subst (λ o. AllStop near c.round.result.0.at
-    (past_of c.round.new.client.side c.round.new.manager.side h.met.client h.met.manager) o) c.in-Some.ensures.stops h.stops)
-    (sym h.standing ∙ c.in-Some.ensures.rests) (last-one _ _ _ c.rounds.invariant.few h.keeps);
+          c.round.new.manager.side h.met c.in-Some.stops (c.rounds.rounds + 1)
+          (subst (λ o. AllStop near c.round.result.0.at
+          (past_of c.round.new.client.side c.round.new.manager.side h.met.client h.met.manager) o) c.in-Some.ensures.stops h.stops)
+          (sym h.standing ∙ c.in-Some.ensures.rests) (last-one _ _ _ c.rounds.invariant.few h.keeps);
     }
 
 -- a round that is not the last one

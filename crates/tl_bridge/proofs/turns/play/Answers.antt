@@ -33,7 +33,7 @@ returns g c = record { played = c.turns.invariant.0; passed = c.pass.ensures.pas
 pub returns-then-not-last : goal.returns-then-not-last
 returns-then-not-last g c = let i = c.turns.invariant in record {
   played = played-then g.S.PlaysRounds.playing (near_beats c.args.script.now) c.args.at.now c.args.side.now c.turns.side c.turn-last.new.self c.turns.played
-    c.turn-last.result c.then-played.result i.0 i.1
-    c.turn-last.ensures c.then-played.ensures.at c.then-played.ensures.offers c.then-played.ensures.moved;
+      c.turn-last.result c.then-played.result i.0 i.1
+      c.turn-last.ensures c.then-played.ensures.at c.then-played.ensures.offers c.then-played.ensures.moved;
   passed = c.pass.ensures.passed;
 }
