@@ -1,4 +1,4 @@
-/* A PutFullData of 16 bytes from a client of 8 lanes to a manager of 4, as in examples/cache_line_write.trace but shorter. */
+/* A PutFullData of 16 bytes from a client of 8 lanes to a manager of 4, and its response. */
 #include "tlbridge.h"
 #include <inttypes.h>
 #include <stdio.h>
@@ -21,6 +21,13 @@ int main(void) {
     uint8_t fault = tl_8_4_offer_a(&client, &put, near);
     tl_8_4_answer_text(fault, &text);
     printf("the same source again: %d %s: %s\n", fault, text.name, text.sentence);
+
+    /* the response; then nothing may be left anywhere */
+    tl_beat ack = {.source = 7, .opcode = 0, .size = 4};
+    if (tl_8_4_offer_d(&manager, &ack, far) != TL_OK || tl_8_4_settle(&client, &manager, &waiting) != TL_OK) return 1;
+    if (tl_8_4_take_d(&client, &got, near)) printf("the client gets AccessAck of source %d\n", got.source);
+    if (tl_8_4_settle(&client, &manager, &waiting) != TL_OK) return 1;
+    printf("all beats were taken: %s\n", tl_drained(&waiting) ? "yes" : "no");
     tl_8_4_free_client(&client);
     tl_8_4_free_manager(&manager);
     return 0;
