@@ -1,46 +1,58 @@
-# Builds and installs the programs and the C library. What needs a proof is proved before it is built, by the Rattle toolchain's command
-# `rt`, and is kept: what did not change is not proved again.
+# Builds, tests and installs the programs and the C library. What needs a proof is proved before it is built, by the Rattle toolchain's
+# command `rt`, and is kept: what did not change is not proved again.
 #
 #   make programs                                   tlbridge and tlexplain
 #   make library C=8 M=4                            out/libtlbridge_8_4.a, for a client's link of 8 bytes and a manager's of 4
-#   make install PREFIX=.. [DESTDIR=..] [PAIRS=..]  programs, headers, library, pkg-config and CMake files, SystemVerilog, Python, examples,
-#                                                   documents, man pages, completion for bash
-#   make dist [PAIRS=..]                            the same tree as an archive in out/, to be unpacked anywhere
+#   make test                                       tests the programs and libraries that are built, the scripts and the documents: no proof
+#   make install PREFIX=.. [DESTDIR=..] [PAIRS=..]  the files that need no proof, then the library, then the programs, each once it is ready
+#   make install-files PREFIX=.. [DESTDIR=..]       what needs no proof and no `rt`: SystemVerilog, Python, the unverified model, headers,
+#                                                   examples, documents, man pages, completion for bash
+#   make dist [PAIRS=..]                            the installed tree as an archive in out/, to be unpacked anywhere
 #
-# PAIRS are the pairs of widths that the installed library has, as PAIRS="8:4 4:8"; 8:4 where they are left out. PROGRAMS=no leaves out the
+# PAIRS are the pairs of widths of the installed library, for example PAIRS="8:4 4:8"; 8:4 if they are left out. PROGRAMS=no leaves out the
 # programs, whose proofs take longest.
 
 override PREFIX := $(or $(PREFIX),/usr/local)
 PAIRS ?= 8:4
 PROGRAMS ?= yes
 CFLAGS ?= -O2
-VERSION := $(shell sed -n 's/^.define TL_VERSION \([0-9]*\)$$/\1/p' include/tlbridge.h)
+# The version of the project; and of the library's interface, which its SONAME has.
+VERSION := $(shell sed -n 1p VERSION)
+INTERFACE := $(shell sed -n 's/^.define TL_VERSION \([0-9]*\)$$/\1/p' include/tlbridge.h)
 
 underscored := $(subst :,_,$(PAIRS))
-archives := $(underscored:%=out/libtlbridge_%.a) out/libtlbridge_trace.a
+pair_archives := $(underscored:%=out/libtlbridge_%.a)
+archives := $(pair_archives) out/libtlbridge_trace.a
 proved := crates.txt bench/make-library $(shell find $(wildcard crates/*/src crates/*/specs crates/*/proofs) -type f)
 root := $(DESTDIR)$(PREFIX)
 share := $(root)/share/tlbridge
+again = $(MAKE) --no-print-directory
 
-.PHONY: help programs library install install-programs dist FORCE
+.PHONY: help programs library test install install-files install-pairs install-library install-tlbridge install-tlexplain dist FORCE
 .DELETE_ON_ERROR:
 
 help:
 	@sed -n '1,/^$$/s/^# \{0,1\}//p' Makefile
 
+program_of = ./$(1) --version || { command -v rt > /dev/null || \
+	echo "make: rt is not in PATH: it is the command of the Rattle toolchain, which README.md names" >&2; exit 1; }
+
 programs:
-	./tlbridge --version && ./tlexplain --version || { command -v rt > /dev/null || \
-		echo "make: rt is not in PATH: it is the command of the Rattle toolchain, which README.md names" >&2; exit 1; }
+	$(call program_of,tlbridge)
+	$(call program_of,tlexplain)
 
 library:
 	@[ -n "$(C)" ] && [ -n "$(M)" ] || { echo "make: give both widths, as make library C=8 M=4" >&2; exit 1; }
-	@$(MAKE) --no-print-directory out/libtlbridge_$(C)_$(M).a
+	+@$(again) out/libtlbridge_$(C)_$(M).a
+
+test:
+	@tests/all $(if $(filter both,$(BUILDS)),--both-builds)
 
 out/libtlbridge_%.a: $(proved)
 	bench/make-library $(subst _, ,$*)
 
 # One library of all pairs, the answer to a trace, the scoreboard, and what the SystemVerilog package imports. The list of pairs is written
-# anew where it is another one.
+# anew if it is another one.
 out/pairs: FORCE
 	@mkdir -p out
 	@echo "$(underscored)" | cmp -s - $@ || echo "$(underscored)" > $@
@@ -55,40 +67,68 @@ out/libtlbridge.a: $(archives) $(glue)
 	$(AR) rcs $@ out/objects/*.o $(glue)
 
 out/libtlbridge.so: out/libtlbridge.a
-	$(CC) -shared -o $@ -Wl,-soname,libtlbridge.so.$(VERSION) out/objects/*.o $(glue)
+	$(CC) -shared -o $@ -Wl,-soname,libtlbridge.so.$(INTERFACE) out/objects/*.o $(glue)
 
-fill = sed -e 's|@VERSION@|$(VERSION)|' -e 's|@PAIRS@|$(PAIRS)|'
+# One step after another, so that each part is in place before the next proof begins.
+install:
+	+@$(again) install-files
+	+@$(again) install-pairs
+	+@$(again) install-library
+ifeq ($(PROGRAMS),yes)
+	+@$(again) install-tlbridge
+	+@$(again) install-tlexplain
+endif
 
-install: out/libtlbridge.a out/libtlbridge.so $(if $(filter yes,$(PROGRAMS)),install-programs)
-	install -d $(root)/include $(root)/lib/pkgconfig $(root)/lib/cmake/tlbridge $(share)/sv $(share)/python/tlbridge $(root)/bin
+fill = sed -e 's|@VERSION@|$(VERSION)|' -e 's|@INTERFACE@|$(INTERFACE)|' -e 's|@PAIRS@|$(PAIRS)|' -e 's|@MACROS@|$(underscored:%=-DTLBRIDGE_%)|' -e 's|^\(\.TH .*"tlbridge\)"|\1 $(VERSION)"|'
+commands := tlbridge tlexplain tlbridge-compare $(filter-out tlbridge-compare,$(wildcard tlbridge-*))
+
+# share/tlbridge has the folders of this repository, so that the links of its pages lead to the same places.
+install-files:
+	install -d $(root)/include $(root)/bin $(share)/sv $(share)/python
 	install -m 644 include/tlbridge.h include/tlbridge_scoreboard.h $(root)/include
+	install -m 644 sv/*.sv sv/tlbridge_dpi.c sv/tlbridge_calls.h $(share)/sv
+	install -m 755 sv/prove $(share)/sv
+	install -m 755 sv/compare $(root)/bin/tlbridge-compare
+	install -m 755 $(wildcard tlbridge-*) $(root)/bin
+	install -m 644 python/pyproject.toml python/backend.py $(share)/python
+	rm -rf $(share)/python/tlbridge && cp -R python/tlbridge $(share)/python
+	find $(share)/python -name __pycache__ -prune -exec rm -rf {} +
+	install -d $(root)/share/man/man1 $(root)/share/bash-completion/completions
+	for page in packaging/*.1; do $(fill) "$$page" > $(root)/share/man/man1/"$${page##*/}" || exit 1; done
+	for name in $(commands); do \
+		install -m 644 packaging/completion.bash $(root)/share/bash-completion/completions/$$name || exit 1; done
+	for folder in examples docs $(wildcard rtl); do \
+		rm -rf $(share)/$$folder && cp -R $$folder $(share)/$$folder || exit 1; done
+	install -m 644 README.md VERSION $(wildcard CHANGELOG.md) $(share)
+	ln -sfn ../../include $(share)/include
+	chmod -R u+rwX,go+rX-w $(share) $(root)/share/man/man1/tlbridge*.1 $(root)/share/man/man1/tlexplain.1
+	scripts/cut-links $(share)
+	install -d $(root)/share/doc && rm -rf $(root)/share/doc/tlbridge && ln -s ../tlbridge $(root)/share/doc/tlbridge
+
+# The archive of each pair by itself, which is ready first.
+install-pairs: $(underscored:%=install-pair-%)
+install-pair-%: out/libtlbridge_%.a
+	install -d $(root)/lib
+	install -m 644 $< $(root)/lib
+
+install-library: out/libtlbridge.a out/libtlbridge.so
+	install -d $(root)/lib/pkgconfig $(root)/lib/cmake/tlbridge
 	install -m 644 out/libtlbridge.a $(root)/lib
-	install -m 755 out/libtlbridge.so $(root)/lib/libtlbridge.so.$(VERSION)
-	ln -sf libtlbridge.so.$(VERSION) $(root)/lib/libtlbridge.so
+	install -m 755 out/libtlbridge.so $(root)/lib/libtlbridge.so.$(INTERFACE)
+	ln -sf libtlbridge.so.$(INTERFACE) $(root)/lib/libtlbridge.so
 	$(fill) packaging/tlbridge.pc > $(root)/lib/pkgconfig/tlbridge.pc
 	$(fill) packaging/tlbridgeConfig.cmake > $(root)/lib/cmake/tlbridge/tlbridgeConfig.cmake
 	$(fill) packaging/tlbridgeConfigVersion.cmake > $(root)/lib/cmake/tlbridge/tlbridgeConfigVersion.cmake
-	install -m 644 sv/*.sv sv/tlbridge_dpi.c sv/tlbridge_calls.h $(share)/sv
-	install -m 755 sv/compare $(root)/bin/tlbridge-compare
-	install -m 644 python/pyproject.toml python/backend.py $(share)/python
-	install -m 644 python/tlbridge/*.py python/tlbridge/py.typed $(share)/python/tlbridge
-	install -d $(root)/share/man/man1 $(root)/share/bash-completion/completions
-	install -m 644 packaging/*.1 $(root)/share/man/man1
-	for name in tlbridge tlexplain tlbridge-compare; do \
-		install -m 644 packaging/completion.bash $(root)/share/bash-completion/completions/$$name || exit 1; done
-	rm -rf $(share)/examples && mkdir $(share)/examples
-	cp -R examples/. $(share)/examples
-	install -d $(root)/share/doc/tlbridge/docs
-	install -m 644 README.md $(root)/share/doc/tlbridge
-	install -m 644 docs/*.md $(wildcard docs/*.svg) $(root)/share/doc/tlbridge/docs
+	chmod 644 $(root)/lib/pkgconfig/tlbridge.pc $(root)/lib/cmake/tlbridge/*
 
-install-programs: programs
+install-tlbridge install-tlexplain: install-%:
+	$(call program_of,$*)
 	install -d $(root)/bin
-	install -m 755 crates/tlbridge/out/tlbridge crates/tlexplain/out/tlexplain $(root)/bin
+	install -m 755 crates/$*/out/$* $(root)/bin
 
 packed := out/tlbridge-$(VERSION)-$(shell uname -s -m | tr 'A-Z ' 'a-z-').tar.gz
 dist:
 	rm -rf out/dist
-	$(MAKE) --no-print-directory install DESTDIR=$(CURDIR)/out/dist PREFIX=/tlbridge-$(VERSION)
+	+@$(again) install DESTDIR=$(CURDIR)/out/dist PREFIX=/tlbridge-$(VERSION)
 	tar -C out/dist -czf $(packed) tlbridge-$(VERSION)
 	@echo $(packed)

@@ -35,7 +35,10 @@
 #include <stddef.h>
 #include <stdint.h>
 
-/* The library's version that this header is of: another has other calls or other structures. */
+/* The version of the project, which is also that of the programs, of the Python package, and for pkg-config and CMake. */
+#define TLBRIDGE_VERSION "0.6.0"
+
+/* The number of this interface, and of the shared library's SONAME: a library with another number has other calls or other structures. */
 #define TL_VERSION 5
 
 /* What calls answer. 0 is success; in each other case nothing changed (but that a refused open leaves no side in its two handles). */

@@ -6,8 +6,8 @@ set(tlbridge_SV_DIR "${tlbridge_PREFIX}/share/tlbridge/sv")
 if(NOT TARGET tlbridge::tlbridge)
     add_library(tlbridge::tlbridge SHARED IMPORTED)
     set_target_properties(tlbridge::tlbridge PROPERTIES
-        IMPORTED_LOCATION "${tlbridge_PREFIX}/lib/libtlbridge.so.@VERSION@"
-        IMPORTED_SONAME "libtlbridge.so.@VERSION@"
+        IMPORTED_LOCATION "${tlbridge_PREFIX}/lib/libtlbridge.so.@INTERFACE@"
+        IMPORTED_SONAME "libtlbridge.so.@INTERFACE@"
         INTERFACE_INCLUDE_DIRECTORIES "${tlbridge_PREFIX}/include")
     add_library(tlbridge::static STATIC IMPORTED)
     set_target_properties(tlbridge::static PROPERTIES

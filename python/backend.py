@@ -11,7 +11,7 @@ import zipfile
 from pathlib import Path
 
 HERE = Path(__file__).resolve().parent
-NAME, VERSION = "tlbridge", "5.0"
+NAME, VERSION = "tlbridge", "0.6.0"
 METADATA = f"Metadata-Version: 2.1\nName: {NAME}\nVersion: {VERSION}\nRequires-Python: >=3.8\n"
 
 
@@ -28,7 +28,8 @@ def build_wheel(wheel_directory, config_settings=None, metadata_directory=None):
     found = library()
     platform = sysconfig.get_platform().replace("-", "_").replace(".", "_") if found else "any"
     tag = f"py3-none-{platform}"
-    files = {f"{NAME}/{path.name}": path.read_bytes() for path in sorted((HERE / NAME).iterdir()) if path.suffix in (".py", ".typed")}
+    sources = [path for path in sorted((HERE / NAME).rglob("*")) if path.suffix in (".py", ".typed")]
+    files = {str(path.relative_to(HERE)): path.read_bytes() for path in sources}
     if found:
         files[f"{NAME}/libtlbridge.so"] = found.read_bytes()
     info = f"{NAME}-{VERSION}.dist-info"

@@ -2,6 +2,9 @@
 #include "tlbridge.h"
 #include <inttypes.h>
 #include <stdio.h>
+#if defined(TLBRIDGE_PAIRS_ARE_KNOWN) && !defined(TLBRIDGE_8_4)
+#error "the library has no pair 8:4, which this example needs: make install PAIRS=8:4"
+#endif
 TLBRIDGE(8, 4)
 
 int main(void) {

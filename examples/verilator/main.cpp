@@ -12,7 +12,9 @@ namespace {
 class Scoreboard {
   public:
     Scoreboard() : board(tl_board_open(8, 4, 0)) {
-        if (board == nullptr) std::abort();
+        if (board != nullptr) return;
+        std::fprintf(stderr, "the library has no pair 8:4, which this example needs, or there is no memory; it has %s\n", tl_board_pairs());
+        std::exit(4);
     }
     ~Scoreboard() { tl_board_free(board); }
     Scoreboard(const Scoreboard &) = delete;

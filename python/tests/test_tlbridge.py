@@ -23,6 +23,10 @@ class Fields(unittest.TestCase):
         with self.assertRaises(TypeError):
             Beat(opcod=4)
 
+    def test_misspelt_channel(self):
+        with self.assertRaisesRegex(ValueError, "a channel is one of A, B, C, D, E, and not 'a'"):
+            Beat(opcode=4).passed("a", 8)
+
     def test_too_large(self):
         for name, value in (("opcode", 256), ("source", 1 << 16), ("sink", 1 << 16), ("address", 1 << 64), ("mask", 1 << 128), ("size", -1)):
             with self.subTest(name), self.assertRaises(ValueError):

@@ -49,6 +49,8 @@ class Beat:
 
     def passed(self, channel: str, width: int) -> Tuple[BeatFields, bytes]:
         """The fields and lanes for a call of the library, on a link of this width."""
+        if channel not in FIELDS:
+            raise ValueError(f"a channel is one of {', '.join(CHANNELS)}, and not {channel!r}")
         for field in fields(self):
             if field.name not in FIELDS[channel] and getattr(self, field.name) != field.default:
                 raise ValueError(f"a beat of {channel} has no {field.name}")
