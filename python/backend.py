@@ -12,6 +12,7 @@ from pathlib import Path
 
 HERE = Path(__file__).resolve().parent
 NAME, VERSION = "tlbridge", "0.6.0"
+SCRIPTS = "[console_scripts]\ntlbridge-compare = tlbridge.compare:main\ntlbridge-trace = tlbridge.waves.command:main\n"
 METADATA = f"Metadata-Version: 2.1\nName: {NAME}\nVersion: {VERSION}\nRequires-Python: >=3.8\n"
 
 
@@ -28,12 +29,13 @@ def build_wheel(wheel_directory, config_settings=None, metadata_directory=None):
     found = library()
     platform = sysconfig.get_platform().replace("-", "_").replace(".", "_") if found else "any"
     tag = f"py3-none-{platform}"
-    sources = [path for path in sorted((HERE / NAME).rglob("*")) if path.suffix in (".py", ".typed")]
-    files = {str(path.relative_to(HERE)): path.read_bytes() for path in sources}
+    paths = [path for path in sorted((HERE / NAME).rglob("*")) if path.suffix in (".py", ".typed")]
+    files = {path.relative_to(HERE).as_posix(): path.read_bytes() for path in paths}
     if found:
         files[f"{NAME}/libtlbridge.so"] = found.read_bytes()
     info = f"{NAME}-{VERSION}.dist-info"
     files[f"{info}/METADATA"] = METADATA.encode()
+    files[f"{info}/entry_points.txt"] = SCRIPTS.encode()
     files[f"{info}/WHEEL"] = f"Wheel-Version: 1.0\nGenerator: {NAME}\nRoot-Is-Purelib: {str(not found).lower()}\nTag: {tag}\n".encode()
     files[f"{info}/RECORD"] = record(files, info)
     name = f"{NAME}-{VERSION}-{tag}.whl"

@@ -1,0 +1,221 @@
+"""Compares the far beats of a design with those that the bridge sends for the same near beats.
+
+CLIENT and MANAGER are the widths of both links in bytes. The files are those that sv/tl_trace_monitor.sv wrote at each link. The near
+beats of both links form a trace, whose answer by `tlbridge run` has the expected far beats. For each channel the verdict is printed, and
+the first far beat that differs, is missing or is unexpected, with the near beat that its message begins with. The times of FILE.times are
+printed if these files exist.
+
+exit status:
+  0  each channel is done, and its far beats are as expected
+  1  a channel is not done, or a far beat differs, is missing or is unexpected
+  2  there is nothing to compare: no beat, no answer, or a wrong command line
+  3  a file cannot be understood
+  4  a file cannot be read or written
+"""
+from __future__ import annotations
+
+import argparse
+import re
+import sys
+from pathlib import Path
+from typing import Iterator, List, Optional, Tuple
+
+from .beats import FIELDS
+from .flow import FROM_CLIENT, WIDTHS
+from .judge import Judge, Places, program_of
+from .run import Ended, Failure, Part, Row, Run, shown
+
+PROGRAM = "tlbridge-compare"
+DIGITS = {"opcode": 1, "param": 1, "size": 1, "address": 16, "denied": 1, "corrupt": 1}
+LONGEST = 4096  # of a line, in characters; the longest beat has some 330
+HEXADECIMAL = re.compile(r"[0-9a-f]*$")
+UNKNOWN = re.compile(r"[0-9a-fxzXZ]*$")
+
+
+class MonitorFile:
+    """The beats that a monitor wrote at a link."""
+
+    def __init__(self, path: str, width: int, near: str):
+        self.path, self.width, self.near = path, width, near
+        self.digits = 2
+        self.has_times = Path(f"{path}.times").exists()
+        self._lines = 0
+
+    def check(self) -> None:
+        """Reads the file once: each line has to be a beat of this link, and to have its time."""
+        for beat in self.beats():
+            _, _, line = beat
+            words = line.split(" ")
+            self.digits = max([self.digits, *(len(word) for name, word in zip(FIELDS[line[0]], words[1:]) if name in ("source", "sink"))])
+
+    def beats(self) -> Iterator[Tuple[str, Optional[int], str]]:
+        """Each beat: its place, its time, and its line."""
+        times = self._times() if self.has_times else None
+        number = 0
+        for number, line in enumerate(lines_of(self.path), 1):
+            time = None if times is None else next(times, None)
+            if times is not None and time is None:
+                raise Failure(f"{self.path}.times ends before {self.path}, after {number - 1} lines: both are of one run, line by line")
+            self._examine(line, f"{self.path} line {number}")
+            yield f"{number} {time}" if time else str(number), int(time) if time and time.isdigit() else None, line
+        if times is not None and next(times, None) is not None:
+            raise Failure(f"{self.path}.times has more lines than the {number} of {self.path}: both are of one run, line by line")
+
+    def _times(self) -> Iterator[str]:
+        for number, line in enumerate(lines_of(f"{self.path}.times"), 1):
+            if not line.strip() or not line.isprintable():
+                raise Failure(f"{self.path}.times line {number}: this is no time: {shown(line, LONGEST)}")
+            yield re.sub(r"\s", "", line)
+
+    def _examine(self, line: str, place: str) -> None:
+        channel, *values = line.split(" ")
+        names = FIELDS.get(channel)
+        if names is None or len(values) != len(names):
+            raise Failure(f"{place}: this is not a beat as tl_trace_monitor writes it: {shown(line, LONGEST)}")
+        digits = {**DIGITS, "mask": (self.width + 3) // 4, "data": 2 * self.width}
+        for name, value in zip(names, values):
+            wanted = digits.get(name)
+            if len(value) != wanted if wanted else len(value) not in (2, 4):
+                raise Failure(f"{place}: {name} has {len(value)} digits, and not {wanted or '2 or 4'} as on a link of {self.width} bytes: {shown(line, LONGEST)}")
+            if channel in self.near and not HEXADECIMAL.match(value):
+                words = "has unknown bits" if UNKNOWN.match(value) else "is not a lower-case hexadecimal number"
+                raise Failure(f"{place}: {name} of a near beat {words}: {shown(value)}")
+            if not UNKNOWN.match(value) or channel not in self.near and not HEXADECIMAL.match(value.translate(_KNOWN)):
+                raise Failure(f"{place}: {name} is not a lower-case hexadecimal number: {shown(value)}")
+
+
+_KNOWN = {ord(letter): "0" for letter in "xzXZ"}
+
+
+def lines_of(path: str) -> Iterator[str]:
+    try:
+        with open(path, encoding="latin-1", newline="\n") as file:
+            while True:
+                line = file.readline(LONGEST)
+                if not line:
+                    return
+                yield line.rstrip("\r\n")
+    except OSError as error:
+        raise Failure(f"{path}: {error.strerror}", 4) from error
+
+
+class FilePlaces(Places):
+    def __init__(self, paths: Tuple[str, str]):
+        self._paths = dict(zip(("client", "manager"), paths))
+
+    def of(self, link: str, row: Row, is_near: bool) -> str:
+        number, _, time = row.place.partition(" ")
+        return f"{self._paths[link]} line {number}" + (f", time {time}" if time else "")
+
+    def time(self, row: Row) -> Optional[int]:
+        time = row.place.partition(" ")[2]
+        return int(time) if time.isdigit() else None
+
+
+def in_order(files: List[MonitorFile]) -> Iterator[Tuple[int, str, Optional[int], str]]:
+    """The beats of both links, in order of time where both have times; else those of the client's link come first."""
+    streams = [files[0].beats(), files[1].beats()]
+    if not all(file.has_times for file in files):
+        for link, stream in enumerate(streams):
+            for place, _, line in stream:
+                yield link, place, None, line
+        return
+    heads = [next(stream, None) for stream in streams]
+    while True:
+        waiting = [(head[1] or 0, link) for link, head in enumerate(heads) if head]
+        if not waiting:
+            return
+        link = min(waiting)[1]
+        head = heads[link]
+        assert head is not None
+        yield (link, *head)
+        heads[link] = next(streams[link], None)
+
+
+def spelled(line: str, digits: int) -> str:
+    """The line with ids of so many digits."""
+    channel, *values = line.split(" ")
+    names = FIELDS[channel]
+    return " ".join([channel, *(value.rjust(digits, "0") if name in ("source", "sink") else value for name, value in zip(names, values))])
+
+
+def write_trace(path: str, part: Part, has_times: bool) -> None:
+    """Writes the trace of a part, and its times beside it; the second part and later ones get their number behind the name."""
+    name = path if part.number == 1 else f"{path}.{part.number}"
+    try:
+        with open(name, "w", encoding="ascii") as out:
+            part.write_trace(out)
+        if has_times:
+            with open(f"{name}.times", "w", encoding="ascii") as out:
+                part.write_times(out)
+    except OSError as error:
+        raise Failure(f"{error.filename or name}: {error.strerror}", 4) from error
+
+
+def compare(words: argparse.Namespace) -> int:
+    widths, paths = (words.client, words.manager), (words.client_beats, words.manager_beats)
+    files = [MonitorFile(path, width, near) for path, width, near in zip(paths, widths, (FROM_CLIENT, "BD"))]
+    for file in files:
+        file.check()
+    version = 2 if max(widths) > 64 or max(file.digits for file in files) > 2 else 1
+    has_times = all(file.has_times for file in files)
+    judge = Judge(program_of(words.program, note), widths, FilePlaces(paths), note, words.ignore_unmasked)
+
+    def part_done(part: Part) -> None:
+        if words.write_trace:
+            write_trace(words.write_trace, part, has_times)
+            if part.number > 1:
+                note(f"part {part.number} of the run, from time {part.begin}, is the trace {words.write_trace}.{part.number}")
+        judge.part(part)
+
+    run = Run(version, widths[0], widths[1], part_done, note)
+    try:
+        time = None
+        for link, place, time, line in in_order(files):
+            run.beat(link, spelled(line, 2 * version), time, place)
+        run.finish(time, is_told=False)
+        return judge.report(print)
+    except Ended as ended:
+        note(str(ended))
+        return judge.report(print) or 2
+    finally:
+        run.close()
+
+
+def note(text: str) -> None:
+    print(f"{PROGRAM}: {text}", file=sys.stderr)
+
+
+def a_width(text: str) -> int:
+    if not (text.isascii() and text.isdigit()) or int(text[:4]) not in WIDTHS or len(text) > 3:
+        raise argparse.ArgumentTypeError(f"a width in bytes is one of {', '.join(map(str, WIDTHS))}, and not '{shown(text)}'")
+    return int(text)
+
+
+def command_line() -> argparse.ArgumentParser:
+    words = argparse.ArgumentParser(prog=PROGRAM, description=__doc__, formatter_class=argparse.RawDescriptionHelpFormatter)
+    words.add_argument("client", type=a_width, help="bytes of a beat on the client's link")
+    words.add_argument("manager", type=a_width, help="bytes of a beat on the manager's link")
+    words.add_argument("client_beats", help="the file that the monitor wrote at the client's link")
+    words.add_argument("manager_beats", help="the file that the monitor wrote at the manager's link")
+    words.add_argument("--ignore-unmasked", action="store_true", help="do not compare bytes of PutPartialData whose mask bit is 0")
+    words.add_argument("--write-trace", metavar="FILE", help="write the near beats as a trace, for tlexplain, and their times to FILE.times")
+    words.add_argument("--program", metavar="TLBRIDGE", help="the program to ask [default: tlbridge, installed with this or in PATH]")
+    return words
+
+
+def main(arguments: Optional[List[str]] = None) -> int:
+    try:
+        return compare(command_line().parse_args(arguments))
+    except Failure as failure:
+        sys.stdout.flush()
+        note(str(failure))
+        return failure.status
+    except BrokenPipeError:
+        sys.stderr.close()
+        return 4
+    except OSError as error:
+        note(f"{error.filename or 'a temporary file'}: {error.strerror}")
+        return 4
+    except KeyboardInterrupt:
+        return 130

@@ -1,0 +1,344 @@
+"""The beats of a design between two links, in order of time, as parts that can be judged one after the other.
+
+A part ends at a quiet moment, at which no burst and no request is outstanding on either link, once its trace is long enough. A reset and a
+gap of the record end a part also while beats are under way. Beats are kept in temporary files, so memory does not grow with the run.
+"""
+from __future__ import annotations
+
+import os
+import shutil
+import tempfile
+from typing import IO, Callable, Dict, Iterator, List, Optional, Tuple
+
+from .beats import CHANNELS
+from .flow import FROM_CLIENT, LinkFlow
+
+MOST_BYTES = 67_108_864  # of a trace
+PART_BYTES = 16 << 20  # a part ends at the first quiet moment after so many
+LINKS = ("client", "manager")
+
+
+class Failure(Exception):
+    """Why there is no result, in words, and the exit status."""
+
+    def __init__(self, words: str, status: int = 3):
+        super().__init__(words)
+        self.status = status
+
+
+def shown(word: object, most: int = 40) -> str:
+    """Returns a word of a file as it may be printed."""
+    text = word.decode("latin-1") if isinstance(word, bytes) else str(word)
+    text = text if len(text) <= most else text[:most] + ".."
+    return "".join(letter if " " <= letter <= "~" else f"\\x{ord(letter):02x}" for letter in text)
+
+
+class Ended(Exception):
+    """The run takes no more beats; in words, why not all of it is judged."""
+
+
+class Row:
+    """A beat of a part: its place, as the run was given it, its line, and on the near link its line in the trace of the whole run."""
+
+    __slots__ = ("place", "line", "number")
+
+    def __init__(self, place: str, line: str, number: int):
+        self.place, self.line, self.number = place, line, number
+
+
+class Part:
+    """A stretch of a run: its near beats as a trace, and near and far beats by channel."""
+
+    def __init__(self, header: str, folder: str, number: int):
+        self.header, self.folder, self.number = header, folder, number
+        self.begin: Optional[int] = None
+        self.end: Optional[int] = None
+        self.is_cut = False  # beats were under way when it ended, and what they became was not recorded
+        self.beats = 0
+        self.trace = os.path.join(folder, "trace")
+        self.near_before: Dict[str, int] = {}
+        self.far_before: Dict[str, int] = {}
+
+    def file(self, kind: str, channel: str) -> str:
+        return os.path.join(self.folder, f"{kind}-{channel}")
+
+    def rows(self, kind: str, channel: str) -> Iterator[Row]:
+        """The beats of a channel on its near link or on its far link; `kind` is near or far."""
+        with open(self.file(kind, channel), encoding="ascii") as file:
+            for row in file:
+                number, place, line = row.rstrip("\n").split("\t")
+                yield Row(place, line, int(number))
+
+    def write_far(self, out: IO[str]) -> None:
+        """Writes the far beats as `tlbridge run` orders them, without its report lines."""
+        out.write(self.header.replace("tilelink-trace", "tilelink-far") + "\n")
+        for channel in CHANNELS:
+            for row in self.rows("far", channel):
+                out.write(row.line + "\n")
+
+    def write_trace(self, out: IO[str]) -> None:
+        with open(self.trace, encoding="ascii") as file:
+            shutil.copyfileobj(file, out)
+
+    def write_times(self, out: IO[str]) -> None:
+        """Writes the time of each beat of the trace, which is the last word of its place."""
+        with open(os.path.join(self.folder, "places"), encoding="ascii") as file:
+            for row in file:
+                out.write(row.rpartition(" ")[2])
+
+
+class Spool:
+    """The beats of the part at hand, in the order in which they came."""
+
+    def __init__(self, folder: str):
+        self.file = open(os.path.join(folder, "beats"), "w+", encoding="ascii")
+        self.bytes = self.trace_bytes = self.beats = 0
+
+    def add(self, kind: str, place: str, line: str) -> None:
+        row = f"{kind}\t{place}\t{line}\n"
+        self.file.write(row)
+        self.bytes += len(row)
+        self.beats += 1
+        if kind == "near":
+            self.trace_bytes += len(line) + 1
+
+    def position(self) -> Tuple[int, int, int]:
+        return self.bytes, self.trace_bytes, self.beats
+
+    def back_to(self, position: Tuple[int, int, int]) -> int:
+        """Drops the beats after a position. Returns their number."""
+        dropped = self.beats - position[2]
+        self.bytes, self.trace_bytes, self.beats = position
+        self.file.flush()
+        self.file.seek(self.bytes)
+        self.file.truncate()
+        return dropped
+
+    def rows(self) -> Iterator[List[str]]:
+        self.file.flush()
+        self.file.seek(0)
+        for row in self.file:
+            yield row.rstrip("\n").split("\t")
+
+
+START = (0, 0, 0)
+
+
+class Run:
+    """Takes accepted beats of a client's and a manager's link, and calls `done` with each part.
+
+    Without a manager's width there is one link, and all of its beats are near beats. `first` and `last` are times that a part begins and
+    ends near, at a quiet moment. `note` is called with what a reader has to know.
+    """
+
+    def __init__(self, version: int, client: int, manager: Optional[int], done: Callable[[Part], None], note: Callable[[str], None],
+                 first: Optional[int] = None, last: Optional[int] = None):
+        self.version, self.widths = version, (client, manager or client)
+        self._done, self._note, self._first, self._last = done, note, first, last
+        self._is_one = manager is None
+        digits = 2 * version
+        self._flows = [LinkFlow(width, digits) for width in self.widths[: 1 if self._is_one else 2]]
+        self._folder = tempfile.TemporaryDirectory(prefix="tlbridge-")
+        self._spool = Spool(self._folder.name)
+        self._count = {(kind, channel): 0 for kind in ("near", "far") for channel in CHANNELS}
+        self.parts = 0
+        self._lines = 1  # of the trace of the whole run: its header
+        self._time: Optional[int] = None  # of the last beat
+        self._begin: Optional[int] = None  # of the part at hand
+        self._quiet = (START, None)  # type: Tuple[Tuple[int, int, int], Optional[int]]
+        self._is_unsure = self._has_strangers = False  # beats of before the part may be under way; one of them was seen
+        self._mark = START
+        self._left_out = 0
+        self._in_reset: List[int] = []
+        self.beats = 0
+
+    # ---- what happens
+
+    def begins(self, time: int) -> None:
+        """The record begins. Later than at time 0 messages may be under way."""
+        self._begin = time
+        if time:
+            self._is_unsure = True
+
+    def beat(self, link: int, line: str, time: Optional[int], place: str) -> None:
+        """A beat that link 0, the client's, or 1 accepted."""
+        if time is not None and time != self._time:
+            self._moment(time)
+            self._time = time
+        self.beats += 1
+        is_near = self._is_one or (line[0] in FROM_CLIENT) == (link == 0)
+        if self._flows[link].beat(line) and self._is_unsure:
+            self._has_strangers = True
+        self._spool.add("near" if is_near else "far", place, line)
+
+    def reset(self, link: int, time: int, with_reset: int) -> None:
+        """A link enters reset; `with_reset` links have a reset."""
+        self._in_reset.append(link)
+        if not self.beats:
+            return
+        if self._spool.beats:
+            self._moment(time)
+            self._end_part(self._time or time, f"reset comes again at time {time}", self._is_busy())
+        self._restart(time, is_unsure=len(self._in_reset) < with_reset)
+
+    def leaves_reset(self, link: int) -> None:
+        self._in_reset = [other for other in self._in_reset if other != link]
+
+    def gap(self, off: int, on: int) -> None:
+        """Nothing was recorded between two times."""
+        if self._spool.beats:
+            self._moment(off)
+            self._end_part(off, f"nothing was recorded from time {off} to {on}", self._is_busy())
+        self._restart(on, is_unsure=True)
+
+    def finish(self, time: Optional[int], is_told: bool = True) -> None:
+        """The record ends at a time."""
+        if self._spool.beats and time is not None:
+            self._moment(time + 1)
+        if self._first is not None:
+            self._spool.back_to(START)
+            self._note(f"--from {self._first}: no quiet moment comes near it before the record ends")
+        if self._has_strangers:
+            self._drop_strangers()
+        if self._is_busy() and self._spool.beats and is_told:
+            self._note(f"the record ends at time {time} while beats are under way: {self._outstanding()}"
+                       + (f"; --to {self._quiet[1]} ends at the last quiet moment" if self._quiet[1] is not None else ""))
+        self._tell_left_out()
+        self._end_part(time, "", False)
+
+    def close(self) -> None:
+        self._spool.file.close()
+        self._folder.cleanup()
+
+    # ---- quiet moments
+
+    def _is_busy(self) -> bool:
+        for flow in self._flows:
+            if not flow.is_quiet():
+                return True
+        return not self._has_strangers and not self._is_one and self._flows[0].messages != self._flows[1].messages
+
+    def _outstanding(self) -> str:
+        words = [f"{what} on the {link}'s link" for link, flow in zip(LINKS, self._flows) for what in flow.outstanding()]
+        if not words:
+            return "messages that did not cross"
+        return ", ".join(words[:4]) + (", .." if len(words) > 4 else "")
+
+    def _moment(self, time: int) -> None:
+        """All beats before `time` are there."""
+        if self._is_unsure and not self._is_one:
+            client, manager = (flow.messages for flow in self._flows)
+            if any((client if channel in "BD" else manager)[channel] > (manager if channel in "BD" else client)[channel] for channel in CHANNELS):
+                self._has_strangers = True
+        is_quiet = not self._is_busy()
+        if is_quiet and self._has_strangers:
+            self._drop_strangers()
+        if self._first is not None:
+            self._look_for_begin(is_quiet, time)
+        elif self._last is not None and time > self._last:
+            self._look_for_end(is_quiet, time)
+        if is_quiet:
+            self._mark = self._spool.position()
+            self._quiet = (self._mark, self._time)
+            if self._first is None and self._spool.trace_bytes >= PART_BYTES:
+                self._end_part(self._time, "", False)
+                self._restart(time, self._is_unsure)
+                self._quiet = (START, self._time)
+        elif self._first is None and self._spool.trace_bytes > MOST_BYTES - 4096:
+            self._too_long()
+
+    def _look_for_begin(self, is_quiet: bool, time: int) -> None:
+        """Begins at the quiet moment nearest to `first`: the beats since the last one before it are kept until a nearer one is ruled out."""
+        first, begin = self._first, self._begin or 0
+        now = begin if self._time is None else self._time
+        assert first is not None
+        if is_quiet and (time <= first or now <= first or now - first < first - begin):
+            self._spool.back_to(START)
+            self._begin = time if time <= first else max(now, first)
+            if time <= first:
+                return
+        elif not is_quiet and (time <= first or time - first < first - begin):
+            return
+        self._first = None
+        if self._begin != first:
+            self._note(f"--from {first}: begins at time {self._begin or 0}, the nearest time at which nothing was under way")
+
+    def _look_for_end(self, is_quiet: bool, time: int) -> None:
+        """Ends at the quiet moment nearest to `last`."""
+        last, now = self._last, self._time or 0
+        assert last is not None
+        position, quiet = self._quiet
+        if is_quiet and (now <= last or quiet is None or now - last < last - quiet):
+            end = max(now, last) if now <= last else now
+        elif quiet is not None and time - last >= last - quiet:
+            self._spool.back_to(position)
+            end = quiet
+        else:
+            return
+        if end != last:
+            self._note(f"--to {last}: ends at time {end}, the nearest time at which nothing was under way")
+        self._tell_left_out()
+        self._end_part(end, "", False)
+        raise Ended
+
+    def _too_long(self) -> None:
+        self._end_part(self._time, "", True)
+        raise Ended(f"the trace from time {self._begin or 0} to {self._time} has {MOST_BYTES} bytes, and no quiet moment comes at which it could be cut: "
+                    f"{self._outstanding()}; what comes after it is not judged")
+
+    def _drop_strangers(self) -> None:
+        """Drops the beats since the last quiet moment: some belong to messages that began before the part."""
+        self._left_out += self._spool.back_to(self._mark)
+        self._has_strangers = False
+        for flow in self._flows:
+            flow.messages = dict.fromkeys(CHANNELS, 0)
+
+    def _tell_left_out(self) -> None:
+        if self._left_out:
+            self._note(f"{self._left_out} beats after time {self._begin or 0} are left out: messages that began before it were under way")
+            self._left_out = 0
+
+    # ---- parts
+
+    def _restart(self, time: int, is_unsure: bool) -> None:
+        for flow in self._flows:
+            flow.restart()
+        self._begin, self._is_unsure, self._has_strangers = time, is_unsure, False
+        self._mark, self._quiet = START, (START, None)
+
+    def _end_part(self, time: Optional[int], why: str, is_cut: bool) -> None:
+        if self._first is not None:
+            self._spool.back_to(START)
+        if self._has_strangers:
+            self._drop_strangers()
+        self._tell_left_out()
+        if why and self._first is None:
+            self._note(f"{why}: " + (f"a part of the run ends there, while beats are under way ({self._outstanding()})" if is_cut else "a part of the run ends there"))
+        if self._spool.beats or self.parts == 0 and not why:
+            self.parts += 1
+            part = self._sorted(time)
+            part.is_cut = is_cut
+            self._done(part)
+        self._spool.back_to(START)
+
+    def _sorted(self, time: Optional[int]) -> Part:
+        """The part at hand, its beats sorted into files."""
+        header = f"tilelink-trace {self.version} client {self.widths[0]} manager {self.widths[1]}"
+        part = Part(header, self._folder.name, self.parts)
+        part.begin, part.end, part.beats = self._begin, time, self._spool.beats
+        part.near_before = {channel: self._count["near", channel] for channel in CHANNELS}
+        part.far_before = {channel: self._count["far", channel] for channel in CHANNELS}
+        files = {(kind, channel): open(part.file(kind, channel), "w", encoding="ascii") for kind, channel in self._count}
+        places = open(os.path.join(self._folder.name, "places"), "w", encoding="ascii")
+        with open(part.trace, "w", encoding="ascii") as trace:
+            trace.write(header + "\n")
+            for kind, place, line in self._spool.rows():
+                if kind == "near":
+                    self._lines += 1
+                    trace.write(line + "\n")
+                    places.write(f"{place}\n")
+                self._count[kind, line[0]] += 1
+                files[kind, line[0]].write(f"{self._lines}\t{place}\t{line}\n")
+        for file in (*files.values(), places):
+            file.close()
+        return part

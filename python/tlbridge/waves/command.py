@@ -1,0 +1,432 @@
+"""From a waveform to a trace, or to a judgement.
+
+    tlbridge-trace DUMP                                          lists the TileLink links of a VCD, a .vcd.gz or an FST file
+    tlbridge-trace DUMP --link LINK > TRACE                      writes the beats of one link as a trace, for tlexplain
+    tlbridge-trace DUMP --client LINK --manager LINK > TRACE     writes the near beats of both links as a trace
+    tlbridge-trace DUMP --client LINK --manager LINK --compare   reports whether the design's far beats are as expected
+
+LINK is a name from the list, or its end after a dot. DUMP may be `-` for a VCD on standard input.
+"""
+from __future__ import annotations
+
+import argparse
+import os
+import sys
+from typing import IO, Dict, List, Optional, Sequence, Set, Tuple
+
+from ..beats import CHANNELS, FIELDS
+from ..flow import FROM_CLIENT, WIDTHS
+from ..judge import Judge, Places, program_of
+from ..run import Ended, Failure, Part, Row, Run
+from .links import Layout, Link, Signals, adopt_clock, by_pattern, choose, find_clocks, find_links, is_wanted, layout_of, names_of_pattern
+from .sampling import Count, Sampler, Watch
+from .vcd import Reader, Variable, open_wave
+
+PROGRAM = "tlbridge-trace"
+STATUSES = """
+exit status:
+  0  done; with --compare, each channel is done and its far beats are as expected
+  1  with --compare, a channel is not done, or a far beat differs, is missing or is unexpected
+  2  there is nothing to compare, or a wrong command line: no such link, no clock, no program
+  3  the dump cannot be understood, or holds no TileLink link
+  4  a file cannot be read or written
+"""
+
+
+def note(text: str) -> None:
+    print(f"{PROGRAM}: {text}", file=sys.stderr)
+
+
+def nothing(text: str) -> None:
+    """Takes a note of a quiet run."""
+
+
+# ---- the command line
+
+
+def a_width(text: str) -> int:
+    if text not in map(str, WIDTHS):
+        raise argparse.ArgumentTypeError(f"a width in bytes is one of {', '.join(map(str, WIDTHS))}, and not '{text}'")
+    return int(text)
+
+
+def a_time(text: str) -> int:
+    if not (text.isascii() and text.isdigit()) or len(text) > 31:
+        raise argparse.ArgumentTypeError(f"a time is a number in units of the dump, and not '{text}'")
+    return int(text)
+
+
+def command_line() -> argparse.ArgumentParser:
+    words = argparse.ArgumentParser(prog=PROGRAM, description=__doc__, epilog=STATUSES, formatter_class=argparse.RawDescriptionHelpFormatter)
+    words.add_argument("dump", metavar="DUMP")
+    links = words.add_argument_group("links")
+    links.add_argument("--link", metavar="LINK", help="one link: all of its beats are near beats")
+    links.add_argument("--client", metavar="LINK", help="the link to the client: its A, C and E are near beats")
+    links.add_argument("--manager", metavar="LINK", help="the link to the manager: its B and D are near beats")
+    for side in ("link", "client", "manager"):
+        links.add_argument(f"--{side}-pattern", metavar="PATTERN", help="names of its signals, as in top.dut.s_{channel}_{field}, or {CHANNEL} and {FIELD}")
+    links.add_argument("--field", metavar="NAME=WORD", action="append", default=[], help="what a pattern calls a field, as in opcode=op")
+    links.add_argument("--struct", metavar="FIELDS", action="append", default=[], help="a packed struct of one direction, highest field first: a_valid:1,a_opcode:3,..")
+    for side in ("", "client-", "manager-"):
+        links.add_argument(f"--{side}clock", metavar="SIGNAL")
+        links.add_argument(f"--{side}reset", metavar="SIGNAL", help="active high; !SIGNAL is active low; none takes every beat")
+        links.add_argument(f"--{side}width", metavar="BYTES", type=a_width, help="for a link without data and mask")
+    outputs = words.add_argument_group("outputs")
+    outputs.add_argument("--trace", metavar="FILE", help="write the trace to FILE, and the later parts of the run to FILE.2, FILE.3, ..")
+    outputs.add_argument("--times", metavar="FILE", help="write the simulation time of each beat of the trace, line by line")
+    outputs.add_argument("--far", metavar="FILE", help="write the far beats of the design, as `tlbridge run` writes the expected ones")
+    outputs.add_argument("--beats", metavar="STEM", help="write STEM.client.beats, STEM.manager.beats and their .times, as tl_trace_monitor does")
+    outputs.add_argument("--compare", action="store_true", help="ask tlbridge for the expected far beats, and report what differs")
+    outputs.add_argument("--ignore-unmasked", action="store_true", help="do not compare bytes of PutPartialData whose mask bit is 0")
+    outputs.add_argument("--program", metavar="TLBRIDGE", help="the program to ask [default: tlbridge, installed with this or in PATH]")
+    words.add_argument("--unknown-zero", action="store_true", help="write 0 for unknown bits, and report how many fields had some")
+    words.add_argument("--from", dest="first", metavar="TIME", type=a_time, help="begin at the moment nearest to TIME at which nothing is under way")
+    words.add_argument("--to", dest="last", metavar="TIME", type=a_time, help="end at the moment nearest to TIME at which nothing is under way")
+    words.add_argument("--trace-version", type=int, choices=(1, 2), help="[default: 1, or 2 if an id or a width needs it]")
+    words.add_argument("--no-count", action="store_true", help="list the links without counting beats: reads the header only")
+    words.add_argument("--quiet", action="store_true", help="no progress and no notes")
+    return words
+
+
+def sides_of(words: argparse.Namespace) -> Tuple[str, ...]:
+    """The links that are named: none, one, or a client's and a manager's."""
+    named = {side for side in ("link", "client", "manager") if getattr(words, side) or getattr(words, f"{side}_pattern")}
+    if not named:
+        if words.compare or words.far or words.trace or words.beats or words.times:
+            raise Failure("name the links, with --client and --manager, or one with --link; without other options the links are listed", 2)
+        return ()
+    if named == {"link"}:
+        if words.compare or words.far or words.beats:
+            raise Failure("--compare, --far and --beats need two links: name them with --client and --manager", 2)
+        return ("link",)
+    if named != {"client", "manager"}:
+        raise Failure("name both links with --client and --manager, or one with --link", 2)
+    return ("client", "manager")
+
+
+def renamed_of(words: argparse.Namespace) -> Dict[str, str]:
+    renamed = {}
+    known = {"valid", "ready", *(name for names in FIELDS.values() for name in names)}
+    for word in words.field:
+        name, equals, value = word.partition("=")
+        if not equals or name not in known:
+            raise Failure(f"--field '{word}' is not NAME=WORD, where NAME is one of {', '.join(sorted(known))}", 2)
+        renamed[name] = value
+    return renamed
+
+
+def opened(words: argparse.Namespace, renamed: Dict[str, str], layouts: Sequence[Layout]) -> Reader:
+    given = (getattr(words, side + what) for side in ("", "client_", "manager_") for what in ("clock", "reset"))
+    extra = [name.lstrip("!") for name in given if name]
+    for pattern in (words.link_pattern, words.client_pattern, words.manager_pattern):
+        if pattern:
+            extra += names_of_pattern(pattern, renamed)
+    stream, feeder, size = open_wave(words.dump)
+    return Reader(stream, is_wanted(extra, layouts), words.dump, feeder, size, words.quiet)
+
+
+def link_of(words: argparse.Namespace, side: str, links: Sequence[Link], signals: Signals, renamed: Dict[str, str]) -> Link:
+    pattern, name = getattr(words, f"{side}_pattern"), getattr(words, side)
+    if pattern and name:
+        raise Failure(f"give --{side} or --{side}-pattern, and not both", 2)
+    link = by_pattern(pattern, signals, renamed) if pattern else choose(links, name)
+    option = {what: getattr(words, f"{side}_{what}", None) or getattr(words, what) for what in ("width", "clock", "reset")}
+    link.finish(option["width"])
+    find_clocks(link, signals, option["clock"], option["reset"])
+    if link.clock is None:
+        for other in links:
+            if other is not link and not other.is_half:
+                find_clocks(other, signals)
+        adopt_clock(link, links)
+    if link.problems:
+        raise Failure(f"{link.name}: {link.problems[0]}", 2)
+    return link
+
+
+# ---- the list
+
+
+def table(rows: Sequence[Sequence[str]]) -> str:
+    widths = [max(len(row[at]) for row in rows) for at in range(len(rows[0]))]
+    return "\n".join("  ".join(word.ljust(width) for word, width in zip(row, widths)).rstrip() for row in rows)
+
+
+def few(names: Sequence[str], most: int) -> str:
+    return ", ".join(names[:most]) + (", .." if len(names) > most else "")
+
+
+def channels_of(link: Link) -> str:
+    return "".join(letter for letter in CHANNELS if letter in link.channels)
+
+
+def reset_of(link: Link) -> str:
+    return "!" * link.is_reset_low + link.reset.name if link.reset else "none"
+
+
+def list_links(words: argparse.Namespace, reader: Reader, links: List[Link], signals: Signals) -> int:
+    halves = [link for link in links if link.is_half]
+    links = [link for link in links if not link.is_half]
+    if not links and not halves:
+        raise Failure(f"{words.dump}: no TileLink link is among its {sum(reader.kinds.values())} variables in {reader.scopes} scopes: "
+                      "--link-pattern, --client-pattern and --manager-pattern say how its signals are named")
+    watches = watches_of(words, links, signals)
+    is_counted = bool(watches) and not words.no_count
+    sampler = Sampler(reader, list(watches.values()) if is_counted else [])
+    if is_counted:
+        sampler.read()
+    rows = [["link", "names", "channels", "bytes", "source", "sink", "address", "clock", "reset", "beats"]]
+    for link in links:
+        beats = f"same as {link.same.name}" if link.same else "not counted"
+        if is_counted and link in watches:
+            beats = " ".join(f"{port.letter} {port.accepted}" for port in watches[link].ports)
+        rows.append([link.name, link.convention, channels_of(link), str(link.width or "?"), *(str(link.bits(name)) for name in ("source", "sink", "address")),
+                     link.clock.name if link.clock else "?", reset_of(link), beats])
+    if links:
+        print(table(rows))
+    for link in links:
+        if not link.same:
+            print_remarks(link)
+    if halves:
+        print(f"one direction each, joined by + as in --client A+B: {few([link.name for link in halves], 12)}")
+    if is_counted and not words.quiet:
+        tell(reader, sampler, None)
+    return 0
+
+
+def print_remarks(link: Link) -> None:
+    for text in dict.fromkeys(link.problems + [text for text in link.notes if link.clock or " reset " not in text]):
+        print(f"{link.name}: {text}")
+    if link.ignored:
+        print(f"{link.name}: ignored, since a trace has no such fields: {few(sorted(link.ignored), 6)}")
+
+
+def watches_of(words: argparse.Namespace, links: Sequence[Link], signals: Signals) -> Dict[Link, Watch]:
+    """A watch for each link that can be sampled; the same wires are sampled once."""
+    watches: Dict[Link, Watch] = {}
+    seen: Dict[object, Link] = {}
+    for link in links:
+        link.finish(words.width)
+        try:
+            find_clocks(link, signals, words.clock, words.reset)
+        except Failure as error:
+            link.problems.append(str(error))
+    for link in links:
+        adopt_clock(link, links)
+        key = (link.key(), link.clock.key() if link.clock else None, link.reset.key() if link.reset else None)
+        link.same = seen.get(key)
+        seen.setdefault(key, link)
+        if link.clock and not link.same and not any(" has no " in problem for problem in link.problems):
+            watches[link] = Watch(link, span=(words.first, words.last))
+    return watches
+
+
+# ---- what a reader has to know before he trusts the beats
+
+
+def tell(reader: Reader, sampler: Sampler, run: Optional[Run]) -> None:
+    for text in reader.notes:
+        note(text)
+    if sampler.begin:
+        note(f"the dump begins at time {sampler.begin}: beats before it are missing")
+    if run is None:
+        for off, on in sampler.gaps:
+            note(f"nothing was dumped from time {off} to {on}: beats of that time are missing")
+    for watch in sampler.watches:
+        for text in remarks_of(watch, run is None):
+            note(text)
+
+
+def remarks_of(watch: Watch, is_list: bool) -> List[str]:
+    link, out = watch.link, []  # type: Link, List[str]
+    if not watch.edges and link.clock:
+        out.append(f"{link.name}: its clock {link.clock.name} never rises")
+    elif watch.in_reset == watch.edges and link.reset:
+        out.append(f"{link.name}: it is in reset all the time, by {link.reset.name}; --reset names another one, !NAME one that is active low")
+    for port in watch.ports:
+        for name, level in port.unknown.items():
+            if level.first:
+                out.append(f"{port.signals[name].name} is unknown at {level.count} clock edges, first at time {level.first[0]}: no beat is taken there")
+    risen = [count.first for count in watch.at_rise if count.first]
+    if risen and len(risen) == len(watch.at_rise):
+        out.append(f"{risen[0][1]}, an input that a C++ bench drives, changes as the clock rises, {watch.at_rise[0].count} times, first at time {risen[0][0]}: "
+                   "if the bench changes it before it evaluates the rise, the dump does not show what the edge saw, and the beats are wrong; "
+                   "change inputs at the falling edge, or dump before the rise")
+    if is_list and watch.resets_after.first:
+        out.append(f"{link.name}: reset comes again at time {watch.resets_after.first[0]}, after beats")
+    out += counted(link, watch.zeroed, "fields had unknown bits, which are written as 0")
+    out += counted(link, watch.unknown_far, "fields of far beats had unknown bits, written as x")
+    if watch.sinks:
+        out.append(f"{link.name}: D sink was unknown in {watch.sinks} responses that are not Grants, and is written as 0 there")
+    return out
+
+
+def counted(link: Link, count: Count, what: str) -> List[str]:
+    return [f"{link.name}: {count.count} {what}, first {count.first[1]} at time {count.first[0]}"] if count.first else []
+
+
+def tell_links(links: Sequence[Link]) -> None:
+    for link in links:
+        reset = f"reset {reset_of(link)}" if link.reset else "no reset"
+        note(f"{link.name}: {channels_of(link)}, {link.width} bytes, clock {link.clock.name if link.clock else 'none'}, {reset}")
+        for text in link.notes:
+            note(f"{link.name}: {text}")
+        if link.ignored:
+            note(f"{link.name}: ignored: {few(sorted(link.ignored), 6)}")
+
+
+def driven_by(link: Link, near: str, tops: Set[bytes]) -> Dict[bytes, str]:
+    """What a bench in C++ may drive at this link, by code: the signals in Verilator's scope TOP that come from the side that sends `near`."""
+    driven = [signal for letter, signals in link.channels.items() for name, signal in signals.items() if (name != "ready") == (letter in near)]
+    return {part[0]: signal.name for signal in driven for part in signal.parts if part[0] in tops}
+
+
+def look_for_drivers(watch: Watch, variables: Sequence[Variable], is_one: bool) -> None:
+    """Of two links the outer sides are known. Of one link either side may be the design, whose outputs follow the clock as they should."""
+    tops = {variable.code for variable in variables if variable.scope == ("TOP",)}
+    nears = (FROM_CLIENT, "BD") if is_one else (watch.near,)
+    driven = [driven_by(watch.link, near, tops) for near in nears]
+    if all(driven):
+        watch.driven, watch.at_rise = driven, [Count() for _ in driven]
+
+
+# ---- the trace
+
+
+class WavePlaces(Places):
+    def of(self, link: str, row: Row, is_near: bool) -> str:
+        return f"time {row.place} on the {link}'s link" + (f", line {row.number} of the trace" if is_near else "")
+
+    def time(self, row: Row) -> Optional[int]:
+        return int(row.place)
+
+
+class MonitorRun(Run):
+    """A run that also writes all beats as tl_trace_monitor does."""
+
+    files: List[Tuple[IO[str], IO[str]]] = []
+
+    def beat(self, link: int, line: str, time: Optional[int], place: str) -> None:
+        if self.files:
+            beats, times = self.files[link]
+            beats.write(line + "\n")
+            times.write(f"{time}\n")
+        super().beat(link, line, time, place)
+
+    def open_files(self, stem: str) -> None:
+        self.files = [(open(f"{stem}.{side}.beats", "w", encoding="ascii"), open(f"{stem}.{side}.beats.times", "w", encoding="ascii"))
+                      for side in ("client", "manager")]
+
+    def close(self) -> None:
+        for pair in self.files:
+            for file in pair:
+                file.close()
+        super().close()
+
+
+class Outputs:
+    """Writes and judges the parts of a run."""
+
+    def __init__(self, words: argparse.Namespace, judge: Optional[Judge]):
+        self.words, self.judge = words, judge
+        self.is_trace_shown = not words.trace and not words.compare
+
+    def part(self, part: Part) -> None:
+        words = self.words
+        end = "" if part.number == 1 else f".{part.number}"
+        if part.number > 1:
+            self._tell(part, end)
+        for path, write in ((words.trace, part.write_trace), (words.times, part.write_times), (words.far, part.write_far)):
+            if path:
+                with open(path + end, "w", encoding="ascii") as out:
+                    write(out)
+        if self.is_trace_shown and part.number == 1:
+            part.write_trace(sys.stdout)
+            sys.stdout.flush()
+        if self.judge:
+            self.judge.part(part)
+
+    def _tell(self, part: Part, end: str) -> None:
+        files = [path + end for path in (self.words.trace, self.words.times, self.words.far) if path]
+        where = f"is in {' and '.join(files)}" if files else "follows"
+        if self.is_trace_shown:
+            where = "is not written, since a trace is one part: --trace FILE writes each part to a file"
+        if not self.words.quiet:
+            note(f"part {part.number} of the run, from time {part.begin} to {part.end}, {where}")
+
+
+def version_for(words: argparse.Namespace, links: Sequence[Link]) -> int:
+    needs = 2 if max(link.bits(name) for link in links for name in ("source", "sink")) > 8 or max(link.width for link in links) > 64 else 1
+    if words.trace_version and words.trace_version < needs:
+        raise Failure("these links need a trace of version 2", 2)
+    return words.trace_version or needs
+
+
+def trace(words: argparse.Namespace, sides: Sequence[str], reader: Reader, all_links: Sequence[Link], signals: Signals, renamed: Dict[str, str]) -> int:
+    links = [link_of(words, side, all_links, signals, renamed) for side in sides]
+    version, is_one = version_for(words, links), len(links) == 1
+    told = nothing if words.quiet else note
+    if not is_one and links[0].key() == links[1].key():
+        told("both links are the same wires")
+    if not words.quiet:
+        tell_links(links)
+    client, manager = links[0].width, links[-1].width
+    judge = Judge(program_of(words.program, note), (client, manager), WavePlaces(), told, words.ignore_unmasked) if words.compare else None
+    outputs = Outputs(words, judge)
+    run = MonitorRun(version, client, None if is_one else manager, outputs.part, told, words.first, words.last)
+    try:
+        if words.beats:
+            run.open_files(words.beats)
+        nears = (CHANNELS,) if is_one else (FROM_CLIENT, "BD")
+        watches = [Watch(link, run, at, version, near, words.unknown_zero) for at, (link, near) in enumerate(zip(links, nears))]
+        for watch in watches:
+            watch.resets = len([link for link in links if link.reset])
+            look_for_drivers(watch, reader.variables, is_one)
+        sampler, unjudged = Sampler(reader, watches), ""
+        try:
+            sampler.read()
+            run.finish(sampler.end)
+        except Ended as ended:
+            unjudged = str(ended)
+        if not words.quiet:
+            tell(reader, sampler, run)
+        if not run.beats:
+            told("no beat was accepted")
+        if unjudged:
+            note(unjudged)
+        if judge is None:
+            return 2 if unjudged else 0
+        parts = f", judged in {run.parts} parts" if run.parts > 1 else ""
+        print(f"the dump covers time {sampler.begin or 0} to {sampler.end}, in units of {reader.timescale or 'its own'}{parts}")
+        return judge.report(print) or (2 if unjudged else 0)
+    finally:
+        run.close()
+
+
+def main(arguments: Optional[Sequence[str]] = None) -> int:
+    words = command_line().parse_args(arguments)
+    reader = None
+    try:
+        sides, renamed = sides_of(words), renamed_of(words)
+        layouts = [layout_of(text) for text in words.struct]
+        if words.compare:
+            program_of(words.program, nothing)  # before a long dump is read
+        reader = opened(words, renamed, layouts)
+        links, signals = find_links(reader.variables, layouts)
+        if sides:
+            return trace(words, sides, reader, links, signals, renamed)
+        return list_links(words, reader, links, signals)
+    except BrokenPipeError:
+        os.dup2(os.open(os.devnull, os.O_WRONLY), 1)
+        return 4
+    except KeyboardInterrupt:
+        return 130
+    except Failure as failure:
+        sys.stdout.flush()
+        note(str(failure))
+        return failure.status
+    except OSError as error:
+        note(f"{error.filename or words.dump}: {error.strerror}")
+        return 4
+    finally:
+        if reader is not None:
+            reader.close()
