@@ -19,10 +19,13 @@ const char *tl_board_pairs(void) {
 
 /* ---- Queues */
 
-/* A beat with its time, and its number on its channel. */
+/* A beat with its time, its channel, and its number on it since the last reset. */
 typedef struct {
     tl_beat beat;
     uint64_t time, number;
+    int channel;
+    bool was_refused; /* as it came, `original`; `beat` is what it was mended to, and waits */
+    tl_beat original;
     uint8_t lanes[TL_WIDEST];
 } entry;
 
@@ -61,6 +64,8 @@ static entry *queue_add(queue *queue, uint64_t time, const tl_beat *beat, const 
     queue->count++;
     added->beat = *beat;
     added->time = time;
+    added->channel = 0;
+    added->was_refused = false;
     added->number = queue->came++;
     memset(added->lanes, 0, sizeof added->lanes);
     if (lanes != NULL) memcpy(added->lanes, lanes, width);
@@ -69,9 +74,38 @@ static entry *queue_add(queue *queue, uint64_t time, const tl_beat *beat, const 
 
 /* ---- The board */
 
+/* What is expected on the far link, in the order in which it is: a far beat that is due of the bridge and is compared; or, of a near beat
+ * that the bridge refused, one that is due of the lawful beat that took its place (or none), and is not compared. Then at most `most` far
+ * beats with the head of either are not judged. */
+typedef struct {
+    bool is_due, is_judged;
+    uint32_t most;
+    tl_beat refused, mended;
+} expected;
+
+typedef struct {
+    expected *entries;
+    size_t capacity, first, count;
+} expectations;
+
+/* The near message under way, as the bridge accepted it. */
+typedef struct {
+    tl_beat head;     /* of its first beat */
+    uint32_t came;    /* its near beats so far; 0: none is under way */
+    uint32_t fill;    /* lawful beats that are still to take the place of those that did not come */
+    bool is_spoilt;   /* a byte that no far beat has yet is of a beat that was refused */
+    tl_beat refused;  /* that beat */
+    uint32_t skip;    /* near beats with the head of `refused` that are passed over */
+    bool is_said;     /* a line says that a beat of the message was refused */
+    uint64_t said;    /* one more than the number of that beat */
+    bool is_mended;   /* the head of its first beat was changed from `original`, so that the bridge takes it */
+    tl_beat original;
+} message;
+
 /* What one link shows of requests on A and their responses on D, by source. */
 typedef struct {
-    uint32_t a_left, d_left; /* beats of the messages under way */
+    uint32_t left[CHANNELS]; /* beats of the messages under way, of A and D */
+    tl_beat heads[CHANNELS]; /* and their heads */
     int8_t *open;            /* requests without a response, by source; below 0, responses without a request */
     uint64_t *number, *time; /* of the last request, by source: the beat and its time */
 } link_view;
@@ -87,13 +121,19 @@ struct tl_board {
     both_sides bridge;
     unsigned flags;
     queue near[CHANNELS], far[CHANNELS];
+    expectations due[CHANNELS];
+    message messages[CHANNELS];
     uint64_t *homes; /* by source, the address of its last request that the bridge accepted */
-    bool stopped[CHANNELS];
+    uint8_t *sizes;  /* and its size */
+    bool *refused;   /* whether the source's last request was refused */
+    queue held;      /* beats of a link while the other one is in reset, and it was not */
+    bool in_reset[2], was_reset[2]; /* now; since one of the links was out of reset last */
+    uint64_t beats[2]; /* accepted by each link, in all */
     uint64_t differ[CHANNELS];
     link_view views[2];
     suspect suspects[2]; /* of A on the client's link, of D on the manager's */
     uint64_t now;
-    bool ended, no_memory;
+    bool ended, no_memory, is_dead;
     char *text; /* the lines that nobody has read, each a time and then its characters with a zero */
     size_t text_bytes, text_read, text_room;
 };
@@ -119,6 +159,30 @@ static bool carries(int channel, const tl_beat *beat) {
 static uint32_t beats_of(int channel, const tl_beat *beat, unsigned width) {
     uint32_t bytes = (uint32_t)1 << (beat->size & 15);
     return carries(channel, beat) && bytes > width ? bytes / width : 1;
+}
+
+/* In how many fields two heads differ. */
+static int differing(int channel, const tl_beat *one, const tl_beat *other) {
+    if (channel == E) return one->sink != other->sink;
+    int count = (one->opcode != other->opcode) + (one->param != other->param) + (one->size != other->size) + (one->source != other->source);
+    if (channel == D) return count + (one->sink != other->sink) + (!one->denied != !other->denied);
+    return count + (one->address != other->address);
+}
+
+static bool same_head(int channel, const tl_beat *one, const tl_beat *other) {
+    return differing(channel, one, other) == 0;
+}
+
+/* Whether two heads are of one message, though one of them may be wrong: one field has slipped; or, on A and D, their source is the same,
+ * which has no other message under way. */
+static bool is_alike(int channel, const tl_beat *one, const tl_beat *other) {
+    return differing(channel, one, other) <= 1 || ((channel == A || channel == D) && one->source == other->source);
+}
+
+/* Whether the head says how many beats its message has. */
+static bool has_count(int channel, const tl_beat *head) {
+    bool is_message = channel == C ? head->opcode != 3 : channel != D || (head->opcode != 3 && head->opcode != 7);
+    return is_message && head->opcode < 8 && head->size <= 12;
 }
 
 static bool is_active(unsigned lane, uint64_t home, unsigned size, unsigned width) {
@@ -255,34 +319,253 @@ static void compare(tl_board *board, int channel, const entry *came, const tl_be
 
 /* ---- How the beats go through the bridge */
 
+static void expect(tl_board *board, int channel, expected more) {
+    expectations *due = &board->due[channel];
+    if (due->count == due->capacity) {
+        size_t capacity = due->capacity == 0 ? 64 : 2 * due->capacity;
+        expected *entries = malloc(capacity * sizeof *entries);
+        if (entries == NULL) {
+            board->no_memory = board->is_dead = true;
+            return;
+        }
+        for (size_t i = 0; i < due->count; i++) entries[i] = due->entries[(due->first + i) & (due->capacity - 1)];
+        free(due->entries);
+        *due = (expectations){entries, capacity, 0, due->count};
+    }
+    due->entries[(due->first + due->count++) & (due->capacity - 1)] = more;
+}
+
+static expected *next_expected(tl_board *board, int channel) {
+    expectations *due = &board->due[channel];
+    return due->count == 0 ? NULL : &due->entries[due->first];
+}
+
+static void drop_expected(tl_board *board, int channel) {
+    expectations *due = &board->due[channel];
+    due->first = (due->first + 1) & (due->capacity - 1);
+    due->count--;
+}
+
+/* How many far beats of a message are due after so many of its near beats. */
+static uint32_t due_after(const tl_board *board, int channel, const tl_beat *head, uint32_t beats) {
+    unsigned near = width_of(board, near_link(channel)), far = width_of(board, !near_link(channel));
+    uint32_t bytes = (uint32_t)1 << (head->size & 15);
+    if (!carries(channel, head)) return beats;
+    return beats * (bytes < near ? bytes : near) / (bytes < far ? bytes : far);
+}
+
+/* Notes the head of a message whose first beat the bridge accepted. */
+static void begin_message(tl_board *board, int channel, const tl_beat *beat, const tl_beat *refused) {
+    message *message = &board->messages[channel];
+    message->head = *beat;
+    message->is_mended = refused != NULL && !same_head(channel, beat, refused);
+    if (refused == NULL) message->is_said = false;
+    else message->original = *refused;
+    if (channel != A) return;
+    board->homes[beat->source] = beat->address;
+    board->sizes[beat->source] = beat->size;
+}
+
+/* Offers a beat to the bridge; once it is accepted, what is due of it is expected. `refused` is the beat whose place it takes, or NULL. */
+static uint8_t offer_beat(tl_board *board, int channel, const tl_beat *beat, const uint8_t *lanes, const tl_beat *refused) {
+    message *message = &board->messages[channel];
+    uint8_t answer = offer_on(&board->bridge, channel, beat, lanes);
+    if (answer != TL_OK) return answer;
+    if (message->came == 0) begin_message(board, channel, beat, refused);
+    if (refused != NULL) {
+        message->is_spoilt = true;
+        message->refused = *refused;
+    }
+    uint32_t before = due_after(board, channel, &message->head, message->came++);
+    uint32_t made = due_after(board, channel, &message->head, message->came) - before;
+    for (uint32_t i = 0; i < made; i++) expect(board, channel, (expected){true, !message->is_spoilt, message->is_spoilt, message->refused, message->head});
+    if (made > 0) message->is_spoilt = false;
+    if (message->came == beats_of(channel, &message->head, width_of(board, near_link(channel)))) message->came = 0;
+    return TL_OK;
+}
+
+static void lawful_mask(const tl_board *board, int channel, const tl_beat *head, tl_beat *beat) {
+    unsigned width = width_of(board, near_link(channel));
+    tl_beat lawful = *beat;
+    lawful.mask = lawful.mask_high = 0;
+    for (unsigned lane = 0; lane < width; lane++)
+        if (is_active(lane, head->address, head->size, width) && (head->opcode != 1 || tl_mask_has(beat, lane))) tl_mask_add(&lawful, lane);
+    *beat = lawful;
+}
+
+static void take_head(tl_beat *beat, const tl_beat *head) {
+    tl_beat taken = *head;
+    taken.mask = beat->mask;
+    taken.mask_high = beat->mask_high;
+    taken.corrupt = beat->corrupt;
+    *beat = taken;
+}
+
+/* Makes a beat that is refused with this fault lawful in this respect: whether it can be, so that as many beats go on as came. */
+static bool mend(const tl_board *board, int channel, tl_beat *beat, uint8_t fault) {
+    const message *message = &board->messages[channel];
+    switch (fault) {
+    case TL_HEAD_CHANGED: take_head(beat, &message->head); return true;
+    case TL_PARAM: beat->param = 0; return true;
+    case TL_UNALIGNED: beat->address &= ~(((uint64_t)1 << beat->size) - 1); return true;
+    case TL_MASK: lawful_mask(board, channel, message->came > 0 ? &message->head : beat, beat); return true;
+    case TL_CORRUPT: beat->corrupt = 0; return true;
+    default: return false;
+    }
+}
+
+/* Passes over the message that a near beat begins, and the far beats that come of it. */
+static void leave_out(tl_board *board, int channel, const entry *near) {
+    message *message = &board->messages[channel];
+    bool counts = has_count(channel, &near->beat);
+    uint32_t far = counts ? beats_of(channel, &near->beat, width_of(board, !near_link(channel))) : UINT32_MAX;
+    expect(board, channel, (expected){false, false, far, near->beat, near->beat});
+    message->refused = near->beat;
+    message->skip = counts ? beats_of(channel, &near->beat, width_of(board, near_link(channel))) - 1 : UINT32_MAX;
+}
+
+/* Passes over a message that cannot be mended. A request or a response of it goes through the bridge as another one without data, so that
+ * the bridge knows of the same requests as the two links. */
+static void pass_over(tl_board *board, int channel, const entry *near) {
+    static const uint8_t no_lanes[TL_WIDEST];
+    tl_beat other = {.source = near->beat.source, .opcode = 4, .size = near->beat.size <= 12 ? near->beat.size : 12};
+    if (channel == A) {
+        other.address = near->beat.address & ~(((uint64_t)1 << other.size) - 1);
+        other.mask = other.mask_high = UINT64_MAX;
+        lawful_mask(board, channel, &other, &other);
+    } else if (channel == D) {
+        other.opcode = 0;
+        other.size = board->sizes[other.source];
+    }
+    bool is_other = channel == A || (channel == D && near->beat.opcode != 6);
+    if (is_other) offer_beat(board, channel, &other, no_lanes, &near->beat);
+    leave_out(board, channel, near);
+}
+
 static void refused(tl_board *board, int channel, const entry *near, uint8_t answer) {
+    /* the response to a request that was refused may be as wrong as its request */
+    bool is_answer = channel == D && board->refused[near->beat.source];
+    message *message = &board->messages[channel];
+    if ((message->is_said && message->came > 0) || message->said == near->number + 1 || is_answer) return;
+    message->is_said = true;
+    message->said = near->number + 1;
     words words = {.length = 0};
+    unsigned width = width_of(board, near_link(channel));
     say(&words, "near %c beat %" PRIu64 ": ", 'A' + channel, near->number);
     say_head(&words, channel, &near->beat);
+    if (answer == TL_PARAM) say(&words, ", param %u", near->beat.param);
+    if (answer == TL_MASK) {
+        say(&words, ", mask ");
+        if (width > 64) say(&words, "%016" PRIx64, near->beat.mask_high);
+        say(&words, "%0*" PRIx64, (int)((width > 64 ? 64 : width) + 3) / 4, near->beat.mask);
+    }
     say(&words, ": refused: ");
     say_fault(&words, board, answer);
-    say(&words, "; later near beats of %c are not judged", 'A' + channel);
+    say(&words, "; what becomes of it is not judged");
     differs(board, channel, near->time, words.text);
-    board->stopped[channel] = true;
+    if (channel == A && message->came == 0) board->refused[near->beat.source] = true;
+}
+
+/* Goes on after a near beat that the bridge refused for good. What it can be mended to takes its place; a burst that is cut is filled up;
+ * and a message that cannot be mended is passed over. */
+static void recover(tl_board *board, int channel, entry *near, uint8_t answer) {
+    message *message = &board->messages[channel];
+    tl_beat beat = near->beat;
+    refused(board, channel, near, answer);
+    if (answer == TL_HEAD_CHANGED && !is_alike(channel, &beat, &message->head)) {
+        message->fill = beats_of(channel, &message->head, width_of(board, near_link(channel))) - message->came;
+        return;
+    }
+    for (int tries = 0; tries < 8 && mend(board, channel, &beat, answer); tries++) {
+        answer = offer_beat(board, channel, &beat, near->lanes, &near->beat);
+        if (answer == TL_OK) break;
+    }
+    if (answer == TL_SOURCE_BUSY || answer == TL_NO_REQUEST) {
+        near->was_refused = true;
+        near->original = near->beat;
+        near->beat = beat;
+        return;
+    }
+    if (answer != TL_OK) pass_over(board, channel, near);
+    queue_drop(&board->near[channel]);
+}
+
+/* Fills up a burst that was cut, as far as the bridge takes beats: whether it took one. */
+static bool fill_up(tl_board *board, int channel) {
+    message *message = &board->messages[channel];
+    static const uint8_t no_lanes[TL_WIDEST];
+    if (message->fill == 0 || !ready_on(&board->bridge, channel)) return false;
+    tl_beat filler = message->head, head = message->head;
+    filler.mask = filler.mask_high = UINT64_MAX;
+    if (channel <= B) lawful_mask(board, channel, &head, &filler);
+    message->fill--;
+    offer_beat(board, channel, &filler, no_lanes, &head);
+    return true;
+}
+
+/* Passes over near beats of a message that was refused: whether there was one. */
+static bool skip(tl_board *board, int channel) {
+    queue *near = &board->near[channel];
+    message *message = &board->messages[channel];
+    if (message->skip == 0 || near->count == 0) return false;
+    if (!same_head(channel, &queue_front(near)->beat, &message->refused)) {
+        message->skip = 0;
+        return false;
+    }
+    message->skip--;
+    queue_drop(near);
+    return true;
+}
+
+/* Offers the first near beat that waits; in a message whose head was mended, with the mended head. */
+static uint8_t offer_front(tl_board *board, int channel, const entry *front) {
+    const message *message = &board->messages[channel];
+    if (message->came == 0 || !message->is_mended || !same_head(channel, &front->beat, &message->original))
+        return offer_beat(board, channel, &front->beat, front->lanes, front->was_refused ? &front->original : NULL);
+    tl_beat mended = front->beat;
+    take_head(&mended, &message->head);
+    return offer_beat(board, channel, &mended, front->lanes, &front->beat);
 }
 
 /* Offers the near beats of a channel that wait, as far as they are accepted: whether one was. */
 static bool offer(tl_board *board, int channel) {
     queue *near = &board->near[channel];
     bool moved = false;
-    while (near->count > 0 && !board->stopped[channel] && ready_on(&board->bridge, channel)) {
-        entry *front = queue_front(near);
-        uint8_t answer = offer_on(&board->bridge, channel, &front->beat, front->lanes);
-        if (answer == TL_SOURCE_BUSY || answer == TL_NO_REQUEST) break;
-        if (answer != TL_OK) {
-            refused(board, channel, front, answer);
-            break;
+    while (!board->is_dead) {
+        if (fill_up(board, channel) || skip(board, channel)) {
+            moved = true;
+            continue;
         }
-        if (channel == A) board->homes[front->beat.source] = front->beat.address;
-        queue_drop(near);
+        if (near->count == 0 || board->messages[channel].fill > 0 || !ready_on(&board->bridge, channel)) break;
+        entry *front = queue_front(near);
+        uint8_t answer = offer_front(board, channel, front);
+        if (answer == TL_SOURCE_BUSY || answer == TL_NO_REQUEST) break;
+        if (answer == TL_OK) queue_drop(near);
+        else recover(board, channel, front, answer);
         moved = true;
     }
     return moved;
+}
+
+/* Whether a far beat has the head of that which is expected behind the first one. */
+static bool is_due_next(const tl_board *board, int channel, const tl_beat *came) {
+    const expectations *due = &board->due[channel];
+    return due->count > 1 && same_head(channel, came, &due->entries[(due->first + 1) & (due->capacity - 1)].mended);
+}
+
+/* Of a near beat that was refused: passes over the far beats with its head, or with that of the beat in its place. Whether all is done. */
+static bool is_passed_over(tl_board *board, int channel, expected *next) {
+    queue *far = &board->far[channel];
+    tl_beat due;
+    uint8_t lanes[TL_WIDEST];
+    if (next->is_due && !take_on(&board->bridge, channel, &due, lanes)) return false;
+    next->is_due = false;
+    for (; next->most > 0 && far->count > 0; next->most--, queue_drop(far)) {
+        const tl_beat *came = &queue_front(far)->beat;
+        bool is_same = same_head(channel, came, &next->refused) || same_head(channel, came, &next->mended);
+        if (!is_same && (!is_alike(channel, came, &next->refused) || is_due_next(board, channel, came))) break;
+    }
+    return next->most == 0 || far->count > 0;
 }
 
 /* Compares the far beats of a channel that came with those that are due: whether there was one of both. */
@@ -291,10 +574,15 @@ static bool judge(tl_board *board, int channel) {
     bool moved = false;
     tl_beat due;
     uint8_t lanes[TL_WIDEST];
-    while (far->count > 0 && take_on(&board->bridge, channel, &due, lanes)) {
-        compare(board, channel, queue_front(far), &due, lanes);
-        queue_drop(far);
-        moved = true;
+    for (expected *next; (next = next_expected(board, channel)) != NULL; moved = true) {
+        if (!next->is_judged) {
+            if (!is_passed_over(board, channel, next)) break;
+        } else {
+            if (far->count == 0 || !take_on(&board->bridge, channel, &due, lanes)) break;
+            compare(board, channel, queue_front(far), &due, lanes);
+            queue_drop(far);
+        }
+        drop_expected(board, channel);
     }
     return moved;
 }
@@ -305,7 +593,7 @@ static void settle(tl_board *board) {
 }
 
 static void advance(tl_board *board) {
-    bool moved = true;
+    bool moved = !board->is_dead;
     while (moved) {
         moved = false;
         for (int channel = 0; channel < CHANNELS; channel++) moved |= offer(board, channel);
@@ -323,7 +611,7 @@ static void end_of_cycle(tl_board *board) {
         if (!seen->there) continue;
         seen->there = false;
         int open = board->views[link].open[seen->source], channel = link == TL_CLIENT_LINK ? A : D;
-        if (board->stopped[channel] || (channel == A ? open <= 1 : open >= 0)) continue;
+        if (channel == A ? open <= 1 : open >= 0) continue;
         words words = {.length = 0};
         say(&words, "near %c beat %" PRIu64 ": source %04x: ", 'A' + channel, seen->number, seen->source);
         say_fault(&words, board, channel == A ? TL_SOURCE_BUSY : TL_NO_REQUEST);
@@ -334,25 +622,28 @@ static void end_of_cycle(tl_board *board) {
 /* Counts the requests and responses of a link. */
 static void view(tl_board *board, int link, int channel, const entry *came) {
     link_view *view = &board->views[link];
-    uint32_t *left = channel == A ? &view->a_left : &view->d_left;
+    uint32_t *left = &view->left[channel];
     if (channel != A && channel != D) return;
-    bool begins = *left == 0;
-    if (begins) *left = beats_of(channel, &came->beat, width_of(board, link));
+    bool begins = *left == 0 || !is_alike(channel, &came->beat, &view->heads[channel]);
+    if (begins) {
+        *left = has_count(channel, &came->beat) ? beats_of(channel, &came->beat, width_of(board, link)) : UINT32_MAX;
+        view->heads[channel] = came->beat;
+    }
     --*left;
     tl_id source = came->beat.source;
     if (!begins || (channel == D && came->beat.opcode == 6)) return;
     if (channel == A && view->open[source] < INT8_MAX) view->open[source]++;
     if (channel == D && view->open[source] > INT8_MIN) view->open[source]--;
     if (channel == A) {
+        if (link == TL_CLIENT_LINK) board->refused[source] = false;
         view->number[source] = came->number;
         view->time[source] = came->time;
     }
     if (link == near_link(channel)) board->suspects[link] = (suspect){true, source, came->time, came->number};
 }
 
-void tl_board_beat(tl_board *board, int link, char letter, uint64_t time, const tl_beat *beat, const uint8_t *lanes) {
-    int channel = letter - 'A';
-    if (board == NULL || channel < 0 || channel >= CHANNELS || board->ended) return;
+/* Judges a beat that a link accepted. */
+static void pass(tl_board *board, int link, int channel, uint64_t time, const tl_beat *beat, const uint8_t *lanes) {
     if (time != board->now) end_of_cycle(board);
     board->now = time;
     queue *queue = link == near_link(channel) ? &board->near[channel] : &board->far[channel];
@@ -365,15 +656,96 @@ void tl_board_beat(tl_board *board, int link, char letter, uint64_t time, const 
     advance(board);
 }
 
+void tl_board_beat(tl_board *board, int link, char letter, uint64_t time, const tl_beat *beat, const uint8_t *lanes) {
+    int channel = letter - 'A';
+    if (board == NULL || link < 0 || link > 1 || channel < 0 || channel >= CHANNELS || board->ended || board->in_reset[link]) return;
+    board->beats[link]++;
+    if (!board->in_reset[!link] || board->was_reset[link]) {
+        pass(board, link, channel, time, beat, lanes);
+        return;
+    }
+    entry *kept = queue_add(&board->held, time, beat, lanes, width_of(board, link));
+    if (kept == NULL) board->no_memory = true;
+    else kept->channel = channel;
+}
+
+uint64_t tl_board_beats(const tl_board *board) {
+    return board == NULL ? 0 : board->beats[0] + board->beats[1];
+}
+
+/* ---- Resets */
+
+static void clear_queue(queue *queue) {
+    queue->first = queue->count = 0;
+    queue->came = 0;
+}
+
+/* How many beats wait for their part on the other link. */
+static size_t in_flight(const tl_board *board) {
+    size_t count = 0;
+    for (int channel = 0; channel < CHANNELS; channel++) count += board->near[channel].count + board->far[channel].count + board->due[channel].count;
+    return count;
+}
+
+/* Begins anew, as after open; what was counted stays. */
+static void begin_anew(tl_board *board) {
+    for (int channel = 0; channel < CHANNELS; channel++) {
+        clear_queue(&board->near[channel]);
+        clear_queue(&board->far[channel]);
+        board->due[channel].first = board->due[channel].count = 0;
+        board->messages[channel] = (message){.came = 0};
+    }
+    clear_queue(&board->held);
+    memset(board->homes, 0, SOURCES * sizeof *board->homes);
+    memset(board->refused, 0, SOURCES * sizeof *board->refused);
+    for (int link = 0; link < 2; link++) {
+        board->suspects[link].there = false;
+        memset(board->views[link].left, 0, sizeof board->views[link].left);
+        memset(board->views[link].open, 0, SOURCES);
+    }
+    if (board->bridge.calls->open(&board->bridge.client, &board->bridge.manager, TL_MAX_RING) != TL_OK) board->no_memory = board->is_dead = true;
+}
+
+/* Passes on what a link accepted while the other one was in reset, and it was not. */
+static void pass_held(tl_board *board, int link) {
+    for (entry *kept; (kept = queue_front(&board->held)) != NULL;) {
+        entry copy = *kept;
+        queue_drop(&board->held);
+        pass(board, link, copy.channel, copy.time, &copy.beat, copy.lanes);
+    }
+}
+
+void tl_board_reset(tl_board *board, int link, bool asserted, uint64_t time) {
+    if (board == NULL || link < 0 || link > 1 || board->ended || asserted == board->in_reset[link]) return;
+    board->in_reset[link] = asserted;
+    if (!asserted) {
+        if (board->in_reset[!link]) return;
+        int other = board->was_reset[0] ? 1 : 0;
+        bool is_one = board->was_reset[0] != board->was_reset[1];
+        board->was_reset[0] = board->was_reset[1] = false;
+        if (is_one) pass_held(board, other);
+        return;
+    }
+    if (!board->was_reset[0] && !board->was_reset[1] && tl_board_beats(board) > 0) {
+        words words = {.length = 0};
+        end_of_cycle(board);
+        say(&words, "reset of the %s's link: %zu beats in flight on both links are not judged", link == TL_CLIENT_LINK ? "client" : "manager", in_flight(board));
+        add_line(board, time, words.text);
+    }
+    board->was_reset[link] = true;
+    begin_anew(board);
+}
+
 /* ---- The end */
 
 static void not_come(tl_board *board, int channel) {
     tl_beat due, first = {0};
     uint8_t lanes[TL_WIDEST];
     uint64_t count = 0;
-    for (bool more = true; more; settle(board)) {
-        more = take_on(&board->bridge, channel, &due, lanes);
-        if (more && count++ == 0) first = due;
+    for (expected *next; (next = next_expected(board, channel)) != NULL; drop_expected(board, channel)) {
+        settle(board);
+        if (next->is_due && !take_on(&board->bridge, channel, &due, lanes)) break;
+        if (next->is_judged && count++ == 0) first = due;
     }
     if (count == 0) return;
     words words = {.length = 0};
@@ -386,7 +758,7 @@ static void not_come(tl_board *board, int channel) {
 
 static void not_due(tl_board *board, int channel) {
     queue *far = &board->far[channel];
-    if (far->count == 0 || board->stopped[channel]) return;
+    if (far->count == 0) return;
     entry *front = queue_front(far);
     words words = {.length = 0};
     say(&words, "far %c beat %" PRIu64 ": ", 'A' + channel, front->number);
@@ -399,7 +771,6 @@ static void not_due(tl_board *board, int channel) {
 /* What the bridge has not accepted at the end. */
 static void waits(tl_board *board, int channel) {
     queue *near = &board->near[channel];
-    if (near->count == 0 || board->stopped[channel]) return;
     entry *front = queue_front(near);
     words words = {.length = 0};
     say(&words, "near %c beat %" PRIu64 ": ", 'A' + channel, front->number);
@@ -410,8 +781,24 @@ static void waits(tl_board *board, int channel) {
     differs(board, channel, front->time, words.text);
 }
 
+/* Passes over each message that the bridge has not accepted, so that what is behind it is judged. */
+static void pass_over_waiting(tl_board *board) {
+    for (int channel = 0; channel < CHANNELS && !board->is_dead;) {
+        queue *near = &board->near[channel];
+        if (near->count == 0 || board->messages[channel].fill > 0) {
+            channel++;
+            continue;
+        }
+        waits(board, channel);
+        leave_out(board, channel, queue_front(near));
+        queue_drop(near);
+        advance(board);
+        channel = 0;
+    }
+}
+
 static void is_cut(tl_board *board, int channel) {
-    if (board->stopped[channel] || board->near[channel].count != 0) return;
+    if (board->is_dead || board->near[channel].count != 0) return;
     if (close_on(&board->bridge, channel) != TL_MID_BURST) return;
     words words = {.length = 0};
     say(&words, "near %c: the last message is not whole", 'A' + channel);
@@ -422,7 +809,7 @@ static void open_requests(tl_board *board) {
     const link_view *view = &board->views[TL_CLIENT_LINK];
     unsigned count = 0;
     for (unsigned source = 0; source < SOURCES; source++) {
-        if (view->open[source] <= 0 || ++count > MOST_LINES) continue;
+        if (view->open[source] <= 0 || board->refused[source] || ++count > MOST_LINES) continue;
         words words = {.length = 0};
         say(&words, "open: near A beat %" PRIu64 ", source %04x, has no response", view->number[source], source);
         add_line(board, view->time[source], words.text);
@@ -433,17 +820,23 @@ static void open_requests(tl_board *board) {
     add_line(board, board->now, words.text);
 }
 
+/* Whether nothing was compared, though something should have been. */
+static bool is_vacuous(const tl_board *board) {
+    return tl_board_beats(board) == 0 && !(board->flags & TL_ALLOW_NO_BEATS);
+}
+
 uint64_t tl_board_end(tl_board *board) {
     if (board == NULL) return 0;
     if (!board->ended) {
         end_of_cycle(board);
+        pass_over_waiting(board);
         for (int channel = 0; channel < CHANNELS; channel++) {
-            waits(board, channel);
             not_due(board, channel);
             is_cut(board, channel);
         }
         for (int channel = 0; channel < CHANNELS; channel++) not_come(board, channel);
         open_requests(board);
+        if (is_vacuous(board)) add_line(board, board->now, "no beat was accepted on either link, so nothing was compared");
         if (board->no_memory) add_line(board, board->now, "there was no memory for a beat or a line, so what is said is not all");
         board->ended = true;
     }
@@ -454,7 +847,7 @@ uint64_t tl_board_differences(const tl_board *board) {
     uint64_t sum = 0;
     if (board == NULL) return 0;
     for (int channel = 0; channel < CHANNELS; channel++) sum += board->differ[channel];
-    return sum + board->no_memory;
+    return sum + board->no_memory + (board->ended && is_vacuous(board));
 }
 
 const char *tl_board_line(tl_board *board, uint64_t *time) {
@@ -470,7 +863,9 @@ const char *tl_board_line(tl_board *board, uint64_t *time) {
 
 static bool make_parts(tl_board *board) {
     board->homes = calloc(SOURCES, sizeof *board->homes);
-    bool made = board->homes != NULL && board->bridge.calls->open(&board->bridge.client, &board->bridge.manager, TL_MAX_RING) == TL_OK;
+    board->sizes = calloc(SOURCES, sizeof *board->sizes);
+    board->refused = calloc(SOURCES, sizeof *board->refused);
+    bool made = board->homes != NULL && board->sizes != NULL && board->refused != NULL && board->bridge.calls->open(&board->bridge.client, &board->bridge.manager, TL_MAX_RING) == TL_OK;
     for (int link = 0; link < 2; link++) {
         link_view *view = &board->views[link];
         view->open = calloc(SOURCES, 1);
@@ -495,8 +890,14 @@ tl_board *tl_board_open(unsigned client, unsigned manager, unsigned flags) {
 
 void tl_board_free(tl_board *board) {
     if (board == NULL) return;
+    if (!board->ended && tl_board_beats(board) > 0)
+        fprintf(stderr, "tlbridge scoreboard: freed without tl_board_end, so what did not come is not known: %" PRIu64 " differences in %" PRIu64
+                " beats so far\n", tl_board_differences(board), tl_board_beats(board));
     board->bridge.calls->free(&board->bridge.client, &board->bridge.manager);
     free(board->homes);
+    free(board->sizes);
+    free(board->refused);
+    free(board->held.entries);
     for (int link = 0; link < 2; link++) {
         free(board->views[link].open);
         free(board->views[link].number);
@@ -505,6 +906,7 @@ void tl_board_free(tl_board *board) {
     for (int channel = 0; channel < CHANNELS; channel++) {
         free(board->near[channel].entries);
         free(board->far[channel].entries);
+        free(board->due[channel].entries);
     }
     free(board->text);
     free(board);
@@ -513,8 +915,8 @@ void tl_board_free(tl_board *board) {
 /* ---- For SystemVerilog, by DPI-C: a mask has bit i of lane i, and data 8 bits a lane, in words of 32 bits, lane 0 lowest. A time is a real,
  * so that each simulator prints it by its own format; the board keeps its bits. */
 
-void *tlbridge_board_open(uint32_t client, uint32_t manager, uint8_t unmasked) {
-    return tl_board_open(client, manager, unmasked ? TL_UNMASKED : 0);
+void *tlbridge_board_open(uint32_t client, uint32_t manager, uint8_t flags) {
+    return tl_board_open(client, manager, flags);
 }
 
 void tlbridge_board_free(void *board) {
@@ -525,12 +927,16 @@ const char *tlbridge_board_pairs(void) {
     return tl_board_pairs();
 }
 
+static uint64_t bits_of(double time) {
+    uint64_t bits;
+    memcpy(&bits, &time, sizeof bits);
+    return bits;
+}
+
 void tlbridge_board_beat(void *board, uint8_t link, uint8_t channel, double time, uint8_t opcode, uint8_t param, uint8_t size, uint16_t source,
                          uint16_t sink, uint64_t address, uint8_t denied, uint8_t corrupt, const uint32_t *mask, const uint32_t *data) {
     tl_beat beat = {0};
     uint8_t lanes[TL_WIDEST];
-    uint64_t bits;
-    memcpy(&bits, &time, sizeof bits);
     beat.address = address;
     beat.mask = mask[0] | (uint64_t)mask[1] << 32;
     beat.source = source;
@@ -542,7 +948,7 @@ void tlbridge_board_beat(void *board, uint8_t link, uint8_t channel, double time
     beat.corrupt = corrupt;
     beat.mask_high = mask[2] | (uint64_t)mask[3] << 32;
     for (int lane = 0; lane < TL_WIDEST; lane++) lanes[lane] = (uint8_t)(data[lane / 4] >> (8 * (lane % 4)));
-    tl_board_beat(board, link, (char)channel, bits, &beat, lanes);
+    tl_board_beat(board, link, (char)channel, bits_of(time), &beat, lanes);
 }
 
 const char *tlbridge_board_line(void *board, double *time) {
@@ -550,6 +956,14 @@ const char *tlbridge_board_line(void *board, double *time) {
     const char *line = tl_board_line(board, &bits);
     memcpy(time, &bits, sizeof bits);
     return line == NULL ? "" : line;
+}
+
+void tlbridge_board_reset(void *board, uint8_t link, uint8_t asserted, double time) {
+    tl_board_reset(board, link, asserted != 0, bits_of(time));
+}
+
+uint64_t tlbridge_board_beats(void *board) {
+    return tl_board_beats(board);
 }
 
 uint64_t tlbridge_board_differences(void *board) {

@@ -104,11 +104,10 @@ struct Rules {
 
     Verdict judge(Channel channel, const Beat &b) const {
         if (channel == E) return {None, true};
-        if (first(channel)) {
-            Fault fault = fault_of_first(channel, b);
-            return {fault, fault == None};
-        }
-        if (!same_head(channel, b, rest[channel].front())) return {HeadChanged, recover && fault_of_first(channel, b) == None};
+        Fault fault = fault_of_first(channel, b);
+        bool begins = fault == None || (recover && fault == SizeMismatch);
+        if (first(channel)) return {fault, begins};
+        if (!same_head(channel, b, rest[channel].front())) return {HeadChanged, recover && begins};
         if (mask_is_wrong(channel, b)) return {Mask, false};
         return {None, true};
     }

@@ -244,14 +244,15 @@ class Board(unittest.TestCase):
     def test_no_request(self):
         self.board.beat("manager", "D", 10, Beat(opcode=1, size=2, source=1, data=bytes(4)))
         self.board.beat("manager", "D", 20, Beat(opcode=1, size=2, source=2, data=bytes(4)))
-        self.assertEqual(self.board.end(), 3)
+        self.assertEqual(self.board.end(), 4)
         for line, begin in zip(self.board.lines, (
             "time 10: near D beat 0: source 0001: 9 NoRequest: ",
             "time 20: near D beat 1: source 0002: 9 NoRequest: ",
             "time 10: near D beat 0: opcode 1, size 2, source 0001, sink 0000: waits: 9 NoRequest: ",
+            "time 20: near D beat 1: opcode 1, size 2, source 0002, sink 0000: waits: 9 NoRequest: ",
         )):
             self.assertTrue(line.startswith(begin), line)
-        self.assertTrue(self.board.lines[-1].endswith("; 1 more wait behind it"), self.board.lines[-1])
+        self.assertTrue(self.board.lines[2].endswith("; 1 more wait behind it"), self.board.lines[2])
 
     def test_release_ack(self):
         """It answers no request, and needs none."""
@@ -271,13 +272,14 @@ class Board(unittest.TestCase):
         self.assertEqual(self.board.lines[0], "time 10: near A: the last message is not whole")
 
     def test_behind_a_refused_beat(self):
-        """Nothing more is judged on its channel, and so nothing is missing."""
+        """The next message is judged again."""
         self.board.beat("client", "C", 5, Beat(opcode=6, size=2, source=1, address=0x82))
         self.board.beat("client", "C", 6, Beat(opcode=6, size=2, source=1, address=0x84))
+        self.board.beat("manager", "C", 6, Beat(opcode=6, size=2, source=1, address=0x84))
         self.board.beat("client", "E", 7, Beat(sink=1))
         self.board.beat("manager", "E", 7, Beat(sink=1))
         self.assertEqual(self.board.end(), 1)
-        self.assertRegex(self.board.lines[0], "refused: 4 Unaligned: .*; later near beats of C are not judged$")
+        self.assertRegex(self.board.lines[0], "refused: 4 Unaligned: .*; what becomes of it is not judged$")
 
     def test_far_ahead(self):
         """Hundreds of far beats wait for their near beats, round a queue that grows."""
@@ -363,20 +365,38 @@ class Watched(unittest.TestCase):
         self.assertEqual(self.watch([stalled, self.CLIENT, self.MANAGER, self.ANSWERED, self.CAME]), (0, []))
 
     def test_reset(self):
-        self.assertEqual(self.watch([self.MANAGER], reset="1"), (0, []))
+        self.assertEqual(self.watch([self.MANAGER], reset="1"),
+                         (1, ["time 0: no beat was accepted on either link, so nothing was compared"]))
+
+    def test_reset_amid(self):
+        """It ends what was in flight, and the traffic behind it is judged."""
+        asserted = {"reset": "1"}
+        self.assertEqual(self.watch([self.CLIENT, asserted, asserted, self.CLIENT, self.MANAGER, self.ANSWERED, self.CAME]),
+                         (0, ["time 2: reset of the client's link: 1 beats in flight on both links are not judged"]))
 
     def test_unknown_bits(self):
         self.assertEqual(number_of(types.SimpleNamespace(value="1xz0")), 8)
 
 
 class Design:
-    """Handles by their names, of value 0 where no other is given."""
+    """Handles by their names, of value 0 if no other is given: those of each cycle, and those that stay."""
 
-    def __init__(self, **values):
-        self.values = values
+    def __init__(self, **stays):
+        self.values, self.stays = {}, stays
 
     def __getattr__(self, name):
-        return types.SimpleNamespace(value=self.values.get(name, "0"))
+        return Handle(self, name)
+
+
+class Handle:
+    """A signal, whose value is that of the cycle."""
+
+    def __init__(self, design, name):
+        self.design, self.name = design, name
+
+    @property
+    def value(self):
+        return self.design.values.get(self.name, self.design.stays.get(self.name, "0"))
 
 
 class Edge:

@@ -12,10 +12,10 @@ The rules are those of docs/SPECIFICATION.md; what is proved of each call stands
 from .beats import Beat
 from .bridge import Bridge, Counts, Side, Standings
 from .library import Answer, MissingLibrary, Refused, answer_of, load
-from .scoreboard import Scoreboard
+from .scoreboard import Differs, Scoreboard
 from .traces import Answered, TraceFault, answer
 
 __all__ = [
-    "Answer", "Answered", "Beat", "Bridge", "Counts", "MissingLibrary", "Refused", "Scoreboard", "Side", "Standings", "TraceFault",
+    "Answer", "Answered", "Beat", "Bridge", "Counts", "Differs", "MissingLibrary", "Refused", "Scoreboard", "Side", "Standings", "TraceFault",
     "answer", "answer_of", "load",
 ]

@@ -1,0 +1,105 @@
+/* A board under each want of memory: each allocation is refused in turn, and each call afterwards, too. No call may crash, a board that could
+ * not note a beat or a line has a difference, and all memory is given back. Link with --wrap=malloc, calloc, realloc, free. */
+#include "tlbridge_scoreboard.h"
+#include <stdio.h>
+#include <stdlib.h>
+#include <string.h>
+
+void *__real_malloc(size_t);
+void *__real_calloc(size_t, size_t);
+void *__real_realloc(void *, size_t);
+void __real_free(void *);
+
+static long asked, refused_from, refused_to, held;
+
+static bool is_refused(void) {
+    asked++;
+    return asked >= refused_from && asked < refused_to;
+}
+
+static void *counted(void *block) {
+    held += block != NULL;
+    return block;
+}
+
+void *__wrap_malloc(size_t bytes) {
+    return is_refused() ? NULL : counted(__real_malloc(bytes));
+}
+
+void *__wrap_calloc(size_t count, size_t bytes) {
+    return is_refused() ? NULL : counted(__real_calloc(count, bytes));
+}
+
+void *__wrap_realloc(void *block, size_t bytes) {
+    if (is_refused()) return NULL;
+    return block == NULL ? counted(__real_malloc(bytes)) : __real_realloc(block, bytes);
+}
+
+void __wrap_free(void *block) {
+    held -= block != NULL;
+    __real_free(block);
+}
+
+static unsigned read_lines(tl_board *board) {
+    uint64_t at;
+    unsigned count = 0;
+    for (const char *line; (line = tl_board_line(board, &at)) != NULL; count++)
+        if (strlen(line) == 0) abort();
+    return count;
+}
+
+/* Hundreds of beats, far ones first, some of them wrong; a refused one; a reset of one link with beats of the other; and an end. */
+static void beats(tl_board *board) {
+    uint8_t lanes[TL_WIDEST] = {0};
+    for (unsigned i = 0; i < 300; i++) {
+        tl_beat ack = {.sink = (tl_id)i};
+        tl_board_beat(board, TL_MANAGER_LINK, 'E', i, &ack, NULL);
+    }
+    for (unsigned i = 0; i < 300; i++) {
+        tl_beat ack = {.sink = (tl_id)(i % 30 == 0 ? i + 1 : i)};
+        tl_board_beat(board, TL_CLIENT_LINK, 'E', 1000 + i, &ack, NULL);
+    }
+    for (unsigned i = 0; i < 100; i++) {
+        tl_beat release = {.opcode = 7, .size = 5, .source = 3, .address = i == 50 ? 1 : 32 * (uint64_t)i};
+        for (int k = 0; k < 4; k++) tl_board_beat(board, TL_CLIENT_LINK, 'C', 2000 + i, &release, lanes);
+    }
+    read_lines(board);
+    tl_board_reset(board, TL_MANAGER_LINK, true, 3000);
+    for (unsigned i = 0; i < 80; i++) {
+        tl_beat get = {.opcode = 4, .size = 2, .source = (tl_id)i, .address = 8, .mask = 0xf};
+        tl_board_beat(board, TL_CLIENT_LINK, 'A', 3000 + i, &get, lanes);
+    }
+    tl_board_reset(board, TL_MANAGER_LINK, false, 4000);
+}
+
+/* Whether the board could be opened; `count` says how many differences it has at its end. */
+static bool run(uint64_t *count) {
+    tl_board *board = tl_board_open(8, 4, 0);
+    if (board == NULL) return false;
+    beats(board);
+    *count = tl_board_end(board);
+    read_lines(board);
+    tl_board_free(board);
+    return true;
+}
+
+int main(void) {
+    uint64_t all, some;
+    unsigned passed = 0, failed = 0, opened = 0;
+    if (!run(&all) || held != 0) return printf("%ld blocks held without a refusal\n", held), 1;
+    long allocations = asked;
+    for (int from_then_on = 0; from_then_on < 2; from_then_on++)
+        for (long i = 1; i <= allocations; i++) {
+            asked = held = 0;
+            some = 0;
+            refused_from = i;
+            refused_to = from_then_on ? allocations + 1000 : i + 1;
+            bool is_open = run(&some), is_right = held == 0 && (!is_open || some > 0);
+            opened += is_open;
+            passed += is_right;
+            failed += !is_right;
+            if (!is_right) printf("allocation %ld refused: %ld blocks held, %llu differences\n", i, held, (unsigned long long)some);
+        }
+    printf("%u passed, %u failed, %u of them opened; %llu differences\n", passed, failed, opened, (unsigned long long)all);
+    return failed > 0 || opened == 0;
+}
