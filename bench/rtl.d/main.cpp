@@ -194,7 +194,6 @@ static void far_fires(Channel& c, uint64_t cycle) {
     if (c.got.empty()) c.first_cycle = cycle;
     c.last_cycle = cycle;
     c.got.push_back(b);
-    if (with_resets) compare(c, b);
 }
 static void near_fires(Channel& c) {
     const Beat& b = c.trace[c.at];
@@ -305,10 +304,14 @@ static int play(const char* far_path) {
         top->time_step = 1, top->eval(), top->time_step = 0, top->eval();
         // what fires at these edges
         bool moved = false;
+        bool fired[5] = {};
         for (auto& c : ch)
-            if (rises[!c.near] && !reset_of(!c.near) && far_valid(c.k) && far_ready(c.k)) far_fires(c, cycles[!c.near]), moved = true;
+            if (rises[!c.near] && !reset_of(!c.near) && far_valid(c.k) && far_ready(c.k)) far_fires(c, cycles[!c.near]), fired[c.k] = moved = true;
         for (auto& c : ch)
             if (rises[c.near] && !reset_of(c.near) && near_valid(c.k) && near_ready(c.k)) near_fires(c), moved = true;
+        // (without a FIFO a far beat arrives at the edge at which its near beat is accepted)
+        for (auto& c : ch)
+            if (with_resets && fired[c.k]) compare(c, c.got.back());
         if (moved) idle[0] = idle[1] = 0;
         for (auto& c : ch)
             if (rises[!c.near]) c.standing = !reset_of(!c.near) && far_valid(c.k) && !far_ready(c.k), c.stood = far_beat(c.k);
