@@ -254,12 +254,15 @@ static void draw_resets(int side) {
         next_reset = settled_at + (40 + draw(400)) * slow;
         if (draw(4) == 0) next_reset = now + draw(60) * slow;  // another one before this one has settled
     }
-    // the first one of an episode, and perhaps the other one in its course
-    bool first = resets_left > 0 && now >= next_reset && settled_at < 1e299;
+    // the first one of an episode, and perhaps the other one in its course; none in the last fifth of the traffic, so that what comes after the
+    // last reset has to arrive
+    bool is_late = true;
+    for (auto& c : ch) is_late = is_late && 5 * c.at >= 4 * c.trace.size();
+    bool first = !is_late && resets_left > 0 && now >= next_reset && settled_at < 1e299;
     bool other = settled_at > 1e299 && !reset_of(side) && reset_of(!side) && draw(40) == 0;
     if (first || other) {
         if (first) resets_left--, resets_done++;
-        if (first && draw(3) == 0 && single) begin_reset(!side), ends_at[!side] = now + draw(30) * slow;
+        if (first && draw(3) == 0 && single) begin_reset(!side), ends_at[!side] = now + (1 + draw(30)) * slow;  // at least one edge
         begin_reset(side);
         ends_at[side] = draw(3) ? now + draw(40) * slow : now;  // now: for one edge
     }
@@ -269,6 +272,7 @@ static void forget_old_requests() {
     if (settled_at < now && done != settled_at) {
         done = settled_at;
         memset(busy, 0, sizeof busy), memset(open_requests, 0, sizeof open_requests);
+        for (auto& c : ch) c.far_left = 0;  // no reset leaves the rest of a burst to come
     }
 }
 
