@@ -1,22 +1,22 @@
-# Builds, tests and installs the programs and the C library. What needs a proof is proved before it is built, by the Rattle toolchain's
-# command `rt`, and is kept: what did not change is not proved again.
+# Builds, tests and installs the programs and the C library. `rt`, the command of the Rattle toolchain, proves each program and library before
+# it builds it. Results are kept: a crate that has not changed is not proved again.
 #
 #   make programs                                   tlbridge and tlexplain
 #   make library C=8 M=4                            out/libtlbridge_8_4.a, for a client's link of 8 bytes and a manager's of 4
-#   make test                                       tests the programs and libraries that are built, the scripts and the documents: no proof
+#   make test                                       tests the programs and libraries that are built, the scripts and the documents, without a proof
 #   make install PREFIX=.. [DESTDIR=..] [PAIRS=..]  the files that need no proof, then the library, then the programs, each once it is ready
-#   make install-files PREFIX=.. [DESTDIR=..]       what needs no proof and no `rt`: SystemVerilog, Python, the unverified model, headers,
-#                                                   examples, documents, man pages, completion for bash
+#   make install-files PREFIX=.. [DESTDIR=..]       only the files that need no proof and no `rt`: SystemVerilog, Python, the unverified model,
+#                                                   headers, examples, documents, man pages, completion for bash
 #   make dist [PAIRS=..]                            the installed tree as an archive in out/, to be unpacked anywhere
 #
-# PAIRS are the pairs of widths of the installed library, for example PAIRS="8:4 4:8"; 8:4 if they are left out. PROGRAMS=no leaves out the
+# PAIRS are the pairs of widths of the installed library, for example PAIRS="8:4 4:8". The default is 8:4. PROGRAMS=no leaves out the
 # programs, whose proofs take longest.
 
 override PREFIX := $(or $(PREFIX),/usr/local)
 PAIRS ?= 8:4
 PROGRAMS ?= yes
 CFLAGS ?= -O2
-# The version of the project; and of the library's interface, which its SONAME has.
+# The version of the project, and that of the library's interface, which is in its SONAME.
 VERSION := $(shell sed -n 1p VERSION)
 INTERFACE := $(shell sed -n 's/^.define TL_VERSION \([0-9]*\)$$/\1/p' include/tlbridge.h)
 
@@ -35,14 +35,14 @@ help:
 	@sed -n '1,/^$$/s/^# \{0,1\}//p' Makefile
 
 program_of = ./$(1) --version || { command -v rt > /dev/null || \
-	echo "make: rt is not in PATH: it is the command of the Rattle toolchain, which README.md names" >&2; exit 1; }
+	echo "make: rt, the command of the Rattle toolchain, is not in PATH. README.md names the kit that has it." >&2; exit 1; }
 
 programs:
 	$(call program_of,tlbridge)
 	$(call program_of,tlexplain)
 
 library:
-	@[ -n "$(C)" ] && [ -n "$(M)" ] || { echo "make: give both widths, as make library C=8 M=4" >&2; exit 1; }
+	@[ -n "$(C)" ] && [ -n "$(M)" ] || { echo "make: give both widths in bytes, for example make library C=8 M=4" >&2; exit 1; }
 	+@$(again) out/libtlbridge_$(C)_$(M).a
 
 test:
@@ -51,8 +51,8 @@ test:
 out/libtlbridge_%.a: $(proved)
 	bench/make-library $(subst _, ,$*)
 
-# One library of all pairs, the answer to a trace, the scoreboard, and what the SystemVerilog package imports. The list of pairs is written
-# anew if it is another one.
+# One library has all pairs, the answer to a trace, the scoreboard, and the functions that the SystemVerilog package imports. The list of pairs
+# is written again if it has changed.
 out/pairs: FORCE
 	@mkdir -p out
 	@echo "$(underscored)" | cmp -s - $@ || echo "$(underscored)" > $@
@@ -69,7 +69,7 @@ out/libtlbridge.a: $(archives) $(glue)
 out/libtlbridge.so: out/libtlbridge.a
 	$(CC) -shared -o $@ -Wl,-soname,libtlbridge.so.$(INTERFACE) out/objects/*.o $(glue)
 
-# One step after another, so that each part is in place before the next proof begins.
+# The steps run one after another, so that each part is installed before the next proof begins.
 install:
 	+@$(again) install-files
 	+@$(again) install-pairs
@@ -105,7 +105,7 @@ install-files:
 	scripts/cut-links $(share)
 	install -d $(root)/share/doc && rm -rf $(root)/share/doc/tlbridge && ln -s ../tlbridge $(root)/share/doc/tlbridge
 
-# The archive of each pair by itself, which is ready first.
+# The archives of single pairs, which are ready first.
 install-pairs: $(underscored:%=install-pair-%)
 install-pair-%: out/libtlbridge_%.a
 	install -d $(root)/lib

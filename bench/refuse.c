@@ -1,17 +1,17 @@
-/* A library to preload into the built program (LD_PRELOAD), which refuses memory, threads, reads and writes. bench/refusals builds it
-   and says to it, by the environment, what to refuse:
+/* A library to preload into the built program (LD_PRELOAD), which makes allocations, starts of threads, reads and writes fail.
+   bench/refusals builds it. The environment says what fails:
 
        REFUSE_GROWTH=N   the Nth growth of memory, counted from the start of the program
        REFUSE_FROM=N     each growth from the Nth on
        REFUSE_START=N    the Nth start of a thread
-       REFUSE_READ=K     the Kth read, of standard input or of the file that is named in its place
+       REFUSE_READ=K     the Kth read, of standard input or of the file that is named instead
        REFUSE_WRITE=K    the Kth write to standard output
-       REFUSE_ERROR=E    how that read or write fails: by this errno (EIO where nothing is said), or, for 0, by moving no byte
+       REFUSE_ERROR=E    how that read or write fails: by this errno (EIO by default), or, for 0, by moving no byte
        REFUSE_PIECE=B    each read and each write to standard output moves B bytes at most
        REFUSE_LOG=FD     one letter for each event goes to this descriptor: g a growth, n a growth within the start of a thread,
-                         s such a start, r a read, w a write to standard output; in upper case where it was refused
+                         s such a start, r a read, w a write to standard output; in upper case if it was refused
 
-   Where nothing is said, it refuses nothing. It uses the C library's own allocator and plain system calls. */
+   Without any of these, nothing fails. It uses the C library's own allocator and plain system calls. */
 #define _GNU_SOURCE
 #include <dlfcn.h>
 #include <errno.h>

@@ -1,32 +1,32 @@
-/* A TileLink clock and width bridge for C: each side behind a handle, both in one thread or each in a thread of its own.
+/* A TileLink width adapter and clock crossing for C. Each side has a handle; both sides may run in one thread, or each in its own thread.
  *
- * A library libtlbridge_C_M.a is for one pair of widths: C bytes on the client's link, M on the manager's, each 1, 2, 4, 8, 16, 32, 64
- * or 128 (bench/make-library C M makes it). TLBRIDGE(C, M) declares its calls, and may stand for several pairs in one file:
+ * A library libtlbridge_C_M.a is for one pair of widths: C bytes on the client's link and M on the manager's, each 1, 2, 4, 8, 16, 32, 64
+ * or 128. `bench/make-library C M` makes it. TLBRIDGE(C, M) declares its calls. One file may declare several pairs:
  *
  *     #include "tlbridge.h"
  *     TLBRIDGE(8, 4)
  *
  *     tl_8_4_client client = {0};
  *     tl_8_4_manager manager = {0};
- *     uint8_t fault = tl_8_4_open(&client, &manager, 16, 0);
+ *     uint8_t status = tl_8_4_open(&client, &manager, 16, 0);
  *
- * The client's side offers beats of A, C and E and takes those of B and D; the manager's side offers beats of B and D and takes
- * those of A, C and E. An accepted near beat stages the far beats that it completes; pump moves them into rings, fetch from the other
- * side's rings into inboxes, and take out of these. In one thread settle does both on both sides until nothing more can move.
+ * The client's side offers beats of A, C and E, and takes beats of B and D. The manager's side offers B and D, and takes A, C and E. An
+ * accepted near beat stages the far beats that it completes. `pump` moves them into rings, `fetch` moves them from the other side's rings
+ * into inboxes, and `take` removes them from there. In one thread, `settle` does both on both sides until nothing more can move.
  * docs/LIBRARY.md says what is proved of each call.
  *
- * What is trusted. The proofs hold for every sequence of calls, if
- *   - each pointer is to memory of its type, whole and aligned, that nothing else uses during the call, and no two pointers of one
- *     call overlap;
- *   - a handle, and a tl_answer, is all zero before its first call, is changed by these calls alone, is never copied, and goes to the
- *     calls of its own pair of widths and its own side;
- *   - one handle is in one call at a time. It may go to another thread where the calls on it before come first, as by pthread_create,
- *     pthread_join or a mutex. Different handles are independent, and so are the two of one bridge: their calls may be made at the same
- *     moment. Only open, which lets go what its two handles hold, meet and settle have both;
- *   - two sides that meet, and have the same number, come from one open;
- *   - no call is made in a signal handler, or in the forked child of a process with threads;
+ * The proofs hold for every sequence of calls if the caller guarantees these points:
+ *   - Each pointer is to memory of its type, complete and aligned, that nothing else uses during the call. No two pointers of one call
+ *     overlap.
+ *   - A handle, and a tl_answer, is all zero before its first call. Only these calls change it. It is never copied. It is passed only to the
+ *     calls of its own pair of widths and its own side.
+ *   - A handle is in one call at a time. It may move to another thread if the calls on it so far happen before the next one, for example
+ *     through pthread_create, pthread_join or a mutex. Different handles are independent, and so are the two of one bridge: their calls may
+ *     run at the same moment. Only open, meet and settle use both handles. open first frees whatever they held.
+ *   - Two sides that meet, and have the same number, come from one open.
+ *   - No call is made in a signal handler, or in the forked child of a process with threads.
  *   - malloc, realloc and free are one allocator, which aligns a block of n bytes to each power of two up to 16 that divides n.
- * A handle whose side was freed is zero again: each call on it is answered as on one that was never opened.
+ * A handle whose side was freed is zero again. Each call on it returns what it returns on a handle that was never opened.
  */
 #ifndef TLBRIDGE_H
 #define TLBRIDGE_H
@@ -35,13 +35,14 @@
 #include <stddef.h>
 #include <stdint.h>
 
-/* The version of the project, which is also that of the programs, of the Python package, and for pkg-config and CMake. */
-#define TLBRIDGE_VERSION "0.6.0"
+/* The version of the project: of the programs, the Python package, pkg-config and CMake. */
+#define TLBRIDGE_VERSION "0.7.0"
 
-/* The number of this interface, and of the shared library's SONAME: a library with another number has other calls or other structures. */
-#define TL_VERSION 5
+/* The version of this interface, which is also in the shared library's SONAME. A library with another version has other calls or structures. */
+#define TL_VERSION 6
 
-/* What calls answer. 0 is success; in each other case nothing changed (but that a refused open leaves no side in its two handles). */
+/* The statuses that calls return. 0 is success. On any other value nothing has changed, with two exceptions: a failed open leaves both handles
+ * empty, and a failed tl_answer_trace frees the earlier answer and writes the line of the fault. */
 enum {
     TL_OK = 0,
     /* faults of a beat: docs/SPECIFICATION.md, section 6 */
@@ -52,56 +53,60 @@ enum {
     TL_MASK = 5,
     TL_CORRUPT = 6,
     TL_HEAD_CHANGED = 7,
-    /* what the other channel says: section 9. The first two are for now: the same beat may be offered again later */
+    /* rules between A and D: section 9. After the first two, the same beat may be offered again later */
     TL_SOURCE_BUSY = 8,
     TL_NO_REQUEST = 9,
     TL_SIZE_MISMATCH = 10,
     /* of close */
     TL_MID_BURST = 11,
-    /* of open; no memory is an answer of tl_answer_trace, too */
+    /* of open; TL_OUT_OF_MEMORY also of tl_answer_trace */
     TL_RING_SIZE = 12,
     TL_OUT_OF_MEMORY = 13,
-    /* of tl_answer_trace: what the first faulty line of a text has, and a text of more than 67,108,864 bytes; section 11 */
+    /* of tl_answer_trace: the fault of the first faulty line, section 11 */
     TL_HEADER = 14,
     TL_CHANNEL_LETTER = 15,
     TL_LENGTH = 16,
     TL_SHAPE = 17,
     TL_RANGE = 18,
     TL_NO_END = 19,
-    /* of the program tlbridge alone */
+    /* only of the program tlbridge */
     TL_STALLED = 20,
     TL_READ = 21,
     TL_WRITE = 22,
-    /* of tl_answer_trace */
+    /* of tl_answer_trace: the text has more than 67,108,864 bytes */
     TL_TOO_LONG = 23,
-    /* of meet and settle: the two sides are of two bridges, since their numbers differ */
-    TL_OTHER_BRIDGE = 251,
-    /* the handle holds no side; of meet and settle, one of the two handles */
-    TL_NO_SIDE = 252,
+    /* of drained: the number of beats taken is not that of the receipt */
+    TL_NOT_TAKEN = 249,
+    /* of meet, settle and drained: the numbers of the two bridges differ */
+    TL_BRIDGE_MISMATCH = 251,
+    /* the handle has no side; of meet and settle, one of the two handles has none */
+    TL_NOT_OPEN = 252,
+    /* of finish: a channel that the side sends is still open, or far beats are staged */
+    TL_NOT_SENT = 253,
     /* the channel takes no beat now: far beats are staged, or it is closed */
     TL_NOT_READY = 254
 };
 
-/* The bytes of an answer's name and of its sentence, with the zeros at their ends. */
+/* The bytes of a status's name and of its sentence, including the zeros at their ends. */
 #define TL_NAME_BYTES 16
 #define TL_SENTENCE_BYTES 144
 
-/* The most beats that a ring holds. */
+/* The maximum number of beats in a ring. */
 #define TL_MAX_RING 4096
 
-/* The lanes of the widest link. */
+/* The number of lanes of the widest link. */
 #define TL_WIDEST 128
 
 /* A source or a sink. */
 typedef uint16_t tl_id;
 
-/* The fields of a beat on any channel, but its lanes: 40 bytes with no gap between two fields. A field that the channel lacks is not
- * read, and is written 0.
+/* The fields of a beat on any channel, except its lanes: 40 bytes without a gap between two fields. A field that the channel does not have is
+ * not read, and is written as 0.
  *
- * A mask has a bit for each lane: lanes 0 to 63 in `mask`, lane 0 lowest, and lanes 64 to 127 in `mask_high`, lane 64 lowest. A program
- * for links of at most 64 lanes need not name `mask_high`, if a beat is all zero but for the fields that it sets, as in
- * `tl_beat get = {.mask = 0xff, .opcode = 4, .size = 3};`. On such a link a bit in `mask_high` is TL_MASK, as any other past the width,
- * and it is written 0. */
+ * A mask has a bit for each lane: lanes 0 to 63 in `mask`, lane 0 lowest, and lanes 64 to 127 in `mask_high`, lane 64 lowest. A program for
+ * links of at most 64 lanes need not name `mask_high` if all fields that it does not set are 0, as in
+ * `tl_beat get = {.mask = 0xff, .opcode = 4, .size = 3};`. On such a link, a bit in `mask_high` is a TL_MASK fault, like any other bit past
+ * the width, and `mask_high` is written as 0. */
 typedef struct {
     uint64_t address;    /* A, B, C */
     uint64_t mask;       /* A, B: lanes 0 to 63 */
@@ -110,13 +115,13 @@ typedef struct {
     uint8_t opcode;      /* A to D; byte 20 */
     uint8_t param;       /* A to D */
     uint8_t size;        /* A to D: the message has 2^size bytes */
-    uint8_t denied;      /* D: 0, or any other number for set; written 0 or 1 */
-    uint8_t corrupt;     /* A to D: as denied; byte 24 */
-    uint8_t reserved[7]; /* not read, and written 0 */
+    uint8_t denied;      /* D: 0, or any other number for set; written as 0 or 1 */
+    uint8_t corrupt;     /* A to D: like denied; byte 24 */
+    uint8_t reserved[7]; /* not read, and written as 0 */
     uint64_t mask_high;  /* A, B: lanes 64 to 127; byte 32 */
 } tl_beat;
 
-/* How many far beats of one channel wait at each place. */
+/* The number of far beats of one channel that wait in each buffer. */
 typedef struct {
     size_t staged;
     size_t in_ring;
@@ -127,7 +132,14 @@ typedef struct {
     tl_counts a, b, c, d, e;
 } tl_standings;
 
-/* Whether no far beat waits: what was taken is then all that the accepted beats make due. */
+/* The number of far beats that a side has sent since open on each channel that it sends, and the number taken from it on each of the others.
+ * A receipt has the same fields. Each number is exact if it is below 2^63. */
+typedef struct {
+    uint64_t bridge; /* the number that was passed to open */
+    uint64_t a, b, c, d, e;
+} tl_totals;
+
+/* Returns whether no far beat waits. If so, all far beats that the accepted beats call for were taken. */
 static inline bool tl_drained(const tl_standings *standings) {
     const tl_counts of[] = {standings->a, standings->b, standings->c, standings->d, standings->e};
     for (int x = 0; x < 5; x++)
@@ -135,14 +147,14 @@ static inline bool tl_drained(const tl_standings *standings) {
     return true;
 }
 
-/* What an answer means, as "SourceBusy" and "the source's last request still waits for its response": both end with zeros, and are zeros
- * alone for a number that is no answer. */
+/* The name and the sentence of a status, for example "SourceBusy" and "the source's last request still waits for its response". Both end with
+ * zeros, and are all zeros for a number that is not a status. */
 typedef struct {
     char name[TL_NAME_BYTES];
     char sentence[TL_SENTENCE_BYTES];
 } tl_text;
 
-/* The name of a call for one pair of widths, as TL_CALL(8, 4, open): for code that is written over the pair. */
+/* The name of a call for one pair of widths, for code whose pair is a macro: TL_CALL(8, 4, open) is tl_8_4_open. */
 #define TL_CALL_OF(client, manager, call) tl_##client##_##manager##_##call
 #define TL_CALL(client, manager, call) TL_CALL_OF(client, manager, call)
 
@@ -154,34 +166,46 @@ typedef struct {
 #define TL_END
 #endif
 
-/* The calls of one pair of widths. In the names of types and calls, CLIENT and MANAGER stand for the pair. No call waits for the other
- * side. All are total: on a handle that holds no side they answer TL_NO_SIDE, false or 0 and change nothing. `side` is the client's
- * handle for the offers of A, C and E and the takes of B and D, and the manager's for the offers of B and D and the takes of A, C and E.
+/* The calls of one pair of widths. In the names of types and calls, CLIENT and MANAGER are the two widths. No call waits for the other side.
+ * All are total: if a handle has no side, they return TL_NOT_OPEN, false or 0 and change nothing. `side` is the client's handle to offer A, C
+ * and E and to take B and D, and the manager's handle to offer B and D and to take A, C and E.
  *
- *   tl_CLIENT_MANAGER_client             all zero, it holds no side; so does
+ *   tl_CLIENT_MANAGER_client             The two types of handles. A handle that is all zero has no side.
  *   tl_CLIENT_MANAGER_manager
- *   open(client, manager, ring, bridge)  makes a bridge with five rings of that many beats, 1 to 4,096, gives each handle its side, and lets
- *                                        those go that the handles held, before a thread has one of them. `bridge` is a number by which the
- *                                        caller tells its bridges apart, any one. TL_OK, TL_RING_SIZE or TL_OUT_OF_MEMORY; in the last two
- *                                        cases both handles hold none. It takes all memory that the bridge needs: the rings, and 1,088 KiB of
- *                                        tables for the 65,536 sources
- *   free_client(client),                 let a side go, if there is one. The other side goes on by itself: nothing new comes from the one
- *   free_manager(manager)                that is gone, and what is sent to it fills its rings and its stages
- *   ready_x(side)                        whether a beat of x may be offered: nothing of x is staged, and x isn't closed
- *   offer_x(side, beat, lanes)           offers a near beat: TL_OK, its first fault (1 to 10), TL_NOT_READY or TL_NO_SIDE. `lanes` has as
- *                                        many bytes as the sender's link, lane 0 first
- *   take_x(side, beat, lanes)            takes the first far beat and writes it: whether there was one; else nothing is written. `lanes` has
- *                                        as many bytes as the receiver's link; a lane without a byte of the message is 0
- *   close_x(side)                        ends the offers of x: TL_OK, TL_MID_BURST or TL_NO_SIDE. What is staged still crosses
- *   pump_client(client),                 move what the side knows to find a place, or more, from its stages to its rings: how many beats
- *   pump_manager(manager)
- *   fetch_client(client),                move what the side knows to be there, or more, from the other side's rings to its inboxes, where
- *   fetch_manager(manager)               these have room: how many beats
- *   meet(client, manager, standings)     both sides in one thread: writes how many far beats wait, and where. TL_OK, TL_NO_SIDE where a
- *                                        handle holds none, TL_OTHER_BRIDGE where their numbers differ; in the last two cases nothing changes
- *   settle(client, manager, standings)   the same, once both sides have pumped and fetched until nothing more can move
- *   answer_text(answer, text)            writes the name and the sentence of an answer
- *   version()                            TL_VERSION of the library */
+ *   open(client, manager, ring, bridge)  Frees what the handles held, creates a bridge, and gives each handle its side. Each of the five rings
+ *                                        has room for `ring` beats, 1 to 4,096. `bridge` is any number; it distinguishes this bridge from
+ *                                        others. Call it before another thread has one of the handles. It allocates all memory that the
+ *                                        bridge needs: the rings, and 1,088 KiB of tables for the 65,536 sources. Returns TL_OK, TL_RING_SIZE
+ *                                        or TL_OUT_OF_MEMORY; in the last two cases both handles are empty.
+ *   free_client(client),                 Free a side, and do nothing if the handle is empty. The other side stays usable, but receives nothing
+ *   free_manager(manager)                new, and what it sends collects in its rings and stages until they are full.
+ *   ready_x(side)                        Returns whether a beat of x may be offered: nothing of x is staged, and x is not closed.
+ *   offer_x(side, beat, lanes)           Offers a near beat. `lanes` has one byte for each lane of the sender's link, lane 0 first. Returns TL_OK,
+ *                                        the first fault of the beat (1 to 10), TL_NOT_READY or TL_NOT_OPEN.
+ *   take_x(side, beat, lanes)            Removes the first far beat from the inbox and writes it. `lanes` has one byte for each lane of the
+ *                                        receiver's link; a lane without a byte of the message is 0. Returns true if there was a beat, and
+ *                                        otherwise writes nothing.
+ *   close_x(side)                        Ends the offers of x. Staged beats still cross. Returns TL_OK, TL_MID_BURST or TL_NOT_OPEN.
+ *   pump_client(client),                 Move beats from this side's stages into its rings, and return how many were moved. At least as many are
+ *   pump_manager(manager)                moved as this side knows to fit, and more if the other thread has made room meanwhile.
+ *   fetch_client(client),                Move beats from the other side's rings into this side's inboxes, as far as these have room, and return
+ *   fetch_manager(manager)               how many were moved. At least as many are moved as this side knows to be there.
+ *   meet(client, manager, standings)     With both sides in one thread: writes the number of far beats that wait in each buffer. Returns TL_OK,
+ *                                        TL_NOT_OPEN if a handle has no side, or TL_BRIDGE_MISMATCH if their numbers differ. In the last two
+ *                                        cases nothing changes.
+ *   settle(client, manager, standings)   Pumps and fetches both sides until nothing more can move, and then does the same as meet.
+ *   count_client(client, totals),        Write the number of far beats that the side has moved into its rings on each channel that it sends, and
+ *   count_manager(manager, totals)       the number that take has removed on each of the others. Return TL_OK or TL_NOT_OPEN.
+ *   finish_client(client, receipt),      Write the receipt of a side that has sent everything: each channel that it sends is closed, and no far
+ *   finish_manager(manager, receipt)     beat is staged. Return TL_OK, TL_NOT_SENT (close the channels, pump, and call again) or TL_NOT_OPEN. In
+ *                                        the last two cases nothing is written. The side itself does not change: it can still fetch and take.
+ *                                        A receipt is a plain structure, which may be copied and passed to any thread.
+ *   drained_client(client, receipt),     Compare a side with the receipt of the other side of its bridge. Return TL_OK if as many beats were taken
+ *   drained_manager(manager, receipt)    from this side as the receipt counts. These are then all beats that the other side will ever send.
+ *                                        Otherwise return TL_NOT_TAKEN, TL_BRIDGE_MISMATCH if the receipt has the number of another bridge, or
+ *                                        TL_NOT_OPEN. The caller guarantees that finish of the other side wrote the receipt.
+ *   status_text(status, text)            Writes the name and the sentence of a status.
+ *   version()                            Returns TL_VERSION of the library. */
 #define TLBRIDGE(cw, mw) \
     TL_BEGIN \
     TL_SIDE(cw, mw, client) \
@@ -189,7 +213,7 @@ typedef struct {
     uint8_t TL_CALL(cw, mw, open)(TL_CALL(cw, mw, client) *client, TL_CALL(cw, mw, manager) *manager, size_t ring, uint64_t bridge); \
     uint8_t TL_CALL(cw, mw, meet)(TL_CALL(cw, mw, client) *client, TL_CALL(cw, mw, manager) *manager, tl_standings *standings); \
     uint8_t TL_CALL(cw, mw, settle)(TL_CALL(cw, mw, client) *client, TL_CALL(cw, mw, manager) *manager, tl_standings *standings); \
-    void TL_CALL(cw, mw, answer_text)(uint8_t answer, tl_text *text); \
+    void TL_CALL(cw, mw, status_text)(uint8_t status, tl_text *text); \
     uint32_t TL_CALL(cw, mw, version)(void); \
     TL_CHANNEL(cw, mw, a, client, cw, manager, mw) \
     TL_CHANNEL(cw, mw, b, manager, mw, client, cw) \
@@ -200,13 +224,16 @@ typedef struct {
 
 #define TL_SIDE(cw, mw, side) \
     typedef struct { \
-        void *held; \
-        bool live; \
+        void *impl; \
+        bool is_open; \
         uint64_t bridge; \
     } TL_CALL(cw, mw, side); \
     void TL_CALL(cw, mw, free_##side)(TL_CALL(cw, mw, side) *side); \
     size_t TL_CALL(cw, mw, pump_##side)(TL_CALL(cw, mw, side) *side); \
-    size_t TL_CALL(cw, mw, fetch_##side)(TL_CALL(cw, mw, side) *side);
+    size_t TL_CALL(cw, mw, fetch_##side)(TL_CALL(cw, mw, side) *side); \
+    uint8_t TL_CALL(cw, mw, count_##side)(TL_CALL(cw, mw, side) *side, tl_totals *totals); \
+    uint8_t TL_CALL(cw, mw, finish_##side)(TL_CALL(cw, mw, side) *side, tl_totals *receipt); \
+    uint8_t TL_CALL(cw, mw, drained_##side)(TL_CALL(cw, mw, side) *side, const tl_totals *receipt);
 
 #define TL_CHANNEL(cw, mw, x, near, near_width, far, far_width) \
     bool TL_CALL(cw, mw, ready_##x)(TL_CALL(cw, mw, near) *near); \
@@ -216,7 +243,7 @@ typedef struct {
 
 TL_BEGIN
 
-/* Whether the mask of a beat has the bit of a lane, 0 to 127. */
+/* Returns whether the mask of a beat has the bit of a lane, 0 to 127. */
 static inline bool tl_mask_has(const tl_beat *beat, unsigned lane) {
     return (lane < 64 ? beat->mask >> lane : beat->mask_high >> (lane - 64)) & 1;
 }
@@ -229,27 +256,27 @@ static inline void tl_mask_add(tl_beat *beat, unsigned lane) {
         beat->mask_high |= (uint64_t)1 << (lane - 64);
 }
 
-/* The answer to a whole trace, or why there is none; all zero, it has none. It is of another library, libtlbridge_trace.a, which has no
- * pair of widths: bench/make-library trace makes it. */
+/* The answer to a whole trace, or the fault of the trace. It has neither if it is all zero. It belongs to another library,
+ * libtlbridge_trace.a, which is for all pairs of widths: `bench/make-library trace` makes it. */
 typedef struct {
-    const uint8_t *text; /* the answer's bytes, no zero at their end; NULL where there is none */
+    const uint8_t *text; /* the bytes of the answer, without a zero at the end; NULL if there is no answer */
     size_t length;
-    uint64_t line; /* the line of the trace that has the fault, counted from 1; 0 where no line has it */
-    void *held;
-    bool live;
-    uint8_t all_done; /* 1 where all five channels are done, else 0 */
+    uint64_t line; /* the line of the fault, counted from 1; 0 if no line has a fault */
+    void *impl;
+    bool is_open;
+    uint8_t all_done; /* 1 if all five channels are done, and otherwise 0 */
 } tl_answer;
 
-/* Answers the text of a trace as `tlbridge run` does, and where `check` is not 0, as `tlbridge check`: TL_OK, or the text's fault, 13 to 23.
- * An answer that was there before is let go first. Its text stays where it is until tl_answer_free gives it back. `text` is `length` bytes,
- * and not NULL where there are none. Calls of several threads are independent. */
+/* Computes the answer to the text of a trace: that of `tlbridge check` if `check` is not 0, and otherwise that of `tlbridge run`. Frees the
+ * earlier answer first. The new text stays valid until tl_answer_free. `text` has `length` bytes, and is not NULL, except that it may be NULL
+ * if `length` is 0. Calls in several threads are independent. Returns TL_OK, or the fault of the text, 13 to 23. */
 uint8_t tl_answer_trace(const uint8_t *text, size_t length, uint8_t check, tl_answer *answer);
 
-/* Gives the text of an answer back, if there is one: the answer is all zero then. */
+/* Frees the text of an answer, if there is one, and sets the answer to zero. */
 void tl_answer_free(tl_answer *answer);
 
-/* Writes the name and the sentence of an answer, as tl_CLIENT_MANAGER_answer_text does. */
-void tl_answer_text(uint8_t answer, tl_text *text);
+/* Writes the name and the sentence of a status, as tl_CLIENT_MANAGER_status_text does. */
+void tl_status_text(uint8_t status, tl_text *text);
 
 TL_END
 

@@ -2,7 +2,7 @@
 _tlbridge() {
     local word=${COMP_WORDS[COMP_CWORD]} before=${COMP_WORDS[COMP_CWORD - 1]} widths="1 2 4 8 16 32 64 128" words
     case $1 in
-    *tlexplain) words="--lanes --html --only --from --to --source --channel --no-remarks --faults --help --version" ;;
+    *tlexplain) words="--lanes --html --json --times --in-order --only --from --to --source --channel --no-remarks --faults --help --version" ;;
     *tlbridge-compare)
         words="--ignore-unmasked --write-trace --program --help"
         [ "$COMP_CWORD" -gt 2 ] || words=$widths

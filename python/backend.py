@@ -1,7 +1,7 @@
-"""Builds the wheel for pip, with what comes with Python alone, so that no network is needed.
+"""Builds the wheel for pip. It uses only Python's own library, so that no network is needed.
 
-The shared library goes into the wheel where it is found: TLBRIDGE_LIBRARY names it, or this folder stands where `make install` put it, or
-in the repository after `make install`. Without one the wheel is for every machine, and the library is looked for when it is used.
+If the shared library is found, it goes into the wheel. It is looked for at the path in TLBRIDGE_LIBRARY, in the tree that `make install` made
+around this folder, and in out/ of the repository. Otherwise the wheel is for every machine, and the library is looked for when it is used.
 """
 import base64
 import hashlib
@@ -11,7 +11,7 @@ import zipfile
 from pathlib import Path
 
 HERE = Path(__file__).resolve().parent
-NAME, VERSION = "tlbridge", "0.6.0"
+NAME, VERSION = "tlbridge", "0.7.0"
 SCRIPTS = "[console_scripts]\ntlbridge-compare = tlbridge.compare:main\ntlbridge-trace = tlbridge.waves.command:main\n"
 METADATA = f"Metadata-Version: 2.1\nName: {NAME}\nVersion: {VERSION}\nRequires-Python: >=3.8\n"
 

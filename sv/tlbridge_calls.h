@@ -1,36 +1,36 @@
-/* The calls of include/tlbridge.h as a table with a row for each pair of widths that the program is linked with: tlbridge_scoreboard.c and
- * tlbridge_dpi.c stand on it. They are compiled with a macro for each of these pairs, as -DTLBRIDGE_8_4. */
+/* The calls of include/tlbridge.h as a table with a row for each pair of widths that the program links. tlbridge_scoreboard.c and
+ * tlbridge_dpi.c use it; compile them with a macro for each pair, for example -DTLBRIDGE_8_4. */
 #ifndef TLBRIDGE_CALLS_H
 #define TLBRIDGE_CALLS_H
 
 #include "tlbridge.h"
 
-/* Makes `yes(cw, mw)` of a pair whose macro is defined, which is to 1, and nothing of any other. */
-#define IF_LINKED(yes, cw, mw) CHOICE(TLBRIDGE_##cw##_##mw, yes)(cw, mw)
-#define CHOICE(macro, yes) CHOICE_BY(macro, yes)
-#define CHOICE_BY(value, yes) SECOND(BEFORE_##value yes, NOTHING, )
-#define BEFORE_1 unused,
-#define SECOND(...) SECOND_OF(__VA_ARGS__)
-#define SECOND_OF(first, second, ...) second
-#define NOTHING(cw, mw)
+/* Expands to `expand(cw, mw)` if the macro of the pair is defined as 1, otherwise to nothing. */
+#define TLBRIDGE_IF_LINKED(expand, cw, mw) TLBRIDGE_SELECT(TLBRIDGE_##cw##_##mw, expand)(cw, mw)
+#define TLBRIDGE_SELECT(macro, expand) TLBRIDGE_SELECT_BY(macro, expand)
+#define TLBRIDGE_SELECT_BY(value, expand) TLBRIDGE_SECOND(TLBRIDGE_PROBE_##value expand, TLBRIDGE_NOTHING, )
+#define TLBRIDGE_PROBE_1 unused,
+#define TLBRIDGE_SECOND(...) TLBRIDGE_SECOND_OF(__VA_ARGS__)
+#define TLBRIDGE_SECOND_OF(first, second, ...) second
+#define TLBRIDGE_NOTHING(cw, mw)
 
-#define OF_CLIENT(yes, cw) \
-    IF_LINKED(yes, cw, 1) IF_LINKED(yes, cw, 2) IF_LINKED(yes, cw, 4) IF_LINKED(yes, cw, 8) \
-    IF_LINKED(yes, cw, 16) IF_LINKED(yes, cw, 32) IF_LINKED(yes, cw, 64) IF_LINKED(yes, cw, 128)
-#define OF_EACH_PAIR(yes) \
-    OF_CLIENT(yes, 1) OF_CLIENT(yes, 2) OF_CLIENT(yes, 4) OF_CLIENT(yes, 8) \
-    OF_CLIENT(yes, 16) OF_CLIENT(yes, 32) OF_CLIENT(yes, 64) OF_CLIENT(yes, 128)
+#define TLBRIDGE_OF_CLIENT(expand, cw) \
+    TLBRIDGE_IF_LINKED(expand, cw, 1) TLBRIDGE_IF_LINKED(expand, cw, 2) TLBRIDGE_IF_LINKED(expand, cw, 4) TLBRIDGE_IF_LINKED(expand, cw, 8) \
+    TLBRIDGE_IF_LINKED(expand, cw, 16) TLBRIDGE_IF_LINKED(expand, cw, 32) TLBRIDGE_IF_LINKED(expand, cw, 64) TLBRIDGE_IF_LINKED(expand, cw, 128)
+#define TLBRIDGE_OF_EACH_PAIR(expand) \
+    TLBRIDGE_OF_CLIENT(expand, 1) TLBRIDGE_OF_CLIENT(expand, 2) TLBRIDGE_OF_CLIENT(expand, 4) TLBRIDGE_OF_CLIENT(expand, 8) \
+    TLBRIDGE_OF_CLIENT(expand, 16) TLBRIDGE_OF_CLIENT(expand, 32) TLBRIDGE_OF_CLIENT(expand, 64) TLBRIDGE_OF_CLIENT(expand, 128)
 
-/* A handle of one side, as that of each pair. */
+/* A handle of one side. The handles of all pairs have this layout. */
 typedef struct {
-    void *held;
-    bool live;
+    void *impl;
+    bool is_open;
     uint64_t bridge;
 } side;
 
 enum { A, B, C, D, E, CHANNELS };
 
-/* The calls on one channel of a pair, and of a pair. */
+/* The calls of a pair on one channel, then all calls of a pair. */
 typedef struct {
     bool (*ready)(side *);
     uint8_t (*offer)(side *, const tl_beat *, const uint8_t *);
@@ -52,13 +52,13 @@ typedef struct {
     void (*text)(uint8_t, tl_text *);
 } pair_calls;
 
-/* Both sides of a bridge, and the calls of its pair; all zero, it was never opened. */
+/* Both sides of a bridge and the calls of its pair. All zero means never opened. */
 typedef struct {
     const pair_calls *calls;
     side client, manager;
 } both_sides;
 
-/* The calls of a pair, and these with handles of one type. */
+/* Declares the calls of a pair, and defines the same calls over the common handle type. */
 #define NAME(cw, mw, call) NAME_OF(cw, mw, call)
 #define NAME_OF(cw, mw, call) call##_##cw##_##mw
 #define AS(cw, mw, which, handle) ((TL_CALL(cw, mw, which) *)(handle))
@@ -96,7 +96,7 @@ typedef struct {
         TL_CALL(cw, mw, free_client)(AS(cw, mw, client, s)); \
         TL_CALL(cw, mw, free_manager)(AS(cw, mw, manager, t)); \
     }
-OF_EACH_PAIR(CALLS)
+TLBRIDGE_OF_EACH_PAIR(CALLS)
 
 #define CHANNEL_ENTRY(cw, mw, x) \
     {NAME(cw, mw, ready_##x), NAME(cw, mw, offer_##x), NAME(cw, mw, take_##x), NAME(cw, mw, close_##x)}
@@ -112,18 +112,18 @@ OF_EACH_PAIR(CALLS)
      NAME(cw, mw, fetch_manager), \
      NAME(cw, mw, meet), \
      NAME(cw, mw, settle), \
-     TL_CALL(cw, mw, answer_text)},
-static const pair_calls pairs[] = {OF_EACH_PAIR(ENTRY)};
+     TL_CALL(cw, mw, status_text)},
+static const pair_calls pairs[] = {TLBRIDGE_OF_EACH_PAIR(ENTRY)};
 typedef char compile_with_a_macro_for_each_pair_as_TLBRIDGE_8_4[sizeof pairs > 0 ? 1 : -1];
 
-/* The calls of a pair, or NULL where the program is not linked with it. */
+/* Returns the calls of a pair, or NULL if the program does not link it. */
 static const pair_calls *pair_of(unsigned client, unsigned manager) {
     for (size_t i = 0; i < sizeof pairs / sizeof *pairs; i++)
         if (pairs[i].client == client && pairs[i].manager == manager) return &pairs[i];
     return NULL;
 }
 
-/* A, C and E are sent by the client, B and D by the manager. */
+/* The client sends A, C and E; the manager sends B and D. */
 static bool from_client(int channel) {
     return channel % 2 == 0;
 }
@@ -136,7 +136,7 @@ static side *far_side(both_sides *b, int channel) {
     return from_client(channel) ? &b->manager : &b->client;
 }
 
-/* The calls on a channel of a bridge that was opened. */
+/* The calls on a channel. Requires: the bridge was opened. */
 static bool ready_on(both_sides *b, int channel) {
     return b->calls->of[channel].ready(near_side(b, channel));
 }

@@ -1,19 +1,19 @@
-/* What sv/tlbridge_pkg.sv imports: the calls of include/tlbridge.h with beats as scalars, and masks and data as vectors of bits. It is
- * glue, and not proved. It is compiled with a macro for each pair of widths that the simulation is linked with, as -DTLBRIDGE_8_4. */
+/* The functions that sv/tlbridge_pkg.sv imports: the calls of include/tlbridge.h with the fields of a beat as scalars, and mask and data as bit
+ * vectors. This glue is not proved. Compile it with a macro for each pair of widths that the simulation links, for example -DTLBRIDGE_8_4. */
 #include "tlbridge_calls.h"
 #include <stdio.h>
 #include <stdlib.h>
 #include <string.h>
 #include <svdpi.h>
 
-/* The glue has no such pair of widths, or data stands past the lanes of the link. */
+/* The glue does not have this pair of widths, or data has a byte on a lane that the link does not have. */
 #define OTHER_WIDTH 250
 
 #ifdef __cplusplus
 extern "C" {
 #endif
 
-/* What a chandle points to is both sides of a bridge. */
+/* A chandle points to both sides of a bridge. */
 void *tlbridge_handle(void) {
     return calloc(1, sizeof(both_sides));
 }
@@ -46,7 +46,7 @@ MOVE(fetch_manager, manager)
 uint8_t tlbridge_settle(void *bridge) {
     both_sides *b = (both_sides *)bridge;
     tl_standings all;
-    if (b->calls == NULL) return TL_NO_SIDE;
+    if (b->calls == NULL) return TL_NOT_OPEN;
     return b->calls->settle(&b->client, &b->manager, &all);
 }
 
@@ -74,24 +74,24 @@ svBit tlbridge_standing(void *bridge, uint8_t letter, uint64_t *staged, uint64_t
     return held;
 }
 
-/* What an answer means, also that of the glue. */
+/* Returns the name and the sentence of a status, including the one of the glue. */
 static tl_text text_of(uint8_t answer) {
     tl_text text;
     pairs[0].text(answer, &text);
     if (answer == OTHER_WIDTH) {
         strcpy(text.name, "OtherWidth");
-        strcpy(text.sentence, "the glue is not compiled for this pair of widths, or data stands past the lanes of the link");
+        strcpy(text.sentence, "the glue is not compiled for this pair of widths, or data is on a lane that the link does not have");
     }
     return text;
 }
 
-const char *tlbridge_answer_name(uint8_t answer) {
+const char *tlbridge_status_name(uint8_t answer) {
     static tl_text text;
     text = text_of(answer);
     return text.name;
 }
 
-const char *tlbridge_answer_text(uint8_t answer) {
+const char *tlbridge_status_text(uint8_t answer) {
     static char said[TL_NAME_BYTES + TL_SENTENCE_BYTES + 2];
     tl_text text = text_of(answer);
     snprintf(said, sizeof said, "%s: %s", text.name, text.sentence);
@@ -105,7 +105,7 @@ const char *tlbridge_answer_text(uint8_t answer) {
     } \
     uint8_t tlbridge_close_##x(void *bridge) { \
         both_sides *b = (both_sides *)bridge; \
-        if (b->calls == NULL) return TL_NO_SIDE; \
+        if (b->calls == NULL) return TL_NOT_OPEN; \
         return close_on(b, channel); \
     }
 READY_AND_CLOSE(a, A)
@@ -114,18 +114,18 @@ READY_AND_CLOSE(c, C)
 READY_AND_CLOSE(d, D)
 READY_AND_CLOSE(e, E)
 
-/* Data has eight bits for each lane and a mask one, lane 0 lowest, in words of 32 bits. */
+/* Data has eight bits for each lane and a mask has one, lane 0 lowest, in words of 32 bits. */
 enum { DATA_WORDS = TL_WIDEST / 4, MASK_WORDS = TL_WIDEST / 32 };
 
 static uint64_t two_words(const svBitVecVal *words) {
     return words[0] | (uint64_t)words[1] << 32;
 }
 
-/* Offers a beat on a channel, with its mask and its data where it has them. */
+/* Offers a beat on a channel. `mask` and `data` are NULL if the channel does not have them. */
 static uint8_t offer(void *bridge, int x, tl_beat *beat, const svBitVecVal *mask, const svBitVecVal *data) {
     both_sides *b = (both_sides *)bridge;
     uint8_t lanes[TL_WIDEST] = {0};
-    if (b->calls == NULL) return TL_NO_SIDE;
+    if (b->calls == NULL) return TL_NOT_OPEN;
     unsigned width = from_client(x) ? b->calls->client : b->calls->manager;
     if (mask != NULL) {
         beat->mask = two_words(mask);
@@ -138,7 +138,7 @@ static uint8_t offer(void *bridge, int x, tl_beat *beat, const svBitVecVal *mask
     return offer_on(b, x, beat, lanes);
 }
 
-/* Takes a far beat of a channel, or zeros where there is none. */
+/* Takes a far beat of a channel. Without one it returns 0 and writes zeros. */
 static svBit take(void *bridge, int x, tl_beat *beat, svBitVecVal *mask, svBitVecVal *data) {
     both_sides *b = (both_sides *)bridge;
     uint8_t lanes[TL_WIDEST] = {0};
@@ -165,7 +165,7 @@ static tl_beat message(uint8_t opcode, uint8_t param, uint8_t size, tl_id source
 
 #define HEAD_OF(beat) (*opcode = (beat).opcode, *param = (beat).param, *size = (beat).size, *source = (beat).source, *corrupt = (beat).corrupt)
 
-/* A and B, which have a mask. */
+/* The channels with a mask, A and B. */
 #define MASKED(x, channel) \
     uint8_t tlbridge_offer_##x(void *bridge, uint8_t opcode, uint8_t param, uint8_t size, tl_id source, uint64_t address, \
                                const svBitVecVal *mask, const svBitVecVal *data, svBit corrupt) { \

@@ -1,5 +1,5 @@
-/* The scoreboard of include/tlbridge_scoreboard.h, and what sv/tlbridge_scoreboard.sv imports. It is compiled into the library that
- * `make install` makes, with a macro for each pair of widths that this library has, as -DTLBRIDGE_8_4. */
+/* The scoreboard of include/tlbridge_scoreboard.h, and the functions that sv/tlbridge_scoreboard.sv imports. `make install` compiles it into
+ * the library, with a macro for each pair of widths of the library, for example -DTLBRIDGE_8_4. */
 #include "tlbridge_scoreboard.h"
 #include "tlbridge_calls.h"
 #include <inttypes.h>
@@ -11,9 +11,9 @@
 enum { SOURCES = 1 << 16, MOST_LINES = 20, LINE_BYTES = 1024 };
 
 #define PAIR_NAME(cw, mw) " " #cw ":" #mw
-static const char pair_names[] = OF_EACH_PAIR(PAIR_NAME);
+static const char pair_names[] = TLBRIDGE_OF_EACH_PAIR(PAIR_NAME);
 
-const char *tl_board_pairs(void) {
+const char *tl_scoreboard_pairs(void) {
     return pair_names + 1;
 }
 
@@ -24,12 +24,12 @@ typedef struct {
     tl_beat beat;
     uint64_t time, number;
     int channel;
-    bool was_refused; /* as it came, `original`; `beat` is what it was mended to, and waits */
+    bool was_refused; /* it came as `original`; `beat` is the corrected beat, which waits */
     tl_beat original;
     uint8_t lanes[TL_WIDEST];
 } entry;
 
-/* `count` entries from `first` on, round a block of a power of two. */
+/* `count` entries from `first` on, in a ring whose capacity is a power of two. */
 typedef struct {
     entry *entries;
     size_t capacity, first, count;
@@ -57,7 +57,7 @@ static bool queue_grow(queue *queue) {
     return true;
 }
 
-/* Adds a beat and answers its entry; NULL without memory. */
+/* Adds a beat. Returns its entry, or NULL if there is no memory. */
 static entry *queue_add(queue *queue, uint64_t time, const tl_beat *beat, const uint8_t *lanes, unsigned width) {
     if (queue->count == queue->capacity && !queue_grow(queue)) return NULL;
     entry *added = &queue->entries[(queue->first + queue->count) & (queue->capacity - 1)];
@@ -74,9 +74,9 @@ static entry *queue_add(queue *queue, uint64_t time, const tl_beat *beat, const 
 
 /* ---- The board */
 
-/* What is expected on the far link, in the order in which it is: a far beat that is due of the bridge and is compared; or, of a near beat
- * that the bridge refused, one that is due of the lawful beat that took its place (or none), and is not compared. Then at most `most` far
- * beats with the head of either are not judged. */
+/* The next thing expected on the far link, in order. If `is_judged`, it is a far beat of the bridge, and is compared. Otherwise the bridge
+ * refused a near beat, and the far beats of both the refused beat and the corrected beat in its place are not compared: at most `most` of
+ * them are skipped. `is_due` says whether the bridge has a far beat for it. */
 typedef struct {
     bool is_due, is_judged;
     uint32_t most;
@@ -91,54 +91,54 @@ typedef struct {
 /* The near message under way, as the bridge accepted it. */
 typedef struct {
     tl_beat head;     /* of its first beat */
-    uint32_t came;    /* its near beats so far; 0: none is under way */
-    uint32_t fill;    /* lawful beats that are still to take the place of those that did not come */
-    bool is_spoilt;   /* a byte that no far beat has yet is of a beat that was refused */
+    uint32_t came;    /* the number of its near beats so far; 0 if no message is under way */
+    uint32_t fill;    /* beats still to be offered in the place of those that did not come */
+    bool is_spoilt;   /* a byte that is in no far beat yet came from a refused beat */
     tl_beat refused;  /* that beat */
-    uint32_t skip;    /* near beats with the head of `refused` that are passed over */
-    bool is_said;     /* a line says that a beat of the message was refused */
+    uint32_t skip;    /* the number of near beats with the head of `refused` to skip */
+    bool is_said;     /* a message reported that a beat of it was refused */
     uint64_t said;    /* one more than the number of that beat */
-    bool is_mended;   /* the head of its first beat was changed from `original`, so that the bridge takes it */
+    bool is_mended;   /* the head of its first beat, `original`, was corrected so that the bridge accepts it */
     tl_beat original;
 } message;
 
-/* What one link shows of requests on A and their responses on D, by source. */
+/* The requests on A and the responses on D that one link showed, by source. */
 typedef struct {
     uint32_t left[CHANNELS]; /* beats of the messages under way, of A and D */
     tl_beat heads[CHANNELS]; /* and their heads */
-    int8_t *open;            /* requests without a response, by source; below 0, responses without a request */
-    uint64_t *number, *time; /* of the last request, by source: the beat and its time */
+    int8_t *open;            /* by source, the number of requests without a response; negative for responses without a request */
+    uint64_t *number, *time; /* the beat number and the time of the last request, by source */
 } link_view;
 
-/* A beat of which the end of its cycle tells whether its source was free (A), or had a request (D). */
+/* A beat that is judged at the end of its cycle: whether its source was free (A), or had a request (D). */
 typedef struct {
     bool there;
     tl_id source;
     uint64_t time, number;
 } suspect;
 
-struct tl_board {
+struct tl_scoreboard {
     both_sides bridge;
     unsigned flags;
     queue near[CHANNELS], far[CHANNELS];
     expectations due[CHANNELS];
     message messages[CHANNELS];
-    uint64_t *homes; /* by source, the address of its last request that the bridge accepted */
+    uint64_t *homes; /* the address of the last request that the bridge accepted, by source */
     uint8_t *sizes;  /* and its size */
     bool *refused;   /* whether the source's last request was refused */
     queue held;      /* beats of a link while the other one is in reset, and it was not */
-    bool in_reset[2], was_reset[2]; /* now; since one of the links was out of reset last */
+    bool in_reset[2], was_reset[2]; /* now; since both links were out of reset */
     uint64_t beats[2]; /* accepted by each link, in all */
     uint64_t differ[CHANNELS];
     link_view views[2];
     suspect suspects[2]; /* of A on the client's link, of D on the manager's */
     uint64_t now;
     bool ended, no_memory, is_dead;
-    char *text; /* the lines that nobody has read, each a time and then its characters with a zero */
+    char *text; /* the messages that nobody has read: for each a time, then its characters and a zero */
     size_t text_bytes, text_read, text_room;
 };
 
-static unsigned width_of(const tl_board *board, int link) {
+static unsigned width_of(const tl_scoreboard *board, int link) {
     return link == TL_CLIENT_LINK ? board->bridge.calls->client : board->bridge.calls->manager;
 }
 
@@ -161,7 +161,7 @@ static uint32_t beats_of(int channel, const tl_beat *beat, unsigned width) {
     return carries(channel, beat) && bytes > width ? bytes / width : 1;
 }
 
-/* In how many fields two heads differ. */
+/* Returns the number of fields in which two heads differ. */
 static int differing(int channel, const tl_beat *one, const tl_beat *other) {
     if (channel == E) return one->sink != other->sink;
     int count = (one->opcode != other->opcode) + (one->param != other->param) + (one->size != other->size) + (one->source != other->source);
@@ -173,13 +173,13 @@ static bool same_head(int channel, const tl_beat *one, const tl_beat *other) {
     return differing(channel, one, other) == 0;
 }
 
-/* Whether two heads are of one message, though one of them may be wrong: one field has slipped; or, on A and D, their source is the same,
- * which has no other message under way. */
+/* Returns whether two heads belong to one message, although one of them may be wrong. At most one field differs, or, on A and D, they have
+ * the same source, which has no other message under way. */
 static bool is_alike(int channel, const tl_beat *one, const tl_beat *other) {
     return differing(channel, one, other) <= 1 || ((channel == A || channel == D) && one->source == other->source);
 }
 
-/* Whether the head says how many beats its message has. */
+/* Returns whether the number of beats follows from the head. */
 static bool has_count(int channel, const tl_beat *head) {
     bool is_message = channel == C ? head->opcode != 3 : channel != D || (head->opcode != 3 && head->opcode != 7);
     return is_message && head->opcode < 8 && head->size <= 12;
@@ -191,7 +191,7 @@ static bool is_active(unsigned lane, uint64_t home, unsigned size, unsigned widt
 
 /* ---- Lines */
 
-static void add_line(tl_board *board, uint64_t time, const char *line) {
+static void add_line(tl_scoreboard *board, uint64_t time, const char *line) {
     size_t bytes = sizeof time + strlen(line) + 1;
     if (board->text_read == board->text_bytes) board->text_read = board->text_bytes = 0;
     if (board->text_bytes + bytes > board->text_room) {
@@ -209,8 +209,8 @@ static void add_line(tl_board *board, uint64_t time, const char *line) {
     board->text_bytes += bytes;
 }
 
-/* A difference on a channel: counted, and a line while there are not too many. */
-static void differs(tl_board *board, int channel, uint64_t time, const char *line) {
+/* Counts a difference on a channel. The first MOST_LINES are also reported. */
+static void differs(tl_scoreboard *board, int channel, uint64_t time, const char *line) {
     board->differ[channel]++;
     if (board->differ[channel] <= MOST_LINES) add_line(board, time, line);
     if (board->differ[channel] == MOST_LINES) {
@@ -220,7 +220,7 @@ static void differs(tl_board *board, int channel, uint64_t time, const char *lin
     }
 }
 
-/* Text that grows to the end of a line and is cut there. */
+/* A message under construction; what goes beyond LINE_BYTES is cut off. */
 typedef struct {
     char text[LINE_BYTES];
     size_t length;
@@ -245,7 +245,7 @@ static void say_head(words *words, int channel, const tl_beat *beat) {
     else say(words, ", address %" PRIx64, beat->address);
 }
 
-static void say_fault(words *words, const tl_board *board, uint8_t answer) {
+static void say_fault(words *words, const tl_scoreboard *board, uint8_t answer) {
     tl_text text = {.name = {0}};
     board->bridge.calls->text(answer, &text);
     say(words, "%u %s: %s", answer, text.name, text.sentence);
@@ -254,20 +254,20 @@ static void say_fault(words *words, const tl_board *board, uint8_t answer) {
 /* ---- Comparison */
 
 static void say_number(words *words, const char *field, unsigned digits, uint64_t got, uint64_t due) {
-    if (got != due) say(words, "; %s got %0*" PRIx64 ", due %0*" PRIx64, field, (int)digits, got, (int)digits, due);
+    if (got != due) say(words, "; %s got %0*" PRIx64 ", expected %0*" PRIx64, field, (int)digits, got, (int)digits, due);
 }
 
 static void say_mask(words *words, const tl_beat *got, const tl_beat *due, unsigned width) {
     if (got->mask == due->mask && got->mask_high == due->mask_high) return;
     const tl_beat *both[] = {got, due};
     for (int i = 0; i < 2; i++) {
-        say(words, i == 0 ? "; mask got " : ", due ");
+        say(words, i == 0 ? "; mask got " : ", expected ");
         if (width > 64) say(words, "%016" PRIx64, both[i]->mask_high);
         say(words, "%0*" PRIx64, (int)((width > 64 ? 64 : width) + 3) / 4, both[i]->mask);
     }
 }
 
-/* The data, highest lane first, with `..` on lanes that are not compared. */
+/* Adds the data, highest lane first, with `..` for lanes that are not compared. */
 static void say_lanes(words *words, const uint8_t *lanes, const bool *compared, unsigned width) {
     for (unsigned lane = width; lane-- > 0;) {
         if (compared[lane]) say(words, "%02x", lanes[lane]);
@@ -275,20 +275,20 @@ static void say_lanes(words *words, const uint8_t *lanes, const bool *compared, 
     }
 }
 
-static void compared_lanes(const tl_board *board, int channel, const tl_beat *due, uint64_t home, bool *compared) {
+static void compared_lanes(const tl_scoreboard *board, int channel, const tl_beat *due, uint64_t home, bool *compared) {
     unsigned width = width_of(board, !near_link(channel));
-    bool masked = channel <= B && due->opcode == 1 && !(board->flags & TL_UNMASKED);
+    bool masked = channel <= B && due->opcode == 1 && !(board->flags & TL_COMPARE_UNMASKED);
     for (unsigned lane = 0; lane < width; lane++)
         compared[lane] = carries(channel, due) && is_active(lane, home, due->size, width) && (!masked || tl_mask_has(due, lane));
 }
 
-/* The address by which the bytes of a due beat stand on their lanes. A source has no later request while the one beat of a short response
- * is due, and a longer one fills all lanes. */
-static uint64_t home_of(const tl_board *board, int channel, const tl_beat *due) {
+/* Returns the address that decides the lanes of an expected beat's bytes. A source has no later request while the one beat of a short
+ * response is expected, and a longer response fills all lanes. */
+static uint64_t home_of(const tl_scoreboard *board, int channel, const tl_beat *due) {
     return channel == D ? board->homes[due->source] : due->address;
 }
 
-static void compare(tl_board *board, int channel, const entry *came, const tl_beat *due, const uint8_t *due_lanes) {
+static void compare(tl_scoreboard *board, int channel, const entry *came, const tl_beat *due, const uint8_t *due_lanes) {
     unsigned width = width_of(board, !near_link(channel));
     const tl_beat *got = &came->beat;
     bool compared[TL_WIDEST] = {false}, same = true;
@@ -311,7 +311,7 @@ static void compare(tl_board *board, int channel, const entry *came, const tl_be
     if (!same) {
         say(&words, "; data got ");
         say_lanes(&words, came->lanes, compared, width);
-        say(&words, ", due ");
+        say(&words, ", expected ");
         say_lanes(&words, due_lanes, compared, width);
     }
     if (words.length != without) differs(board, channel, came->time, words.text);
@@ -319,7 +319,7 @@ static void compare(tl_board *board, int channel, const entry *came, const tl_be
 
 /* ---- How the beats go through the bridge */
 
-static void expect(tl_board *board, int channel, expected more) {
+static void expect(tl_scoreboard *board, int channel, expected more) {
     expectations *due = &board->due[channel];
     if (due->count == due->capacity) {
         size_t capacity = due->capacity == 0 ? 64 : 2 * due->capacity;
@@ -335,19 +335,19 @@ static void expect(tl_board *board, int channel, expected more) {
     due->entries[(due->first + due->count++) & (due->capacity - 1)] = more;
 }
 
-static expected *next_expected(tl_board *board, int channel) {
+static expected *next_expected(tl_scoreboard *board, int channel) {
     expectations *due = &board->due[channel];
     return due->count == 0 ? NULL : &due->entries[due->first];
 }
 
-static void drop_expected(tl_board *board, int channel) {
+static void drop_expected(tl_scoreboard *board, int channel) {
     expectations *due = &board->due[channel];
     due->first = (due->first + 1) & (due->capacity - 1);
     due->count--;
 }
 
-/* How many far beats of a message are due after so many of its near beats. */
-static uint32_t due_after(const tl_board *board, int channel, const tl_beat *head, uint32_t beats) {
+/* Returns the number of far beats of a message that are expected after `beats` of its near beats. */
+static uint32_t due_after(const tl_scoreboard *board, int channel, const tl_beat *head, uint32_t beats) {
     unsigned near = width_of(board, near_link(channel)), far = width_of(board, !near_link(channel));
     uint32_t bytes = (uint32_t)1 << (head->size & 15);
     if (!carries(channel, head)) return beats;
@@ -355,7 +355,7 @@ static uint32_t due_after(const tl_board *board, int channel, const tl_beat *hea
 }
 
 /* Notes the head of a message whose first beat the bridge accepted. */
-static void begin_message(tl_board *board, int channel, const tl_beat *beat, const tl_beat *refused) {
+static void begin_message(tl_scoreboard *board, int channel, const tl_beat *beat, const tl_beat *refused) {
     message *message = &board->messages[channel];
     message->head = *beat;
     message->is_mended = refused != NULL && !same_head(channel, beat, refused);
@@ -366,8 +366,9 @@ static void begin_message(tl_board *board, int channel, const tl_beat *beat, con
     board->sizes[beat->source] = beat->size;
 }
 
-/* Offers a beat to the bridge; once it is accepted, what is due of it is expected. `refused` is the beat whose place it takes, or NULL. */
-static uint8_t offer_beat(tl_board *board, int channel, const tl_beat *beat, const uint8_t *lanes, const tl_beat *refused) {
+/* Offers a beat to the bridge, and notes the far beats to expect if it is accepted. Returns the bridge's status. `refused` is the refused
+ * beat that this one replaces, or NULL. */
+static uint8_t offer_beat(tl_scoreboard *board, int channel, const tl_beat *beat, const uint8_t *lanes, const tl_beat *refused) {
     message *message = &board->messages[channel];
     uint8_t answer = offer_on(&board->bridge, channel, beat, lanes);
     if (answer != TL_OK) return answer;
@@ -384,7 +385,7 @@ static uint8_t offer_beat(tl_board *board, int channel, const tl_beat *beat, con
     return TL_OK;
 }
 
-static void lawful_mask(const tl_board *board, int channel, const tl_beat *head, tl_beat *beat) {
+static void lawful_mask(const tl_scoreboard *board, int channel, const tl_beat *head, tl_beat *beat) {
     unsigned width = width_of(board, near_link(channel));
     tl_beat lawful = *beat;
     lawful.mask = lawful.mask_high = 0;
@@ -401,8 +402,8 @@ static void take_head(tl_beat *beat, const tl_beat *head) {
     *beat = taken;
 }
 
-/* Makes a beat that is refused with this fault lawful in this respect: whether it can be, so that as many beats go on as came. */
-static bool mend(const tl_board *board, int channel, tl_beat *beat, uint8_t fault) {
+/* Corrects the field of a beat that has this fault. Returns false if that would change the number of beats. */
+static bool mend(const tl_scoreboard *board, int channel, tl_beat *beat, uint8_t fault) {
     const message *message = &board->messages[channel];
     switch (fault) {
     case TL_HEAD_CHANGED: take_head(beat, &message->head); return true;
@@ -414,8 +415,8 @@ static bool mend(const tl_board *board, int channel, tl_beat *beat, uint8_t faul
     }
 }
 
-/* Passes over the message that a near beat begins, and the far beats that come of it. */
-static void leave_out(tl_board *board, int channel, const entry *near) {
+/* Skips the message that a near beat begins, and its far beats. */
+static void leave_out(tl_scoreboard *board, int channel, const entry *near) {
     message *message = &board->messages[channel];
     bool counts = has_count(channel, &near->beat);
     uint32_t far = counts ? beats_of(channel, &near->beat, width_of(board, !near_link(channel))) : UINT32_MAX;
@@ -424,9 +425,9 @@ static void leave_out(tl_board *board, int channel, const entry *near) {
     message->skip = counts ? beats_of(channel, &near->beat, width_of(board, near_link(channel))) - 1 : UINT32_MAX;
 }
 
-/* Passes over a message that cannot be mended. A request or a response of it goes through the bridge as another one without data, so that
- * the bridge knows of the same requests as the two links. */
-static void pass_over(tl_board *board, int channel, const entry *near) {
+/* Skips a message that cannot be corrected. A request or a response goes through the bridge as another one without data, so that the bridge
+ * has the same outstanding requests as the two links. */
+static void pass_over(tl_scoreboard *board, int channel, const entry *near) {
     static const uint8_t no_lanes[TL_WIDEST];
     tl_beat other = {.source = near->beat.source, .opcode = 4, .size = near->beat.size <= 12 ? near->beat.size : 12};
     if (channel == A) {
@@ -442,7 +443,7 @@ static void pass_over(tl_board *board, int channel, const entry *near) {
     leave_out(board, channel, near);
 }
 
-static void refused(tl_board *board, int channel, const entry *near, uint8_t answer) {
+static void refused(tl_scoreboard *board, int channel, const entry *near, uint8_t answer) {
     /* the response to a request that was refused may be as wrong as its request */
     bool is_answer = channel == D && board->refused[near->beat.source];
     message *message = &board->messages[channel];
@@ -461,14 +462,14 @@ static void refused(tl_board *board, int channel, const entry *near, uint8_t ans
     }
     say(&words, ": refused: ");
     say_fault(&words, board, answer);
-    say(&words, "; what becomes of it is not judged");
+    say(&words, "; its far beats are not judged");
     differs(board, channel, near->time, words.text);
     if (channel == A && message->came == 0) board->refused[near->beat.source] = true;
 }
 
-/* Goes on after a near beat that the bridge refused for good. What it can be mended to takes its place; a burst that is cut is filled up;
- * and a message that cannot be mended is passed over. */
-static void recover(tl_board *board, int channel, entry *near, uint8_t answer) {
+/* Recovers after a near beat that the bridge refused for good. If the beat can be corrected, the corrected one takes its place. A truncated
+ * burst is filled up. A message that cannot be corrected is skipped. */
+static void recover(tl_scoreboard *board, int channel, entry *near, uint8_t answer) {
     message *message = &board->messages[channel];
     tl_beat beat = near->beat;
     refused(board, channel, near, answer);
@@ -490,8 +491,8 @@ static void recover(tl_board *board, int channel, entry *near, uint8_t answer) {
     queue_drop(&board->near[channel]);
 }
 
-/* Fills up a burst that was cut, as far as the bridge takes beats: whether it took one. */
-static bool fill_up(tl_board *board, int channel) {
+/* Offers one beat for the rest of a truncated burst. Returns whether there was one to offer and the bridge was ready. */
+static bool fill_up(tl_scoreboard *board, int channel) {
     message *message = &board->messages[channel];
     static const uint8_t no_lanes[TL_WIDEST];
     if (message->fill == 0 || !ready_on(&board->bridge, channel)) return false;
@@ -503,8 +504,8 @@ static bool fill_up(tl_board *board, int channel) {
     return true;
 }
 
-/* Passes over near beats of a message that was refused: whether there was one. */
-static bool skip(tl_board *board, int channel) {
+/* Skips one near beat of a refused message. Returns whether there was one. */
+static bool skip(tl_scoreboard *board, int channel) {
     queue *near = &board->near[channel];
     message *message = &board->messages[channel];
     if (message->skip == 0 || near->count == 0) return false;
@@ -517,8 +518,8 @@ static bool skip(tl_board *board, int channel) {
     return true;
 }
 
-/* Offers the first near beat that waits; in a message whose head was mended, with the mended head. */
-static uint8_t offer_front(tl_board *board, int channel, const entry *front) {
+/* Offers the first waiting near beat, with the corrected head if the message's head was corrected. Returns the bridge's status. */
+static uint8_t offer_front(tl_scoreboard *board, int channel, const entry *front) {
     const message *message = &board->messages[channel];
     if (message->came == 0 || !message->is_mended || !same_head(channel, &front->beat, &message->original))
         return offer_beat(board, channel, &front->beat, front->lanes, front->was_refused ? &front->original : NULL);
@@ -527,8 +528,8 @@ static uint8_t offer_front(tl_board *board, int channel, const entry *front) {
     return offer_beat(board, channel, &mended, front->lanes, &front->beat);
 }
 
-/* Offers the near beats of a channel that wait, as far as they are accepted: whether one was. */
-static bool offer(tl_board *board, int channel) {
+/* Offers the waiting near beats of a channel until one has to wait. Returns whether any was used. */
+static bool offer(tl_scoreboard *board, int channel) {
     queue *near = &board->near[channel];
     bool moved = false;
     while (!board->is_dead) {
@@ -547,14 +548,14 @@ static bool offer(tl_board *board, int channel) {
     return moved;
 }
 
-/* Whether a far beat has the head of that which is expected behind the first one. */
-static bool is_due_next(const tl_board *board, int channel, const tl_beat *came) {
+/* Returns whether a far beat has the head of the second expected beat. */
+static bool is_due_next(const tl_scoreboard *board, int channel, const tl_beat *came) {
     const expectations *due = &board->due[channel];
     return due->count > 1 && same_head(channel, came, &due->entries[(due->first + 1) & (due->capacity - 1)].mended);
 }
 
-/* Of a near beat that was refused: passes over the far beats with its head, or with that of the beat in its place. Whether all is done. */
-static bool is_passed_over(tl_board *board, int channel, expected *next) {
+/* Skips the far beats of a refused near beat: those with its head, or with the head of the corrected beat. Returns whether that is finished. */
+static bool is_passed_over(tl_scoreboard *board, int channel, expected *next) {
     queue *far = &board->far[channel];
     tl_beat due;
     uint8_t lanes[TL_WIDEST];
@@ -568,8 +569,8 @@ static bool is_passed_over(tl_board *board, int channel, expected *next) {
     return next->most == 0 || far->count > 0;
 }
 
-/* Compares the far beats of a channel that came with those that are due: whether there was one of both. */
-static bool judge(tl_board *board, int channel) {
+/* Compares the far beats of a channel with the expected ones, as far as there are both. Returns whether any was used. */
+static bool judge(tl_scoreboard *board, int channel) {
     queue *far = &board->far[channel];
     bool moved = false;
     tl_beat due;
@@ -587,12 +588,12 @@ static bool judge(tl_board *board, int channel) {
     return moved;
 }
 
-static void settle(tl_board *board) {
+static void settle(tl_scoreboard *board) {
     tl_standings standings;
     board->bridge.calls->settle(&board->bridge.client, &board->bridge.manager, &standings);
 }
 
-static void advance(tl_board *board) {
+static void advance(tl_scoreboard *board) {
     bool moved = !board->is_dead;
     while (moved) {
         moved = false;
@@ -602,10 +603,10 @@ static void advance(tl_board *board) {
     }
 }
 
-/* ---- What a link shows by itself: sources that are used too early, responses without a request */
+/* ---- Rules of one link: sources that are used too early, responses without a request */
 
-/* Says of the beats of the last cycle what their source was, where a later cycle begins. */
-static void end_of_cycle(tl_board *board) {
+/* Judges the suspects of the last cycle, when a later cycle begins. */
+static void end_of_cycle(tl_scoreboard *board) {
     for (int link = 0; link < 2; link++) {
         suspect *seen = &board->suspects[link];
         if (!seen->there) continue;
@@ -620,7 +621,7 @@ static void end_of_cycle(tl_board *board) {
 }
 
 /* Counts the requests and responses of a link. */
-static void view(tl_board *board, int link, int channel, const entry *came) {
+static void view(tl_scoreboard *board, int link, int channel, const entry *came) {
     link_view *view = &board->views[link];
     uint32_t *left = &view->left[channel];
     if (channel != A && channel != D) return;
@@ -643,7 +644,7 @@ static void view(tl_board *board, int link, int channel, const entry *came) {
 }
 
 /* Judges a beat that a link accepted. */
-static void pass(tl_board *board, int link, int channel, uint64_t time, const tl_beat *beat, const uint8_t *lanes) {
+static void pass(tl_scoreboard *board, int link, int channel, uint64_t time, const tl_beat *beat, const uint8_t *lanes) {
     if (time != board->now) end_of_cycle(board);
     board->now = time;
     queue *queue = link == near_link(channel) ? &board->near[channel] : &board->far[channel];
@@ -656,7 +657,7 @@ static void pass(tl_board *board, int link, int channel, uint64_t time, const tl
     advance(board);
 }
 
-void tl_board_beat(tl_board *board, int link, char letter, uint64_t time, const tl_beat *beat, const uint8_t *lanes) {
+void tl_scoreboard_beat(tl_scoreboard *board, int link, char letter, uint64_t time, const tl_beat *beat, const uint8_t *lanes) {
     int channel = letter - 'A';
     if (board == NULL || link < 0 || link > 1 || channel < 0 || channel >= CHANNELS || board->ended || board->in_reset[link]) return;
     board->beats[link]++;
@@ -669,7 +670,7 @@ void tl_board_beat(tl_board *board, int link, char letter, uint64_t time, const 
     else kept->channel = channel;
 }
 
-uint64_t tl_board_beats(const tl_board *board) {
+uint64_t tl_scoreboard_beats(const tl_scoreboard *board) {
     return board == NULL ? 0 : board->beats[0] + board->beats[1];
 }
 
@@ -680,15 +681,15 @@ static void clear_queue(queue *queue) {
     queue->came = 0;
 }
 
-/* How many beats wait for their part on the other link. */
-static size_t in_flight(const tl_board *board) {
+/* Returns the number of beats whose counterpart on the other link did not come yet. */
+static size_t in_flight(const tl_scoreboard *board) {
     size_t count = 0;
     for (int channel = 0; channel < CHANNELS; channel++) count += board->near[channel].count + board->far[channel].count + board->due[channel].count;
     return count;
 }
 
-/* Begins anew, as after open; what was counted stays. */
-static void begin_anew(tl_board *board) {
+/* Starts again as after open. Counts and messages are kept. */
+static void begin_anew(tl_scoreboard *board) {
     for (int channel = 0; channel < CHANNELS; channel++) {
         clear_queue(&board->near[channel]);
         clear_queue(&board->far[channel]);
@@ -706,8 +707,8 @@ static void begin_anew(tl_board *board) {
     if (board->bridge.calls->open(&board->bridge.client, &board->bridge.manager, TL_MAX_RING) != TL_OK) board->no_memory = board->is_dead = true;
 }
 
-/* Passes on what a link accepted while the other one was in reset, and it was not. */
-static void pass_held(tl_board *board, int link) {
+/* Passes on the beats that a link accepted while only the other link was in reset. */
+static void pass_held(tl_scoreboard *board, int link) {
     for (entry *kept; (kept = queue_front(&board->held)) != NULL;) {
         entry copy = *kept;
         queue_drop(&board->held);
@@ -715,7 +716,7 @@ static void pass_held(tl_board *board, int link) {
     }
 }
 
-void tl_board_reset(tl_board *board, int link, bool asserted, uint64_t time) {
+void tl_scoreboard_reset(tl_scoreboard *board, int link, bool asserted, uint64_t time) {
     if (board == NULL || link < 0 || link > 1 || board->ended || asserted == board->in_reset[link]) return;
     board->in_reset[link] = asserted;
     if (!asserted) {
@@ -726,7 +727,7 @@ void tl_board_reset(tl_board *board, int link, bool asserted, uint64_t time) {
         if (is_one) pass_held(board, other);
         return;
     }
-    if (!board->was_reset[0] && !board->was_reset[1] && tl_board_beats(board) > 0) {
+    if (!board->was_reset[0] && !board->was_reset[1] && tl_scoreboard_beats(board) > 0) {
         words words = {.length = 0};
         end_of_cycle(board);
         say(&words, "reset of the %s's link: %zu beats in flight on both links are not judged", link == TL_CLIENT_LINK ? "client" : "manager", in_flight(board));
@@ -738,7 +739,7 @@ void tl_board_reset(tl_board *board, int link, bool asserted, uint64_t time) {
 
 /* ---- The end */
 
-static void not_come(tl_board *board, int channel) {
+static void not_come(tl_scoreboard *board, int channel) {
     tl_beat due, first = {0};
     uint8_t lanes[TL_WIDEST];
     uint64_t count = 0;
@@ -751,25 +752,25 @@ static void not_come(tl_board *board, int channel) {
     words words = {.length = 0};
     say(&words, "far %c beat %" PRIu64 ": ", 'A' + channel, board->far[channel].came);
     say_head(&words, channel, &first);
-    say(&words, ": is due and did not come");
-    if (count > 1) say(&words, ", nor did %" PRIu64 " more", count - 1);
+    say(&words, ": expected but missing");
+    if (count > 1) say(&words, "; %" PRIu64 " more are missing", count - 1);
     differs(board, channel, board->now, words.text);
 }
 
-static void not_due(tl_board *board, int channel) {
+static void not_due(tl_scoreboard *board, int channel) {
     queue *far = &board->far[channel];
     if (far->count == 0) return;
     entry *front = queue_front(far);
     words words = {.length = 0};
     say(&words, "far %c beat %" PRIu64 ": ", 'A' + channel, front->number);
     say_head(&words, channel, &front->beat);
-    say(&words, ": came and is not due");
-    if (far->count > 1) say(&words, ", nor are %zu more", far->count - 1);
+    say(&words, ": unexpected");
+    if (far->count > 1) say(&words, "; %zu more are unexpected", far->count - 1);
     differs(board, channel, front->time, words.text);
 }
 
-/* What the bridge has not accepted at the end. */
-static void waits(tl_board *board, int channel) {
+/* Reports the first near beat that the bridge has not accepted at the end. */
+static void waits(tl_scoreboard *board, int channel) {
     queue *near = &board->near[channel];
     entry *front = queue_front(near);
     words words = {.length = 0};
@@ -777,12 +778,12 @@ static void waits(tl_board *board, int channel) {
     say_head(&words, channel, &front->beat);
     say(&words, ": waits: ");
     say_fault(&words, board, offer_on(&board->bridge, channel, &front->beat, front->lanes));
-    if (near->count > 1) say(&words, "; %zu more wait behind it", near->count - 1);
+    if (near->count > 1) say(&words, "; %zu more wait after it", near->count - 1);
     differs(board, channel, front->time, words.text);
 }
 
-/* Passes over each message that the bridge has not accepted, so that what is behind it is judged. */
-static void pass_over_waiting(tl_board *board) {
+/* Skips each message that the bridge has not accepted, so that the messages after it are judged. */
+static void pass_over_waiting(tl_scoreboard *board) {
     for (int channel = 0; channel < CHANNELS && !board->is_dead;) {
         queue *near = &board->near[channel];
         if (near->count == 0 || board->messages[channel].fill > 0) {
@@ -797,35 +798,35 @@ static void pass_over_waiting(tl_board *board) {
     }
 }
 
-static void is_cut(tl_board *board, int channel) {
+static void is_cut(tl_scoreboard *board, int channel) {
     if (board->is_dead || board->near[channel].count != 0) return;
     if (close_on(&board->bridge, channel) != TL_MID_BURST) return;
     words words = {.length = 0};
-    say(&words, "near %c: the last message is not whole", 'A' + channel);
+    say(&words, "near %c: the last message is incomplete", 'A' + channel);
     differs(board, channel, board->now, words.text);
 }
 
-static void open_requests(tl_board *board) {
+static void open_requests(tl_scoreboard *board) {
     const link_view *view = &board->views[TL_CLIENT_LINK];
     unsigned count = 0;
     for (unsigned source = 0; source < SOURCES; source++) {
         if (view->open[source] <= 0 || board->refused[source] || ++count > MOST_LINES) continue;
         words words = {.length = 0};
-        say(&words, "open: near A beat %" PRIu64 ", source %04x, has no response", view->number[source], source);
+        say(&words, "outstanding: near A beat %" PRIu64 ", source %04x, has no response", view->number[source], source);
         add_line(board, view->time[source], words.text);
     }
     if (count <= MOST_LINES) return;
     words words = {.length = 0};
-    say(&words, "open: %u more requests have no response", count - MOST_LINES);
+    say(&words, "outstanding: %u more requests have no response", count - MOST_LINES);
     add_line(board, board->now, words.text);
 }
 
-/* Whether nothing was compared, though something should have been. */
-static bool is_vacuous(const tl_board *board) {
-    return tl_board_beats(board) == 0 && !(board->flags & TL_ALLOW_NO_BEATS);
+/* Returns whether no beat came, although some should have. */
+static bool is_vacuous(const tl_scoreboard *board) {
+    return tl_scoreboard_beats(board) == 0 && !(board->flags & TL_ALLOW_NO_BEATS);
 }
 
-uint64_t tl_board_end(tl_board *board) {
+uint64_t tl_scoreboard_finish(tl_scoreboard *board) {
     if (board == NULL) return 0;
     if (!board->ended) {
         end_of_cycle(board);
@@ -837,20 +838,20 @@ uint64_t tl_board_end(tl_board *board) {
         for (int channel = 0; channel < CHANNELS; channel++) not_come(board, channel);
         open_requests(board);
         if (is_vacuous(board)) add_line(board, board->now, "no beat was accepted on either link, so nothing was compared");
-        if (board->no_memory) add_line(board, board->now, "there was no memory for a beat or a line, so what is said is not all");
+        if (board->no_memory) add_line(board, board->now, "out of memory: some beats or messages are missing from this report");
         board->ended = true;
     }
-    return tl_board_differences(board);
+    return tl_scoreboard_differences(board);
 }
 
-uint64_t tl_board_differences(const tl_board *board) {
+uint64_t tl_scoreboard_differences(const tl_scoreboard *board) {
     uint64_t sum = 0;
     if (board == NULL) return 0;
     for (int channel = 0; channel < CHANNELS; channel++) sum += board->differ[channel];
     return sum + board->no_memory + (board->ended && is_vacuous(board));
 }
 
-const char *tl_board_line(tl_board *board, uint64_t *time) {
+const char *tl_scoreboard_next_message(tl_scoreboard *board, uint64_t *time) {
     if (board == NULL || board->text_read == board->text_bytes) return NULL;
     const char *line = board->text + board->text_read;
     memcpy(time, line, sizeof *time);
@@ -859,9 +860,9 @@ const char *tl_board_line(tl_board *board, uint64_t *time) {
     return line;
 }
 
-/* ---- A board from its beginning to its end */
+/* ---- Opening and freeing */
 
-static bool make_parts(tl_board *board) {
+static bool make_parts(tl_scoreboard *board) {
     board->homes = calloc(SOURCES, sizeof *board->homes);
     board->sizes = calloc(SOURCES, sizeof *board->sizes);
     board->refused = calloc(SOURCES, sizeof *board->refused);
@@ -876,23 +877,23 @@ static bool make_parts(tl_board *board) {
     return made;
 }
 
-tl_board *tl_board_open(unsigned client, unsigned manager, unsigned flags) {
+tl_scoreboard *tl_scoreboard_open(unsigned client, unsigned manager, unsigned flags) {
     const pair_calls *calls = pair_of(client, manager);
     if (calls == NULL) return NULL;
-    tl_board *board = calloc(1, sizeof *board);
+    tl_scoreboard *board = calloc(1, sizeof *board);
     if (board == NULL) return NULL;
     board->bridge.calls = calls;
     board->flags = flags;
     if (make_parts(board)) return board;
-    tl_board_free(board);
+    tl_scoreboard_free(board);
     return NULL;
 }
 
-void tl_board_free(tl_board *board) {
+void tl_scoreboard_free(tl_scoreboard *board) {
     if (board == NULL) return;
-    if (!board->ended && tl_board_beats(board) > 0)
-        fprintf(stderr, "tlbridge scoreboard: freed without tl_board_end, so what did not come is not known: %" PRIu64 " differences in %" PRIu64
-                " beats so far\n", tl_board_differences(board), tl_board_beats(board));
+    if (!board->ended && tl_scoreboard_beats(board) > 0)
+        fprintf(stderr, "tlbridge scoreboard: freed without tl_scoreboard_finish, so missing beats were not reported: %" PRIu64 " differences in %" PRIu64
+                " beats so far\n", tl_scoreboard_differences(board), tl_scoreboard_beats(board));
     board->bridge.calls->free(&board->bridge.client, &board->bridge.manager);
     free(board->homes);
     free(board->sizes);
@@ -912,19 +913,19 @@ void tl_board_free(tl_board *board) {
     free(board);
 }
 
-/* ---- For SystemVerilog, by DPI-C: a mask has bit i of lane i, and data 8 bits a lane, in words of 32 bits, lane 0 lowest. A time is a real,
- * so that each simulator prints it by its own format; the board keeps its bits. */
+/* ---- For SystemVerilog, over DPI-C. A mask has one bit for each lane and data eight, in words of 32 bits, lane 0 lowest. A time is a real,
+ * which each simulator prints in its own format; the scoreboard keeps its bits. */
 
-void *tlbridge_board_open(uint32_t client, uint32_t manager, uint8_t flags) {
-    return tl_board_open(client, manager, flags);
+void *tlbridge_scoreboard_open(uint32_t client, uint32_t manager, uint8_t flags) {
+    return tl_scoreboard_open(client, manager, flags);
 }
 
-void tlbridge_board_free(void *board) {
-    tl_board_free(board);
+void tlbridge_scoreboard_free(void *board) {
+    tl_scoreboard_free(board);
 }
 
-const char *tlbridge_board_pairs(void) {
-    return tl_board_pairs();
+const char *tlbridge_scoreboard_pairs(void) {
+    return tl_scoreboard_pairs();
 }
 
 static uint64_t bits_of(double time) {
@@ -933,7 +934,7 @@ static uint64_t bits_of(double time) {
     return bits;
 }
 
-void tlbridge_board_beat(void *board, uint8_t link, uint8_t channel, double time, uint8_t opcode, uint8_t param, uint8_t size, uint16_t source,
+void tlbridge_scoreboard_beat(void *board, uint8_t link, uint8_t channel, double time, uint8_t opcode, uint8_t param, uint8_t size, uint16_t source,
                          uint16_t sink, uint64_t address, uint8_t denied, uint8_t corrupt, const uint32_t *mask, const uint32_t *data) {
     tl_beat beat = {0};
     uint8_t lanes[TL_WIDEST];
@@ -948,28 +949,28 @@ void tlbridge_board_beat(void *board, uint8_t link, uint8_t channel, double time
     beat.corrupt = corrupt;
     beat.mask_high = mask[2] | (uint64_t)mask[3] << 32;
     for (int lane = 0; lane < TL_WIDEST; lane++) lanes[lane] = (uint8_t)(data[lane / 4] >> (8 * (lane % 4)));
-    tl_board_beat(board, link, (char)channel, bits_of(time), &beat, lanes);
+    tl_scoreboard_beat(board, link, (char)channel, bits_of(time), &beat, lanes);
 }
 
-const char *tlbridge_board_line(void *board, double *time) {
+const char *tlbridge_scoreboard_next_message(void *board, double *time) {
     uint64_t bits = 0;
-    const char *line = tl_board_line(board, &bits);
+    const char *line = tl_scoreboard_next_message(board, &bits);
     memcpy(time, &bits, sizeof bits);
     return line == NULL ? "" : line;
 }
 
-void tlbridge_board_reset(void *board, uint8_t link, uint8_t asserted, double time) {
-    tl_board_reset(board, link, asserted != 0, bits_of(time));
+void tlbridge_scoreboard_reset(void *board, uint8_t link, uint8_t asserted, double time) {
+    tl_scoreboard_reset(board, link, asserted != 0, bits_of(time));
 }
 
-uint64_t tlbridge_board_beats(void *board) {
-    return tl_board_beats(board);
+uint64_t tlbridge_scoreboard_beats(void *board) {
+    return tl_scoreboard_beats(board);
 }
 
-uint64_t tlbridge_board_differences(void *board) {
-    return tl_board_differences(board);
+uint64_t tlbridge_scoreboard_differences(void *board) {
+    return tl_scoreboard_differences(board);
 }
 
-uint64_t tlbridge_board_end(void *board) {
-    return tl_board_end(board);
+uint64_t tlbridge_scoreboard_finish(void *board) {
+    return tl_scoreboard_finish(board);
 }

@@ -34,15 +34,16 @@ static void texts(void) {
         tl_text text, none;
         memset(&text, 0xee, sizeof text);
         memset(&none, 0, sizeof none);
-        CALL(answer_text)((uint8_t)n, &text);
-        const char *name = n < 24 ? want[n] : n == TL_OTHER_BRIDGE ? "OtherBridge" : n == TL_NO_SIDE ? "NoSide" : n == TL_NOT_READY ? "NotReady" : "";
+        CALL(status_text)((uint8_t)n, &text);
+        static const char *const own[] = {"NotTaken", "", "BridgeMismatch", "NotOpen", "NotSent", "NotReady"};
+        const char *name = n < 24 ? want[n] : n >= TL_NOT_TAKEN && n <= TL_NOT_READY ? own[n - TL_NOT_TAKEN] : "";
         CHECK(memchr(text.name, 0, sizeof text.name) != NULL && strcmp(text.name, name) == 0);
         CHECK(memchr(text.sentence, 0, sizeof text.sentence) != NULL && (strlen(text.sentence) > 0) == (strlen(name) > 0));
         CHECK(memcmp(text.name + strlen(name), none.name, sizeof text.name - strlen(name)) == 0);
         CHECK(memcmp(text.sentence + strlen(text.sentence), none.sentence, sizeof text.sentence - strlen(text.sentence)) == 0);
     }
     tl_text busy;
-    CALL(answer_text)(TL_SOURCE_BUSY, &busy);
+    CALL(status_text)(TL_SOURCE_BUSY, &busy);
     CHECK(strcmp(busy.sentence, "the source's last request still waits for its response") == 0);
     CHECK(CALL(version)() == TL_VERSION);
 }
@@ -70,7 +71,7 @@ static void handles(void) {
     CALL(free_manager)(&one.manager);
     CHECK(ready_a(&one.client) && !ready_b(&one.manager));
     tl_standings all;
-    CHECK(CALL(meet)(&one.client, &one.manager, &all) == TL_NO_SIDE && CALL(settle)(&one.client, &one.manager, &all) == TL_NO_SIDE);
+    CHECK(CALL(meet)(&one.client, &one.manager, &all) == TL_NOT_OPEN && CALL(settle)(&one.client, &one.manager, &all) == TL_NOT_OPEN);
     CHECK(ready_a(&one.client));
     free_both(&one);
     without_sides(&one);
@@ -87,13 +88,51 @@ static void other_bridges(void) {
     CHECK(CALL(open)(&one.client, &one.manager, 4, 1) == TL_OK && CALL(open)(&other.client, &other.manager, 4, UINT64_MAX) == TL_OK);
     CHECK(one.client.bridge == 1 && one.manager.bridge == 1 && other.client.bridge == UINT64_MAX && other.manager.bridge == UINT64_MAX);
     CHECK(offer_e(&one.client, &ack, lanes) == TL_OK);
-    CHECK(CALL(meet)(&one.client, &other.manager, &all) == TL_OTHER_BRIDGE && CALL(settle)(&one.client, &other.manager, &all) == TL_OTHER_BRIDGE);
-    CHECK(CALL(meet)(&other.client, &one.manager, &all) == TL_OTHER_BRIDGE && CALL(settle)(&other.client, &one.manager, &all) == TL_OTHER_BRIDGE);
+    CHECK(CALL(meet)(&one.client, &other.manager, &all) == TL_BRIDGE_MISMATCH && CALL(settle)(&one.client, &other.manager, &all) == TL_BRIDGE_MISMATCH);
+    CHECK(CALL(meet)(&other.client, &one.manager, &all) == TL_BRIDGE_MISMATCH && CALL(settle)(&other.client, &one.manager, &all) == TL_BRIDGE_MISMATCH);
     CHECK(memcmp(&all, &before, sizeof all) == 0 && !take_e(&one.manager, &got, lanes));
     CHECK(CALL(settle)(&one.client, &one.manager, &all) == TL_OK && all.e.inbox == 1 && take_e(&one.manager, &got, lanes));
     CHECK(CALL(meet)(&other.client, &other.manager, &all) == TL_OK && tl_drained(&all));
     free_both(&one);
     free_both(&other);
+}
+
+/* The receipt of each side: when it is given, what it counts, and what the other side says of it. */
+static void receipts(void) {
+    both_sides one = {{0}, {0}};
+    tl_beat beat = {.opcode = 6, .size = 0, .mask = 1}, got;
+    uint8_t lanes[MAX_LANES] = {0};
+    tl_totals of_client, of_manager, before, now;
+    memset(&of_client, 0x5a, sizeof of_client);
+    before = of_client;
+    CHECK(open_both(&one, 1) == TL_OK);
+    CHECK(CALL(finish_client)(&one.client, &of_client) == TL_NOT_SENT && memcmp(&of_client, &before, sizeof before) == 0);
+    CHECK(offer_e(&one.client, &beat, lanes) == TL_OK && CALL(pump_client)(&one.client) == 1 && offer_e(&one.client, &beat, lanes) == TL_OK);
+    CHECK(close_a(&one.client) == TL_OK && close_c(&one.client) == TL_OK && close_e(&one.client) == TL_OK);
+    /* the ring has one place: a beat is staged until the first one was fetched */
+    CHECK(CALL(pump_client)(&one.client) == 0 && CALL(finish_client)(&one.client, &of_client) == TL_NOT_SENT);
+    settle(&one);
+    CHECK(CALL(finish_client)(&one.client, &of_client) == TL_OK && of_client.bridge == 7 && of_client.e == 2);
+    CHECK(of_client.a == 0 && of_client.b == 0 && of_client.c == 0 && of_client.d == 0);
+    for (int i = 0; i < 2; i++) {
+        CHECK(CALL(drained_manager)(&one.manager, &of_client) == TL_NOT_TAKEN && take_e(&one.manager, &got, lanes));
+        CHECK(CALL(count_manager)(&one.manager, &now) == TL_OK && now.e == (uint64_t)i + 1);
+        settle(&one);
+    }
+    CHECK(CALL(drained_manager)(&one.manager, &of_client) == TL_OK);
+    /* a finished side still takes */
+    CHECK(offer_b(&one.manager, &beat, lanes) == TL_OK && close_b(&one.manager) == TL_OK && close_d(&one.manager) == TL_OK);
+    CHECK(CALL(finish_manager)(&one.manager, &of_manager) == TL_NOT_SENT);
+    settle(&one);
+    CHECK(CALL(finish_manager)(&one.manager, &of_manager) == TL_OK && of_manager.b == 1 && of_manager.d == 0 && of_manager.e == 2);
+    CHECK(CALL(drained_client)(&one.client, &of_manager) == TL_NOT_TAKEN && take_b(&one.client, &got, lanes));
+    CHECK(CALL(drained_client)(&one.client, &of_manager) == TL_OK && CALL(drained_manager)(&one.manager, &of_client) == TL_OK);
+    /* each number is compared, and that of the bridge first */
+    of_client.a++;
+    CHECK(CALL(drained_manager)(&one.manager, &of_client) == TL_NOT_TAKEN);
+    of_client.bridge++;
+    CHECK(CALL(drained_manager)(&one.manager, &of_client) == TL_BRIDGE_MISMATCH);
+    free_both(&one);
 }
 
 /* The memory of the library: `-Wl,--wrap=malloc` leads its calls here. */
@@ -423,12 +462,12 @@ static void random_calls(int count) {
             continue;
         } else if (what == 2 && draw(8) == 0) {
             uint8_t answer = close_it[x](near_side(bridge, x));
-            CHECK(held ? answer == TL_OK || answer == TL_MID_BURST : answer == TL_NO_SIDE);
+            CHECK(held ? answer == TL_OK || answer == TL_MID_BURST : answer == TL_NOT_OPEN);
         } else if (what < 24) {
             bool was_ready = ready[x](near_side(bridge, x));
             uint8_t answer = offer[x](near_side(bridge, x), &beat, lanes);
-            CHECK(held ? was_ready ? answer <= 10 : answer == TL_NOT_READY : answer == TL_NO_SIDE);
-            CHECK(x != E || answer == TL_OK || answer >= TL_NO_SIDE);
+            CHECK(held ? was_ready ? answer <= 10 : answer == TL_NOT_READY : answer == TL_NOT_OPEN);
+            CHECK(x != E || answer == TL_OK || answer >= TL_NOT_OPEN);
             if (answer == TL_OK && standings(bridge, &after)) {
                 for (int y = A; y < CHANNELS; y++) {
                     CHECK(y == x || counts_of(&before, y).staged == counts_of(&after, y).staged);
@@ -471,6 +510,7 @@ int main(void) {
     texts();
     handles();
     other_bridges();
+    receipts();
     without_memory();
     refusals();
     over_new(ids_of_16_bits);

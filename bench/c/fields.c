@@ -21,8 +21,8 @@ int main(void) {
     CHECK(tl_8_4_version() == TL_VERSION);
     /* an Intent of two bytes over rings of two beats: address, mask, source, opcode, param and size */
     CHECK(tl_8_4_open(&client, &manager, 2, 0x0123456789abcdef) == TL_OK);
-    CHECK(client.held != NULL && client.live && client.bridge == 0x0123456789abcdef);
-    CHECK(manager.held != NULL && manager.live && manager.bridge == 0x0123456789abcdef);
+    CHECK(client.impl != NULL && client.is_open && client.bridge == 0x0123456789abcdef);
+    CHECK(manager.impl != NULL && manager.is_open && manager.bridge == 0x0123456789abcdef);
     tl_beat intent = {.address = 0x1002, .mask = 0x0c, .source = 0x0203, .opcode = 5, .param = 1, .size = 1};
     CHECK(tl_8_4_offer_a(&client, &intent, lanes) == TL_OK && tl_8_4_settle(&client, &manager, &all) == TL_OK);
     CHECK(tl_8_4_take_a(&manager, &got, far) && memcmp(&got, &intent, sizeof got) == 0);
@@ -45,11 +45,11 @@ int main(void) {
     CHECK(all.c.staged == 0 && all.c.in_ring == 0 && all.c.inbox == 4);
     CHECK(all.d.staged == 0 && all.d.in_ring == 0 && all.d.inbox == 0);
     CHECK(all.e.staged == 1 && all.e.in_ring == 1 && all.e.inbox == 0);
-    tl_8_4_answer_text(TL_NO_SIDE, &text);
-    CHECK(strcmp(text.name, "NoSide") == 0 && strcmp(text.sentence, "the handle holds no side of a bridge") == 0);
+    tl_8_4_status_text(TL_NOT_OPEN, &text);
+    CHECK(strcmp(text.name, "NotOpen") == 0 && strcmp(text.sentence, "the handle holds no side of a bridge") == 0);
     tl_8_4_free_client(&client);
     tl_8_4_free_manager(&manager);
-    CHECK(client.held == NULL && !client.live && client.bridge == 0 && tl_8_4_close_a(&client) == TL_NO_SIDE);
+    CHECK(client.impl == NULL && !client.is_open && client.bridge == 0 && tl_8_4_close_a(&client) == TL_NOT_OPEN);
     printf("%d checks passed, %d failed\n", passed, failed);
     return failed > 0;
 }

@@ -22,7 +22,7 @@ int main() {
     tl_4_8_client other_client = {};
     tl_4_8_manager other_manager = {};
     int wrong = tl_8_4_open(&client, &manager, 1, 0) != TL_OK || tl_4_8_open(&other_client, &other_manager, 0, 1) != TL_RING_SIZE ||
-                !tl_8_4_ready_e(&client) || tl_4_8_close_d(&other_manager) != TL_NO_SIDE || tl_8_4_version() != TL_VERSION;
+                !tl_8_4_ready_e(&client) || tl_4_8_close_d(&other_manager) != TL_NOT_OPEN || tl_8_4_version() != TL_VERSION;
 #if __cplusplus >= 202002L
     // in the order of the fields
     tl_beat get = {.address = 0x80, .mask = 0xff, .source = 7, .opcode = 4, .size = 4};

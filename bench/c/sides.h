@@ -62,9 +62,9 @@ static void without_sides(both_sides *none) {
     memcpy(lanes_before, lanes, sizeof lanes);
     for (int x = A; x < CHANNELS; x++) {
         CHECK(!ready[x](near_side(none, x)));
-        CHECK(offer[x](near_side(none, x), &beat, lanes) == TL_NO_SIDE);
+        CHECK(offer[x](near_side(none, x), &beat, lanes) == TL_NOT_OPEN);
         CHECK(!take[x](far_side(none, x), &beat, lanes));
-        CHECK(close_it[x](near_side(none, x)) == TL_NO_SIDE);
+        CHECK(close_it[x](near_side(none, x)) == TL_NOT_OPEN);
     }
     CHECK(CALL(pump_client)(client) == 0 && CALL(fetch_client)(client) == 0);
     CHECK(CALL(pump_manager)(manager) == 0 && CALL(fetch_manager)(manager) == 0);
@@ -73,8 +73,15 @@ static void without_sides(both_sides *none) {
     tl_standings all, all_before;
     memset(&all, 0x5a, sizeof all);
     all_before = all;
-    CHECK(CALL(meet)(client, manager, &all) == TL_NO_SIDE && CALL(settle)(client, manager, &all) == TL_NO_SIDE);
+    CHECK(CALL(meet)(client, manager, &all) == TL_NOT_OPEN && CALL(settle)(client, manager, &all) == TL_NOT_OPEN);
     CHECK(memcmp(&all, &all_before, sizeof all) == 0);
-    CHECK(client->held == NULL && !client->live && client->bridge == 0);
-    CHECK(manager->held == NULL && !manager->live && manager->bridge == 0);
+    tl_totals totals, totals_before;
+    memset(&totals, 0x5a, sizeof totals);
+    totals_before = totals;
+    CHECK(CALL(count_client)(client, &totals) == TL_NOT_OPEN && CALL(count_manager)(manager, &totals) == TL_NOT_OPEN);
+    CHECK(CALL(finish_client)(client, &totals) == TL_NOT_OPEN && CALL(finish_manager)(manager, &totals) == TL_NOT_OPEN);
+    CHECK(CALL(drained_client)(client, &totals) == TL_NOT_OPEN && CALL(drained_manager)(manager, &totals) == TL_NOT_OPEN);
+    CHECK(memcmp(&totals, &totals_before, sizeof totals) == 0);
+    CHECK(client->impl == NULL && !client->is_open && client->bridge == 0);
+    CHECK(manager->impl == NULL && !manager->is_open && manager->bridge == 0);
 }

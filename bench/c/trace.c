@@ -41,7 +41,7 @@ void *__wrap_realloc(void *block, size_t bytes) {
 }
 
 static bool has_no_block(const tl_answer *answer) {
-    return answer->text == NULL && answer->length == 0 && answer->held == NULL && !answer->live && answer->all_done == 0;
+    return answer->text == NULL && answer->length == 0 && answer->impl == NULL && !answer->is_open && answer->all_done == 0;
 }
 
 static bool is_text(const tl_answer *answer, const char *want, size_t length) {
@@ -168,11 +168,11 @@ static void example(const char *name) {
 static void texts(void) {
     tl_text text;
     memset(&text, 0xee, sizeof text);
-    tl_answer_text(TL_SHAPE, &text);
-    CHECK(strcmp(text.name, "Shape") == 0 && strcmp(text.sentence, "a space or a lower-case hexadecimal digit is missing at its place") == 0);
-    tl_answer_text(TL_TOO_LONG, &text);
+    tl_status_text(TL_SHAPE, &text);
+    CHECK(strcmp(text.name, "Shape") == 0 && strcmp(text.sentence, "a space or a lower-case hexadecimal digit is missing at its position") == 0);
+    tl_status_text(TL_TOO_LONG, &text);
     CHECK(strcmp(text.name, "TooLong") == 0 && strcmp(text.sentence, "the trace has more than 67108864 bytes (64 MiB)") == 0);
-    tl_answer_text(24, &text);
+    tl_status_text(24, &text);
     CHECK(text.name[0] == 0 && text.sentence[0] == 0);
 }
 

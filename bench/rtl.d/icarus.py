@@ -1,7 +1,7 @@
 #!/usr/bin/env python3
 """Traces as vectors for play.sv, and what it wrote as an answer.
 
-    icarus.py vectors TRACE FOLDER    FOLDER/near_A.hex .. near_E.hex: one beat a line, in the words of top.sv; a lane without a byte is x
+    icarus.py vectors TRACE FOLDER    FOLDER/near_A.hex .. near_E.hex: one beat a line, in the words of top.sv. A lane without a byte is x
     icarus.py answer TRACE FOLDER     prints the answer that FOLDER/far_A.txt .. and accepted.txt make
 """
 import sys

@@ -12,7 +12,8 @@
 //
 // With resets=ANSWER (the model's answer to the trace) the two resets come at random, alone or together, in mid-burst, and end in any order.
 // Then each far beat has to be the next of its channel in the answer, or a later one if a reset explains what is missing, and never the rest
-// of a burst whose beginning is missing. An agent in reset drops its message; requests outstanding over a reset get no response.
+// of a burst whose beginning is missing. An agent in reset drops its message; requests outstanding over a reset get no response. Before some
+// resets the senders pause, and each message sent since the last reset has to arrive.
 //
 // The status is 1 if something stalls or one of the checks fails; 2 if a word is wrong.
 #include <algorithm>
@@ -149,6 +150,8 @@ static double now = 0, period[2] = {1000, 1370}, drift = 10;
 static bool single = false, stalls = true, steady = false, through = false, later = false, with_resets = false;
 static unsigned faults = 0;
 static double window_start = -1, settled_at = -1;  // of the last reset
+static unsigned idle[2] = {0, 0};  // edges of each clock since a beat moved
+static bool pauses = false;  // before a reset: no sender begins a message, and nothing stalls
 
 static void fault(const Channel& c, const char* what) {
     if (faults++ < 5) fprintf(stderr, "%.0f ps: channel %c: %s\n", now, "ABCDE"[c.k], what);
@@ -180,6 +183,13 @@ static void compare(Channel& c, const Beat& b) {
         if (lost.begun >= 0 && !(lost.begun <= settled_at)) return fault(c, "a far beat is missing, and no reset explains it");
     }
     c.far_at = j + 1;
+}
+
+// with resets: each message that was sent since the last reset has arrived
+static void all_arrived(const char* otherwise) {
+    for (auto& c : ch)
+        for (size_t i = c.far_at; i < c.due.size(); i++)
+            if (c.messages[c.message_of_far[i]].begun > settled_at) { fault(c, otherwise); break; }
 }
 
 static void far_fires(Channel& c, uint64_t cycle) {
@@ -215,6 +225,7 @@ static void skip_message(Channel& c) {
 static bool may_offer(Channel& c) {
     if (reset_of(c.near) || c.at >= c.trace.size()) return false;
     if (c.left) return true;
+    if (pauses && c.k != 3) return false;  // (responses come to an end without requests, which may need them to arrive)
     const Beat& b = c.trace[c.at];
     if (with_resets && (c.k == 0 || c.k == 3) && now <= settled_at) return false;
     if (c.k == 0) {
@@ -235,6 +246,8 @@ static bool may_offer(Channel& c) {
 
 static double next_reset = 0, ends_at[2] = {0, 0};
 static int resets_left = 0, resets_done = 0;
+static bool pause_first = false;  // the senders pause before the next reset
+static int starts = 0;  // with one clock, the side whose reset begins first
 
 static void begin_reset(int side) {
     reset_of(side) = 1;
@@ -252,14 +265,18 @@ static void draw_resets(int side) {
     if (!top->client_reset && !top->manager_reset && settled_at > 1e299) {
         settled_at = now + 60 * slow;
         next_reset = settled_at + (40 + draw(400)) * slow;
-        if (draw(4) == 0) next_reset = now + draw(60) * slow;  // another one before this one has settled
+        pause_first = draw(2), starts = draw(2);
+        if (draw(4) == 0) next_reset = now + draw(60) * slow, pause_first = false;  // another one before this one has settled
     }
     // the first one of an episode, and perhaps the other one in its course; none in the last fifth of the traffic, so that what comes after the
     // last reset has to arrive
     bool is_late = true;
     for (auto& c : ch) is_late = is_late && 5 * c.at >= 4 * c.trace.size();
-    bool first = !is_late && resets_left > 0 && now >= next_reset && settled_at < 1e299;
+    bool due = !is_late && resets_left > 0 && now >= next_reset && settled_at < 1e299;
     bool other = settled_at > 1e299 && !reset_of(side) && reset_of(!side) && draw(40) == 0;
+    pauses = due && pause_first;
+    if (pauses && std::min(idle[0], idle[1]) > 100) pauses = false, all_arrived("a far beat is missing before the next reset");
+    bool first = due && !pauses && (!single || side == starts);
     if (first || other) {
         if (first) resets_left--, resets_done++;
         if (first && draw(3) == 0 && single) begin_reset(!side), ends_at[!side] = now + (1 + draw(30)) * slow;  // at least one edge
@@ -280,7 +297,7 @@ static int play(const char* far_path) {
     uint64_t cycles[2] = {0, 0};
     double next[2] = {0, single ? 0 : double(draw(1000))}, pace[2] = {1, 1};
     int high[2] = {0, 0};
-    unsigned idle[2] = {0, 0}, long_idle = with_resets ? 3000 : 60000 / std::max(1.0, std::max(period[0], period[1]) / std::min(period[0], period[1]));
+    unsigned long_idle = with_resets ? 3000 : 60000 / std::max(1.0, std::max(period[0], period[1]) / std::min(period[0], period[1]));
     long_idle = std::max(long_idle, 5000u);
     double slow = std::max(period[0], period[1]);
     top->client_reset = top->manager_reset = 1;
@@ -341,7 +358,7 @@ static int play(const char* far_path) {
             if (c.standing && rises[f] && !(with_resets && in_reset) && !(through && !steady) && !(far_valid(c.k) && far_beat(c.k) == c.stood))
                 fault(c, "a far beat did not stay");
             if (stalls && draw(256) == 0) { static const double p[] = {1, 1, 0.9, 0.5, 0.2, 0.05}; c.p_valid = p[draw(6)], c.p_ready = p[draw(6)]; }
-            if (rises[f]) top->far_ready = (top->far_ready & ~(1 << c.k)) | (!reset_of(f) && draw(1000) < 1000 * c.p_ready) << c.k;
+            if (rises[f]) top->far_ready = (top->far_ready & ~(1 << c.k)) | (!reset_of(f) && (pauses || draw(1000) < 1000 * c.p_ready)) << c.k;
             if (rises[c.near] && !(held[c.k] && !reset_of(c.near))) held[c.k] = false, offer(c.k, false, noise());
         }
         if (through) top->eval();
@@ -350,7 +367,7 @@ static int play(const char* far_path) {
         for (int k : orders[through && draw(2)]) {
             Channel& c = ch[k];
             if (!rises[c.near] || held[k]) continue;
-            if (may_offer(c) && draw(1000) < 1000 * c.p_valid) offer(k, true, c.trace[c.at]);
+            if (may_offer(c) && (pauses || draw(1000) < 1000 * c.p_valid)) offer(k, true, c.trace[c.at]);
             if (through) top->eval();
         }
         top->eval();
@@ -374,10 +391,8 @@ static int play(const char* far_path) {
         for (auto& b : c.got) fprintf(out, "%s\n", line_of(c.k, b, widths[!c.near]).c_str());
         near_total += c.accepted, far_total += c.got.size();
         done = done && c.at == c.trace.size() && (with_resets || c.got.size() == c.far_expected);
-        if (with_resets)  // the rest of the trace, after the last reset, has to be there
-            for (size_t i = c.far_at; i < c.due.size(); i++)
-                if (c.messages[c.message_of_far[i]].begun > settled_at) { fault(c, "a far beat is missing at the end"); break; }
     }
+    if (with_resets) all_arrived("a far beat is missing at the end");
     for (auto& c : ch) fprintf(out, "= %c %s %zu %zu\n", "ABCDE"[c.k], c.left ? "cut" : "done", c.at, c.got.size());
     fclose(out);
     if (!with_resets && (top->client_faults || top->manager_faults)) {

@@ -24,7 +24,7 @@ def load_bench():
 
 
 def play(bench, folder, config, trace, files):
-    """What the bridge of `files` delivers, and what the simulation says."""
+    """Returns the far beats of the bridge of `files`, and the text that the simulation prints."""
     folder = Path(tempfile.mkdtemp(dir=folder))
     steps = [
         [sys.executable, HERE / "icarus.py", "vectors", trace, folder],

@@ -1,6 +1,8 @@
 """Writes a bench in SystemVerilog: the adapter of adapter.sv under the names of a convention, traffic, monitors, and a dump.
 
     bench.py CONVENTION icarus|verilator DUMP BUG [scoreboard] > bench.sv
+
+With the convention `bridge` the design is rtl/tl_bridge.sv itself, and BUG is not read.
 """
 import sys
 
@@ -18,7 +20,9 @@ WIDTHS = {"c": 8, "m": 4}
 CLOCKS = {
     "rocket": ("auto_in_clock", "auto_in_reset", "auto_out_clock", "auto_out_reset"),
     "spinal": ("up_clk", "up_reset", "down_clk", "down_reset"),
+    "bridge": ("client_clock", "client_reset", "manager_clock", "manager_reset"),
 }
+LINK_SIZES = ".ADDRESS_BITS(32), .SOURCE_BITS(6), .SINK_BITS(4)"
 OTHER_CLOCKS = ("s_clk", "s_rst", "m_clk", "m_rst")
 
 
@@ -39,6 +43,8 @@ def name_of(convention, side, channel, field):
         return f"io_{'up' if side == 'c' else 'down'}_{channel}_{'' if held else 'payload_'}{field}"
     if convention == "pattern":
         return f"{'Slv' if side == 'c' else 'Mst'}{channel.upper()}__{ {'valid': 'VLD', 'ready': 'RDY'}.get(field, field.upper())}"
+    if convention == "bridge":
+        return f"{'client' if side == 'c' else 'manager'}_{channel}_{field}"
     return f"{'s' if side == 'c' else 'm'}_{channel}_{field}"
 
 
@@ -51,7 +57,9 @@ def connected(names):
 
 
 def design(convention, bug):
-    """The adapter below names of the convention."""
+    """Returns the adapter with the ports of the convention, or nothing if the design is tl_bridge."""
+    if convention == "bridge":
+        return ""
     clocks = CLOCKS.get(convention, OTHER_CLOCKS)
     ports = [f"input {clock}" for clock in clocks]
     ports += [declared("input" if is_input else "output", bits, name_of(convention, side, channel, field)) for side, channel, field, bits, is_input in signals()]
@@ -67,15 +75,19 @@ def instances(convention, with_scoreboard):
     names = [(name_of(convention, side, channel, field), f"{side}_{channel}_{field}") for side, channel, field, _, _ in signals()]
     if convention == "rocket":
         names.append(("auto_in_a_bits_user_amba_prot", "7'd0"))
-    lines = [f"  Dut dut({connected(clocks + names)});"]
+    kind = "Dut"
+    if convention == "bridge":
+        kind = f"tl_bridge #(.CLIENT_BYTES({WIDTHS['c']}), .MANAGER_BYTES({WIDTHS['m']}), {LINK_SIZES})"
+        names += [(name, "1'b0") for name in ("client_a_user", "client_a_echo", "client_c_user", "client_c_echo", "manager_d_user", "manager_d_echo")]
+    lines = [f"  {kind} dut({connected(clocks + names)});"]
     for side, link in (("c", "client"), ("m", "manager")):
         ports = [(f"{channel}_{field}", f"{side}_{channel}_{field}") for of, channel, field, _, _ in signals() if of == side]
-        lines.append(f'  tl_trace_monitor #(.FILE("{link}.beats"), .WIDTH({WIDTHS[side]}), .ADDRESS_BITS(32), .SOURCE_BITS(6), .SINK_BITS(4)) {link}_monitor('
+        lines.append(f'  tl_trace_monitor #(.FILE("{link}.beats"), .DATA_BYTES({WIDTHS[side]}), {LINK_SIZES}) {link}_monitor('
                      f"{connected([('clock', side + 'clk'), ('reset', side + 'rst'), *ports])});")
     if with_scoreboard:
-        ports = [(f"{'client' if side == 'c' else 'manager'}_{channel}_{field}", f"{side}_{channel}_{field}") for side, channel, field, _, _ in signals()]
-        ports += [("client_clock", "cclk"), ("client_reset", "crst"), ("manager_clock", "mclk"), ("manager_reset", "mrst")]
-        lines.append(f"  tlbridge_scoreboard #(.CLIENT(8), .MANAGER(4), .ADDRESS_BITS(32), .SOURCE_BITS(6), .SINK_BITS(4)) board({connected(ports)});")
+        ports = [(name_of("bridge", side, channel, field), f"{side}_{channel}_{field}") for side, channel, field, _, _ in signals()]
+        ports += zip(CLOCKS["bridge"], ("cclk", "crst", "mclk", "mrst"))
+        lines.append(f"  tlbridge_scoreboard #(.CLIENT_BYTES({WIDTHS['c']}), .MANAGER_BYTES({WIDTHS['m']}), {LINK_SIZES}, .ERROR_AT_END(0)) board({connected(ports)});")
     return lines
 
 
@@ -176,7 +188,7 @@ TRAFFIC = """
   integer idle = 0;
   initial begin
     $dumpfile("DUMP"); $dumpvars(0, top);
-    #60 crst = 0; mrst = 0;
+    #200 crst = 0; mrst = 0;
     while (idle < 400) begin @(posedge cclk); idle = done >= 400 && pend == 0 && busy == 0 ? idle + 1 : 0; end
     $finish;
   end

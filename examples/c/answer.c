@@ -9,7 +9,7 @@ int main(void) {
     uint8_t fault = tl_answer_trace(text, length, 0, &answer);
     if (fault != TL_OK) {
         tl_text text;
-        tl_answer_text(fault, &text);
+        tl_status_text(fault, &text);
         fprintf(stderr, "line %llu: %d %s: %s\n", (unsigned long long)answer.line, fault, text.name, text.sentence);
         return 3;
     }

@@ -22,7 +22,7 @@ int main(void) {
     }
     tl_text text;
     uint8_t fault = tl_8_4_offer_a(&client, &put, near);
-    tl_8_4_answer_text(fault, &text);
+    tl_8_4_status_text(fault, &text);
     printf("the same source again: %d %s: %s\n", fault, text.name, text.sentence);
 
     /* the response; then nothing may be left anywhere */

@@ -7,26 +7,33 @@
 #endif
 TLBRIDGE(8, 4)
 
-/* The manager's thread: takes the request, and answers it with four beats. */
+/* The manager's side, and its receipt once it has sent everything. */
+typedef struct {
+    tl_8_4_manager side;
+    tl_totals receipt;
+} managing;
+
+/* The manager's thread: takes the request, answers it with four beats, and leaves a receipt. */
 static void *manage(void *argument) {
-    tl_8_4_manager *manager = (tl_8_4_manager *)argument;
+    managing *at = (managing *)argument;
     tl_beat get;
     uint8_t lanes[4];
-    while (!tl_8_4_take_a(manager, &get, lanes)) tl_8_4_fetch_manager(manager);
+    while (!tl_8_4_take_a(&at->side, &get, lanes)) tl_8_4_fetch_manager(&at->side);
     tl_beat answer = {.source = get.source, .opcode = 1, .size = get.size};
     for (int beat = 0; beat < 4; beat++) {
         for (int i = 0; i < 4; i++) lanes[i] = (uint8_t)(4 * beat + i);
-        while (tl_8_4_offer_d(manager, &answer, lanes) == TL_NOT_READY) tl_8_4_pump_manager(manager);
+        while (tl_8_4_offer_d(&at->side, &answer, lanes) == TL_NOT_READY) tl_8_4_pump_manager(&at->side);
     }
-    while (!tl_8_4_ready_d(manager)) tl_8_4_pump_manager(manager);
+    if (tl_8_4_close_b(&at->side) != TL_OK || tl_8_4_close_d(&at->side) != TL_OK) return NULL;
+    while (tl_8_4_finish_manager(&at->side, &at->receipt) == TL_NOT_SENT) tl_8_4_pump_manager(&at->side);
     return NULL;
 }
 
 int main(void) {
     tl_8_4_client client = {0};
-    tl_8_4_manager manager = {0};
+    managing manager = {0};
     pthread_t thread;
-    if (tl_8_4_open(&client, &manager, 16, 0) != TL_OK || pthread_create(&thread, NULL, manage, &manager) != 0) return 1;
+    if (tl_8_4_open(&client, &manager.side, 16, 0) != TL_OK || pthread_create(&thread, NULL, manage, &manager) != 0) return 1;
     tl_beat get = {.address = 0x80, .mask = 0xff, .source = 0x107, .opcode = 4, .size = 4}, data;
     uint8_t lanes[8] = {0};
     if (tl_8_4_offer_a(&client, &get, lanes) != TL_OK) return 1;
@@ -38,10 +45,13 @@ int main(void) {
         printf("\n");
     }
     if (pthread_join(thread, NULL) != 0) return 1;
-    tl_standings left;
-    if (tl_8_4_meet(&client, &manager, &left) != TL_OK) return 1;
-    printf("left on D: %zu\n", left.d.staged + left.d.in_ring + left.d.inbox);
+
+    /* the receipt says how many beats the manager's side has sent */
+    tl_totals taken;
+    if (tl_8_4_count_client(&client, &taken) != TL_OK) return 1;
+    printf("taken on D: %d of %d beats\n", (int)taken.d, (int)manager.receipt.d);
+    printf("all was taken: %s\n", tl_8_4_drained_client(&client, &manager.receipt) == TL_OK ? "yes" : "no");
     tl_8_4_free_client(&client);
-    tl_8_4_free_manager(&manager);
+    tl_8_4_free_manager(&manager.side);
     return 0;
 }

@@ -67,7 +67,7 @@ async def every_beat_is_as_expected(dut):
     await RisingEdge(dut.clock)
     dut.reset.value = 0
 
-    board = Scoreboard(client=8, manager=4, say=dut._log.error)
+    board = Scoreboard(client=8, manager=4, on_message=dut._log.error)
     cocotb.start_soon(board.watch("client", dut.clock, signals_of(dut, "up"), dut.reset))
     cocotb.start_soon(board.watch("manager", dut.clock, signals_of(dut, "down"), dut.reset))
     responses = cocotb.start_soon(send_responses(dut))

@@ -18,8 +18,8 @@ const Request requests[4] = {
 
 class Bench {
   public:
-    Bench() : board(tl_board_open(8, 4, 0)) {}
-    ~Bench() { tl_board_free(board); }
+    Bench() : board(tl_scoreboard_open(8, 4, 0)) {}
+    ~Bench() { tl_scoreboard_free(board); }
 
     bool is_open() const { return board != nullptr; }
 
@@ -56,7 +56,7 @@ class Bench {
 
     // Prints and returns what is left at the end.
     uint64_t finish() {
-        uint64_t differences = tl_board_end(board);
+        uint64_t differences = tl_scoreboard_finish(board);
         print_lines();
         return differences;
     }
@@ -98,17 +98,17 @@ class Bench {
     void report(int link, char channel, uint64_t time, const tl_beat &beat, uint64_t data) {
         uint8_t lanes[8];
         for (int lane = 0; lane < 8; lane++) lanes[lane] = uint8_t(data >> (8 * lane));
-        tl_board_beat(board, link, channel, time, &beat, lanes);
+        tl_scoreboard_beat(board, link, channel, time, &beat, lanes);
         print_lines();
     }
 
     void print_lines() {
         uint64_t time;
-        while (const char *line = tl_board_line(board, &time)) std::printf("time %d: %s\n", int(time), line);
+        while (const char *line = tl_scoreboard_next_message(board, &time)) std::printf("time %d: %s\n", int(time), line);
     }
 
     Vadapter dut;
-    tl_board *board;
+    tl_scoreboard *board;
     unsigned sent = 0, answered = 0;
 };
 

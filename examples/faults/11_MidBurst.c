@@ -22,7 +22,7 @@ int main(void) {
         if (fault == TL_OK) {
             printf("closed after beat %d of 2\n", beat);
         } else {
-            tl_8_4_answer_text(fault, &text);
+            tl_8_4_status_text(fault, &text);
             printf("not closed after beat %d of 2: %d %s: the burst has beats left\n", beat, fault, text.name);
         }
         if (tl_8_4_settle(&client, &manager, &waiting) != TL_OK) return 1;

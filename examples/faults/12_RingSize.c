@@ -17,7 +17,7 @@ int main(void) {
         if (fault == TL_OK) {
             printf("a ring of %zu beats: opened\n", rings[i]);
         } else {
-            tl_8_4_answer_text(fault, &text);
+            tl_8_4_status_text(fault, &text);
             printf("a ring of %zu beats: %d %s: a ring holds 1 to %d\n", rings[i], fault, text.name, TL_MAX_RING);
         }
         tl_8_4_free_client(&client);

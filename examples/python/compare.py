@@ -23,7 +23,7 @@ def beat_of(line):
 
 
 def main(folder):
-    board = Scoreboard(client=8, manager=4, say=print)
+    board = Scoreboard(client=8, manager=4, on_message=print)
     for link in ("client", "manager"):
         lines = (folder / f"{link}.beats").read_text().splitlines()
         times = (folder / f"{link}.beats.times").read_text().splitlines()

@@ -7,11 +7,11 @@ with Bridge(client=8, manager=4) as bridge:
     try:
         bridge.offer("D", response)
     except Refused as refused:
-        print("a response before its request:", refused.answer.name)
+        print("a response before its request:", refused.status.name)
     bridge.offer("A", Beat(opcode=4, size=4, source=0x107, address=0x80, mask=0xFF))
-    for beat in bridge.taken("A"):
+    for beat in bridge.receive_all("A"):
         print(f"the manager gets opcode {beat.opcode}, mask {beat.mask:x}")
     for first in range(0, 16, 4):
         bridge.offer("D", Beat(opcode=1, size=4, source=0x107, data=range(first, first + 4)))
-    for beat in bridge.taken("D"):
+    for beat in bridge.receive_all("D"):
         print("the client gets", beat.data[::-1].hex())

@@ -11,12 +11,12 @@ namespace {
 
 class Scoreboard {
   public:
-    Scoreboard() : board(tl_board_open(8, 4, 0)) {
+    Scoreboard() : board(tl_scoreboard_open(8, 4, 0)) {
         if (board != nullptr) return;
-        std::fprintf(stderr, "the library has no pair 8:4, which this example needs, or there is no memory; it has %s\n", tl_board_pairs());
+        std::fprintf(stderr, "the library has no pair 8:4, which this example needs, or there is no memory; it has %s\n", tl_scoreboard_pairs());
         std::exit(4);
     }
-    ~Scoreboard() { tl_board_free(board); }
+    ~Scoreboard() { tl_scoreboard_free(board); }
     Scoreboard(const Scoreboard &) = delete;
 
     void at_client(const Vbench &dut, uint64_t time) {
@@ -69,8 +69,8 @@ class Scoreboard {
         }
     }
 
-    uint64_t at_end() {
-        uint64_t differences = tl_board_end(board);
+    uint64_t finish() {
+        uint64_t differences = tl_scoreboard_finish(board);
         say();
         return differences;
     }
@@ -80,16 +80,16 @@ class Scoreboard {
     void tell(int link, char channel, uint64_t time, const tl_beat &beat, uint64_t data) {
         uint8_t lanes[8];
         for (int lane = 0; lane < 8; lane++) lanes[lane] = uint8_t(data >> (8 * lane));
-        tl_board_beat(board, link, channel, time, &beat, lanes);
+        tl_scoreboard_beat(board, link, channel, time, &beat, lanes);
         say();
     }
 
     void say() {
         uint64_t at;
-        while (const char *line = tl_board_line(board, &at)) std::printf("C++: time %" PRIu64 ": %s\n", at, line);
+        while (const char *line = tl_scoreboard_next_message(board, &at)) std::printf("C++: time %" PRIu64 ": %s\n", at, line);
     }
 
-    tl_board *board;
+    tl_scoreboard *board;
 };
 
 } // namespace
@@ -115,7 +115,7 @@ int main(int argc, char **argv) {
         dut.eval();
         if (dut.done && last_done == 0) last_done = time;
     }
-    uint64_t differences = board.at_end();
+    uint64_t differences = board.finish();
     dut.final();
     std::printf("C++: %" PRIu64 " differences, at time %" PRIu64 "; the traffic %s\n", differences, time, last_done ? "ended" : "does not end");
     return (differences > 0 || last_done == 0 ? 1 : 0) + (dut.dpi_differences > 0 ? 2 : 0);

@@ -1,4 +1,4 @@
-/* The types of IEEE 1800's svdpi.h that sv/tlbridge_dpi.c uses, for a library that is made where no simulator is. */
+/* The types of IEEE 1800's svdpi.h that sv/tlbridge_dpi.c uses, to build the library without a simulator. */
 #include <stdint.h>
 typedef uint8_t svBit;
 typedef uint32_t svBitVecVal;

@@ -24,7 +24,7 @@ class Fields(unittest.TestCase):
             Beat(opcod=4)
 
     def test_misspelt_channel(self):
-        with self.assertRaisesRegex(ValueError, "a channel is one of A, B, C, D, E, and not 'a'"):
+        with self.assertRaisesRegex(ValueError, "a channel is one of A, B, C, D, E, not 'a'"):
             Beat(opcode=4).passed("a", 8)
 
     def test_too_large(self):
@@ -48,7 +48,7 @@ class Fields(unittest.TestCase):
                 bridge.offer("A", Beat(opcode=4, sink=1))
 
     def test_wrong_lanes(self):
-        with Bridge(8, 4) as bridge, self.assertRaisesRegex(ValueError, "8 lanes, and data 4 bytes"):
+        with Bridge(8, 4) as bridge, self.assertRaisesRegex(ValueError, "8 lanes, but data has 4 bytes"):
             bridge.offer("A", Beat(opcode=0, size=2, mask=0xF, data=bytes(4)))
 
 
@@ -56,25 +56,25 @@ class Calls(unittest.TestCase):
     def test_read(self):
         with Bridge(client=8, manager=4) as bridge:
             bridge.offer("A", GET)
-            self.assertEqual(list(bridge.taken("A")), [Beat(opcode=4, size=2, source=7, address=0x1004, mask=0xF, data=bytes(4))])
+            self.assertEqual(list(bridge.receive_all("A")), [Beat(opcode=4, size=2, source=7, address=0x1004, mask=0xF, data=bytes(4))])
             bridge.offer("D", Beat(opcode=1, size=2, source=7, data=b"\xaa\xbb\xcc\xdd"))
-            self.assertEqual(list(bridge.taken("D")), [Beat(opcode=1, size=2, source=7, data=b"\0\0\0\0\xaa\xbb\xcc\xdd")])
+            self.assertEqual(list(bridge.receive_all("D")), [Beat(opcode=1, size=2, source=7, data=b"\0\0\0\0\xaa\xbb\xcc\xdd")])
             self.assertTrue(bridge.settle().drained)
 
     def test_each_beat_that_waits(self):
-        """What another channel's taken() moved into an inbox comes, too."""
+        """What another channel's receive_all() moved into an inbox comes, too."""
         with Bridge(8, 4) as bridge:
             bridge.offer("A", GET)
             bridge.offer("E", Beat(sink=3))
-            self.assertEqual(len(list(bridge.taken("A"))), 1)
-            self.assertEqual(list(bridge.taken("E")), [Beat(sink=3)])
+            self.assertEqual(len(list(bridge.receive_all("A"))), 1)
+            self.assertEqual(list(bridge.receive_all("E")), [Beat(sink=3)])
 
     def test_more_than_an_inbox(self):
         """4,096 bytes from 8 lanes to 4 are 1,024 far beats."""
         with Bridge(8, 4) as bridge:
             for at in range(512):
                 bridge.offer("C", Beat(opcode=7, size=12, address=0x8000, data=bytes([at % 256] * 8)))
-            came = list(bridge.taken("C"))
+            came = list(bridge.receive_all("C"))
             self.assertEqual(len(came), 1024)
             self.assertEqual([beat.data for beat in came], [bytes([at // 2 % 256] * 4) for at in range(1024)])
 
@@ -83,18 +83,18 @@ class Calls(unittest.TestCase):
             bridge.offer("A", GET)
             with self.assertRaises(Refused) as refused:
                 bridge.offer("A", GET)
-            self.assertEqual((refused.exception.answer.number, refused.exception.answer.name), (8, "SourceBusy"))
-            self.assertTrue(refused.exception.answer.sentence)
+            self.assertEqual((refused.exception.status.number, refused.exception.status.name), (8, "SourceBusy"))
+            self.assertTrue(refused.exception.status.sentence)
             with self.assertRaises(Refused) as refused:
                 bridge.offer("A", Beat(opcode=4, size=2, source=8, address=0x1002, mask=0xF0))
-            self.assertEqual(refused.exception.answer.name, "Unaligned")
+            self.assertEqual(refused.exception.status.name, "Unaligned")
 
     def test_within_a_burst(self):
         with Bridge(8, 4) as bridge:
             bridge.offer("A", Beat(size=4, mask=0xFF))
             with self.assertRaises(Refused) as refused:
                 bridge.client.close("A")
-            self.assertEqual(refused.exception.answer.name, "MidBurst")
+            self.assertEqual(refused.exception.status.name, "MidBurst")
 
     def test_side(self):
         with Bridge(8, 4) as bridge:
@@ -110,7 +110,7 @@ class Calls(unittest.TestCase):
         for ring in (0, 4097):
             with self.assertRaises(Refused) as refused:
                 Bridge(8, 4, ring=ring)
-            self.assertEqual(refused.exception.answer.name, "RingSize")
+            self.assertEqual(refused.exception.status.name, "RingSize")
 
     def test_freed(self):
         bridge = Bridge(8, 4)
@@ -118,7 +118,7 @@ class Calls(unittest.TestCase):
         bridge.free()
         with self.assertRaises(Refused) as refused:
             bridge.settle()
-        self.assertEqual(refused.exception.answer.name, "NoSide")
+        self.assertEqual(refused.exception.status.name, "NotOpen")
 
     def test_two_threads(self):
         with Bridge(8, 4, ring=4) as bridge:
@@ -138,8 +138,13 @@ class Calls(unittest.TestCase):
                 bridge.client.offer("E", Beat(sink=sink))
             while not bridge.client.ready("E"):
                 bridge.client.pump()
+            for channel in "ACE":
+                bridge.client.close(channel)
+            receipt = bridge.client.finish()
+            self.assertEqual(receipt.e, 500)
             thread.join()
             self.assertEqual(sinks, list(range(500)))
+            self.assertTrue(bridge.manager.drained(receipt))
             self.assertTrue(bridge.meet().drained)
 
 
@@ -151,17 +156,17 @@ class Traces(unittest.TestCase):
     )
 
     def test_answer(self):
-        answered = tlbridge.answer(self.TRACE)
+        answered = tlbridge.run_trace(self.TRACE)
         self.assertEqual(answered.text, self.ANSWER)
         self.assertTrue(answered.all_done)
 
     def test_not_done(self):
-        self.assertFalse(tlbridge.answer(self.TRACE.replace("D 1 0 2 07", "D 1 0 2 08")).all_done)
+        self.assertFalse(tlbridge.run_trace(self.TRACE.replace("D 1 0 2 07", "D 1 0 2 08")).all_done)
 
     def test_fault(self):
         with self.assertRaises(tlbridge.TraceFault) as fault:
-            tlbridge.answer("A 4\n")
-        self.assertEqual((fault.exception.answer.name, fault.exception.line), ("Header", 1))
+            tlbridge.run_trace("A 4\n")
+        self.assertEqual((fault.exception.status.name, fault.exception.line), ("Header", 1))
 
 
 def far(data):
@@ -192,21 +197,21 @@ class Board(unittest.TestCase):
     def test_data(self):
         self.write(second=b"\4\5\7\7")
         self.respond()
-        self.assertEqual(self.board.lines, ["time 20: far A beat 1; data got 07070504, due 07060504"])
+        self.assertEqual(self.board.lines, ["time 20: far A beat 1; data got 07070504, expected 07060504"])
         self.assertEqual((self.board.differences, self.board.end()), (1, 1))
 
     def test_denied_lost(self):
         self.write()
         self.respond(denied=True)
-        self.assertEqual(self.board.lines, ["time 30: far D beat 0; denied got 0, due 1"])
+        self.assertEqual(self.board.lines, ["time 30: far D beat 0; denied got 0, expected 1"])
 
     def test_not_come(self):
         self.write()
         self.board.beat("manager", "D", 30, Beat(opcode=0, size=3, source=1, sink=9))
         self.assertEqual(self.board.end(), 1)
         self.assertEqual(self.board.lines, [
-            "time 30: far D beat 0: opcode 0, size 3, source 0001, sink 0009: is due and did not come",
-            "time 20: open: near A beat 0, source 0001, has no response",
+            "time 30: far D beat 0: opcode 0, size 3, source 0001, sink 0009: expected but missing",
+            "time 20: outstanding: near A beat 0, source 0001, has no response",
         ])
 
     def test_not_due(self):
@@ -214,7 +219,7 @@ class Board(unittest.TestCase):
         self.respond()
         self.board.beat("client", "D", 40, Beat(opcode=0, size=3, source=1))
         self.assertEqual(self.board.end(), 1)
-        self.assertEqual(self.board.lines, ["time 40: far D beat 1: opcode 0, size 3, source 0001, sink 0000: came and is not due"])
+        self.assertEqual(self.board.lines, ["time 40: far D beat 1: opcode 0, size 3, source 0001, sink 0000: unexpected"])
 
     def test_refused(self):
         self.board.beat("client", "A", 5, Beat(opcode=4, size=2, source=1, address=0x82, mask=0xF0))
@@ -252,7 +257,7 @@ class Board(unittest.TestCase):
             "time 20: near D beat 1: opcode 1, size 2, source 0002, sink 0000: waits: 9 NoRequest: ",
         )):
             self.assertTrue(line.startswith(begin), line)
-        self.assertTrue(self.board.lines[2].endswith("; 1 more wait behind it"), self.board.lines[2])
+        self.assertTrue(self.board.lines[2].endswith("; 1 more wait after it"), self.board.lines[2])
 
     def test_release_ack(self):
         """It answers no request, and needs none."""
@@ -269,7 +274,7 @@ class Board(unittest.TestCase):
         for _ in range(2):
             self.board.beat("manager", "A", 10, replace(put, mask=0xF, data=bytes(4)))
         self.assertEqual(self.board.end(), 1)
-        self.assertEqual(self.board.lines[0], "time 10: near A: the last message is not whole")
+        self.assertEqual(self.board.lines[0], "time 10: near A: the last message is incomplete")
 
     def test_behind_a_refused_beat(self):
         """The next message is judged again."""
@@ -279,7 +284,7 @@ class Board(unittest.TestCase):
         self.board.beat("client", "E", 7, Beat(sink=1))
         self.board.beat("manager", "E", 7, Beat(sink=1))
         self.assertEqual(self.board.end(), 1)
-        self.assertRegex(self.board.lines[0], "refused: 4 Unaligned: .*; what becomes of it is not judged$")
+        self.assertRegex(self.board.lines[0], "refused: 4 Unaligned: .*; its far beats are not judged$")
 
     def test_far_ahead(self):
         """Hundreds of far beats wait for their near beats, round a queue that grows."""
@@ -304,7 +309,7 @@ class Board(unittest.TestCase):
         """PutPartialData with its first byte alone; the design drives another byte where no mask bit is."""
         for unmasked, differences in ((False, 0), (True, 1)):
             with self.subTest(unmasked=unmasked):
-                board = Scoreboard(8, 4, unmasked=unmasked)
+                board = Scoreboard(8, 4, compare_unmasked=unmasked)
                 board.beat("client", "A", 10, Beat(opcode=1, size=2, source=1, address=0x80, mask=0x01, data=bytes(range(8))))
                 board.beat("manager", "A", 10, Beat(opcode=1, size=2, source=1, address=0x80, mask=0x1, data=b"\x00\x01\x09\x03"))
                 self.assertEqual(board.end(), differences)
@@ -358,7 +363,7 @@ class Watched(unittest.TestCase):
     def test_wrong(self):
         wrong = {**self.CAME, "client_d_data": f"{0xDDCCBBAB:032b}" + "x" * 32}
         self.assertEqual(self.watch([self.CLIENT, self.MANAGER, self.ANSWERED, wrong]),
-                         (1, ["time 4: far D beat 0; data got ddccbbab........, due ddccbbaa........"]))
+                         (1, ["time 4: far D beat 0; data got ddccbbab........, expected ddccbbaa........"]))
 
     def test_not_ready(self):
         stalled = {**self.CLIENT, "client_a_ready": "0"}
@@ -376,6 +381,64 @@ class Watched(unittest.TestCase):
 
     def test_unknown_bits(self):
         self.assertEqual(number_of(types.SimpleNamespace(value="1xz0")), 8)
+
+    def with_unknown(self, at, field, bits):
+        """The differences, and the lines, of the read with other bits of a field in cycle `at`."""
+        cycles = [self.CLIENT, self.MANAGER, self.ANSWERED, self.CAME]
+        prefix = next(iter(cycles[at])).rsplit("_", 1)[0]
+        cycles[at] = {**cycles[at], f"{prefix}_{field}": bits}
+        return self.watch(cycles)
+
+    def test_unknown_in_each_field(self):
+        """Each field that something reads, at either link: the beat is a difference, and a line names field and digits."""
+        address = f"{0x1004:032b}"
+        for at, name, field, bits, digits in (
+            (0, "A beat of the client's link", "opcode", "10x", "x"), (0, "A beat of the client's link", "mask", "1111000z", "fx"),
+            (1, "A beat of the manager's link", "address", "x" + address[1:], "x0001004"), (1, "A beat of the manager's link", "param", "x00", "x"),
+            (2, "D beat of the manager's link", "source", "11x", "x"), (2, "D beat of the manager's link", "data", f"{0xDDCCBB:024b}" + "1010101u", "ddccbbax"),
+            (3, "D beat of the client's link", "size", "001x", "x"), (3, "D beat of the client's link", "denied", "z", "x"), (3, "D beat of the client's link", "corrupt", "x", "x"),
+            (3, "D beat of the client's link", "data", "x" + f"{0xDDCCBBAA:032b}"[1:] + "z" * 32, "xdccbbaaxxxxxxxx"),
+        ):
+            with self.subTest(field, at=at):
+                count, lines = self.with_unknown(at, field, bits)
+                said = f"time {at + 1}: {name} has unknown bits: {field} is {digits}"
+                self.assertIn(said, lines)
+                self.assertEqual(count, len([line for line in lines if "outstanding" not in line]))
+
+    def test_unknown_that_nothing_reads(self):
+        """The sink of an AccessAckData, a byte without a mask bit, and valid and ready."""
+        self.assertEqual(self.with_unknown(2, "sink", "xxx"), (0, []))
+        self.assertEqual(self.with_unknown(3, "sink", "x"), (0, []))
+        put = {**self.CLIENT, "client_a_opcode": "001", "client_a_mask": "10000000", "client_a_data": "10101010" + "x" * 56}
+        far = {**self.MANAGER, "manager_a_opcode": "001", "manager_a_mask": "1000", "manager_a_data": "10101010" + "z" * 24}
+        ack = [{**cycle, f"{link}_d_opcode": "000", f"{link}_d_data": "x" * bits} for cycle, link, bits in ((self.ANSWERED, "manager", 32), (self.CAME, "client", 64))]
+        self.assertEqual(self.watch([put, far, *ack]), (0, []))
+        whole = {**far, "manager_a_data": "1010101x" + "z" * 24}
+        self.assertEqual(self.watch([put, whole, *ack])[1][0], "time 2: A beat of the manager's link has unknown bits: data is axxxxxxx")
+        self.assertEqual(self.watch([{**self.CLIENT, "client_a_valid": "x"}, {**self.CLIENT, "client_a_ready": "z"}, self.CLIENT, self.MANAGER, self.ANSWERED, self.CAME]),
+                         (0, []))
+
+    def test_unknown_in_a_grant(self):
+        """The sink of a Grant is read."""
+        ask = {"opcode": "110", "param": "000", "size": "0011", "source": "111", "address": f"{0x1000:032b}", "valid": "1", "ready": "1"}
+        grant = {"opcode": "100", "size": "0011", "source": "111", "sink": "0x", "valid": "1", "ready": "1"}
+        cycles = [{f"{name}_{field}": value for field, value in {**of, **more}.items()} for name, of, more in (
+            ("client_a", ask, {"mask": "1" * 8}), ("manager_a", ask, {"mask": "1111"}), ("manager_d", grant, {}), ("client_d", {**grant, "sink": "0"}, {}))]
+        self.assertEqual(self.watch(cycles), (1, ["time 3: D beat of the manager's link has unknown bits: sink is x"]))
+
+    def test_unknown_lanes_of_a_response(self):
+        """The lanes of a response are those of its own request, also if the source is used again in the same cycle, or answered at once."""
+        low = {**self.CLIENT, "client_a_address": f"{0x1000:032b}", "client_a_mask": "00001111"}
+        far = {**self.MANAGER, "manager_a_address": f"{0x1000:032b}"}
+        of_low = {**self.CAME, "client_d_data": "x" * 32 + f"{0xDDCCBBAA:032b}"}
+        at_once = {**self.CLIENT, **self.MANAGER, **self.ANSWERED, **self.CAME}
+        self.assertEqual(self.watch([at_once, {**low, **far, **self.ANSWERED, **of_low}]), (0, []))
+        asserted, low_at_once = {"reset": "1"}, {**low, **far, **self.ANSWERED, **of_low}
+        self.assertEqual(self.watch([self.CLIENT, self.MANAGER, asserted, asserted, low_at_once])[0], 0)
+        again = [self.CLIENT, self.MANAGER, self.ANSWERED, {**self.CAME, **low}, far, self.ANSWERED, of_low]
+        self.assertEqual(self.watch(again), (0, []))
+        self.assertEqual(self.watch([*again[:-1], self.CAME]), (2, ["time 7: D beat of the client's link has unknown bits: data is ddccbbaaxxxxxxxx",
+                                                                    "time 7: far D beat 1; data got ........00000000, expected ........ddccbbaa"]))
 
 
 class Design:

@@ -74,14 +74,14 @@ class Traffic:
         try:
             bridge.offer(channel, self.left[channel][0])
         except Refused as refused:
-            if refused.answer.name not in FOR_NOW:
+            if refused.status.name not in FOR_NOW:
                 raise
             return
         self.links["client" if channel in FROM_CLIENT else "manager"].append((channel, self.left[channel].pop(0)))
 
     def take(self, bridge, channel):
         bridge.settle()
-        beat = bridge.taker(channel).take(channel)
+        beat = bridge.receiver(channel).take(channel)
         if beat is None:
             return
         link = "manager" if channel in FROM_CLIENT else "client"
@@ -109,7 +109,7 @@ def judged(links, seed):
         time += 1
         board.beat(link, channel, time, beat)
     board.end()
-    return [line for line in board.lines if ": open: " not in line]
+    return [line for line in board.lines if ": outstanding: " not in line]
 
 
 class Random(unittest.TestCase):
@@ -148,9 +148,9 @@ class Random(unittest.TestCase):
             beats = links[link]
             with self.subTest(channel=channel):
                 lost = {**links, link: beats[:at] + beats[at + 1 :]}
-                self.assertRegex("\n".join(judged(lost, 1)), f"far {channel} beat [0-9]+: .*is due and did not come")
+                self.assertRegex("\n".join(judged(lost, 1)), f"far {channel} beat [0-9]+: .*expected but missing")
                 doubled = {**links, link: beats[: at + 1] + beats[at:]}
-                self.assertRegex("\n".join(judged(doubled, 1)), f"far {channel} beat [0-9]+: .*came and is not due")
+                self.assertRegex("\n".join(judged(doubled, 1)), f"far {channel} beat [0-9]+: .*unexpected")
 
 
 def changed(links, channel, name, opcode=None):

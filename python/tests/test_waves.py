@@ -226,10 +226,10 @@ class Names(Case):
         self.assertIn("A has no mask: the active lanes are written", said)
 
     def test_ambiguous_and_unknown_link(self):
-        self.refused(simple().text(), "'other' names 0 links; the dump has: top.in, top.out", "--client", "other", "--manager", "out", status=2)
+        self.refused(simple().text(), "no link is named 'other'. The dump has: top.in, top.out", "--client", "other", "--manager", "out", status=2)
         text = simple().text().replace("$enddefinitions", "$scope module u $end\n" + "\n".join(
             line.replace(" in_", " out_").replace("$var wire 64", "$var wire 64") for line in simple().vars if " in_" in line) + "\n$upscope $end\n$enddefinitions")
-        self.refused(text, "'out' names 2 links", "--client", "in", "--manager", "out", status=2)
+        self.refused(text, "'out' fits 2 links", "--client", "in", "--manager", "out", status=2)
 
     def test_wide_ids_want_version_2(self):
         wave = simple()
@@ -1268,7 +1268,7 @@ class Blocks(Case):
 
     def test_statuses(self):
         """2 for the command line, 3 for what cannot be understood, 4 for what cannot be read or written."""
-        self.refused(simple().text(), "names 0 links", "--link", "other", status=2)
+        self.refused(simple().text(), "no link is named", "--link", "other", status=2)
         self.refused(simple().text(), "--field 'a=b' is not NAME=WORD", "--link", "in", "--field", "a=b", status=2)
         self.refused(simple().text(), "is not a field of a struct", "--struct", "a_valid", status=2)
         self.refused("hello\n", "line 1: a keyword", status=3)

@@ -1,18 +1,23 @@
 """Both sides of a bridge."""
 import ctypes as c
-from dataclasses import dataclass
+import itertools
+from dataclasses import astuple, dataclass
 from types import TracebackType
 from typing import Any, Iterator, Optional, Type
 
 from .beats import CHANNELS, Beat, beat_of
-from .library import (VERSION, BeatFields, HandleFields, MissingLibrary, StandingsFields, check, load, pairs)
+from .library import (NOT_SENT, NOT_TAKEN, VERSION, BeatFields, HandleFields, MissingLibrary, StandingsFields, TotalsFields, check, load,
+                      pairs)
 
 FROM_CLIENT = "ACE"
+
+# Tells bridges apart: a receipt is refused by a side of another bridge.
+_numbers = itertools.count(1)
 
 
 @dataclass(frozen=True)
 class Counts:
-    """How many far beats of a channel wait at each place."""
+    """The numbers of far beats of a channel that wait at each place."""
 
     staged: int
     in_ring: int
@@ -21,7 +26,7 @@ class Counts:
 
 @dataclass(frozen=True)
 class Standings:
-    """How many far beats of each channel wait, and where."""
+    """The numbers of far beats of each channel that wait, at each place."""
 
     a: Counts
     b: Counts
@@ -31,12 +36,27 @@ class Standings:
 
     @property
     def drained(self) -> bool:
-        """Whether none waits: what was taken is then all that was due."""
+        """Whether no beat waits. Then the taken beats are all that are expected."""
         return all(at == Counts(0, 0, 0) for at in (self.a, self.b, self.c, self.d, self.e))
 
 
+@dataclass(frozen=True)
+class Totals:
+    """How many far beats a side has sent on each channel that it sends, and how many were taken from it on each of the others.
+
+    `bridge` is the number of its bridge in this process. A receipt of a side has the same fields. Each number is exact if it is below 2**63.
+    """
+
+    bridge: int
+    a: int
+    b: int
+    c: int
+    d: int
+    e: int
+
+
 class Side:
-    """One side of a bridge. Each side may be in a thread of its own; no call waits for the other side."""
+    """One side of a bridge. Each side may be in a thread of its own. No call waits for the other side."""
 
     def __init__(self, calls: "_Calls", name: str, width: int):
         self._calls, self._name, self.width = calls, name, width
@@ -50,33 +70,67 @@ class Side:
         return self._calls.of(f"{name}_{channel.lower()}")
 
     def ready(self, channel: str) -> bool:
-        """Whether a beat may be offered now."""
+        """Returns whether a beat may be offered now."""
         return bool(self._call("ready", channel, True)(c.byref(self._handle)))
 
     def offer(self, channel: str, beat: Beat) -> None:
-        """Offers a near beat, or raises Refused, and then nothing changed: faults 1 to 10, 254 where the channel is not ready."""
+        """Offers a near beat. Raises Refused, and changes nothing, for faults 1 to 10, and with 254 if the channel is not ready."""
         call = self._call("offer", channel, True)
         passed, lanes = beat.passed(channel, self.width)
         check(call(c.byref(self._handle), c.byref(passed), lanes))
 
     def take(self, channel: str) -> Optional[Beat]:
-        """Takes the first far beat out of the inbox; None where it is empty."""
+        """Removes and returns the first far beat of the inbox. Returns None if it is empty."""
         came, lanes = BeatFields(), (c.c_uint8 * self.width)()
         if not self._call("take", channel, False)(c.byref(self._handle), c.byref(came), lanes):
             return None
         return beat_of(channel, came, bytes(lanes))
 
     def close(self, channel: str) -> None:
-        """Ends the offers of a channel, or raises Refused within a burst. What is staged still crosses."""
+        """Ends the offers of a channel. Staged beats still cross. Raises Refused within a burst."""
         check(self._call("close", channel, True)(c.byref(self._handle)))
 
     def pump(self) -> int:
-        """Moves staged beats into the rings: how many."""
+        """Moves staged beats into the rings, and returns their number."""
         return int(self._calls.of(f"pump_{self._name}")(c.byref(self._handle)))
 
     def fetch(self) -> int:
-        """Moves beats of the other side's rings into the inboxes: how many."""
+        """Moves beats of the other side's rings into the inboxes, and returns their number."""
         return int(self._calls.of(f"fetch_{self._name}")(c.byref(self._handle)))
+
+    def totals(self) -> Totals:
+        """Returns how many far beats this side has moved into its rings, and how many were taken from it, on each channel."""
+        fields = TotalsFields()
+        check(self._calls.of(f"count_{self._name}")(c.byref(self._handle), c.byref(fields)))
+        return _totals_of(fields)
+
+    def finish(self) -> Optional[Totals]:
+        """Returns the receipt of this side if it has sent everything: its channels are closed, and nothing is staged.
+
+        Otherwise returns None: close the channels, pump, and call again. The side can still fetch and take. The receipt may go to any thread.
+        """
+        fields = TotalsFields()
+        status = self._calls.of(f"finish_{self._name}")(c.byref(self._handle), c.byref(fields))
+        if status == NOT_SENT:
+            return None
+        check(status)
+        return _totals_of(fields)
+
+    def drained(self, receipt: Totals) -> bool:
+        """Returns whether as many beats were taken from this side as the other side's receipt counts: then no more will come.
+
+        Raises Refused if the receipt is of another bridge.
+        """
+        fields = TotalsFields(*astuple(receipt))
+        status = self._calls.of(f"drained_{self._name}")(c.byref(self._handle), c.byref(fields))
+        if status == NOT_TAKEN:
+            return False
+        check(status)
+        return True
+
+
+def _totals_of(fields: TotalsFields) -> Totals:
+    return Totals(*(getattr(fields, name) for name, _ in TotalsFields._fields_))
 
 
 class _Calls:
@@ -98,7 +152,7 @@ class _Calls:
 
 
 class Bridge:
-    """A bridge between a client's link of `client` bytes and a manager's of `manager`, each 1 to 128; `ring` is 1 to 4,096 beats."""
+    """A bridge between a client's link of `client` bytes and a manager's of `manager`, each 1 to 128. Each ring holds `ring` beats, 1 to 4,096."""
 
     def __init__(self, client: int, manager: int, ring: int = 4096):
         self._calls = _Calls(client, manager)
@@ -107,26 +161,26 @@ class Bridge:
         self._both = (c.byref(self.client._handle), c.byref(self.manager._handle))
         if not 0 <= ring < 1 << 64:
             raise ValueError(f"a ring of {ring} beats")
-        check(self._calls.of("open")(*self._both, c.c_size_t(ring), c.c_uint64(0)))
+        check(self._calls.of("open")(*self._both, c.c_size_t(ring), c.c_uint64(next(_numbers))))
 
     def sender(self, channel: str) -> Side:
-        """The side that offers on this channel."""
+        """Returns the side that offers on this channel."""
         return self.client if channel in FROM_CLIENT else self.manager
 
-    def taker(self, channel: str) -> Side:
-        """The side that takes from this channel."""
+    def receiver(self, channel: str) -> Side:
+        """Returns the side that takes from this channel."""
         return self.manager if channel in FROM_CLIENT else self.client
 
     def offer(self, channel: str, beat: Beat) -> None:
-        """Offers a near beat by the side that sends it, as Side.offer, once both sides have moved what they can."""
+        """Settles both sides, and then offers a near beat on the side that sends it. Raises as Side.offer does."""
         self.settle()
         self.sender(channel).offer(channel, beat)
 
-    def taken(self, channel: str) -> Iterator[Beat]:
-        """Takes each far beat of a channel that waits, wherever it waits."""
+    def receive_all(self, channel: str) -> Iterator[Beat]:
+        """Removes and yields each far beat of a channel that waits, at whatever place."""
         while True:
             self.settle()
-            beat = self.taker(channel).take(channel)
+            beat = self.receiver(channel).take(channel)
             if beat is None:
                 return
             yield beat
@@ -138,15 +192,15 @@ class Bridge:
         return Standings(*(Counts(at.staged, at.in_ring, at.inbox) for at in counts))
 
     def meet(self) -> Standings:
-        """Where the beats wait; both sides have to be in one thread then."""
+        """Returns how many beats wait at each place. Requires that no other thread uses either side meanwhile."""
         return self._standings("meet")
 
     def settle(self) -> Standings:
-        """Moves beats on both sides until none can move, and says where they wait then; both sides have to be in one thread."""
+        """Moves beats on both sides until none can move, and then returns as `meet` does. Requires that no other thread uses either side."""
         return self._standings("settle")
 
     def free(self) -> None:
-        """Gives both sides back. Each later call is refused."""
+        """Frees both sides. Each later call is refused."""
         self._calls.of("free_client")(self._both[0])
         self._calls.of("free_manager")(self._both[1])
 

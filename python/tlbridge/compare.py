@@ -33,7 +33,7 @@ UNKNOWN = re.compile(r"[0-9a-fxzXZ]*$")
 
 
 class MonitorFile:
-    """The beats that a monitor wrote at a link."""
+    """The beats that a monitor wrote for one link."""
 
     def __init__(self, path: str, width: int, near: str):
         self.path, self.width, self.near = path, width, near
@@ -42,14 +42,14 @@ class MonitorFile:
         self._lines = 0
 
     def check(self) -> None:
-        """Reads the file once: each line has to be a beat of this link, and to have its time."""
+        """Reads the file once. Raises Failure unless each line is a beat of this link and, if there are times, has one."""
         for beat in self.beats():
             _, _, line = beat
             words = line.split(" ")
             self.digits = max([self.digits, *(len(word) for name, word in zip(FIELDS[line[0]], words[1:]) if name in ("source", "sink"))])
 
     def beats(self) -> Iterator[Tuple[str, Optional[int], str]]:
-        """Each beat: its place, its time, and its line."""
+        """Yields the place, the time and the line of each beat."""
         times = self._times() if self.has_times else None
         number = 0
         for number, line in enumerate(lines_of(self.path), 1):
@@ -113,7 +113,7 @@ class FilePlaces(Places):
 
 
 def in_order(files: List[MonitorFile]) -> Iterator[Tuple[int, str, Optional[int], str]]:
-    """The beats of both links, in order of time where both have times; else those of the client's link come first."""
+    """Yields the beats of both links in order of time, the client's first at equal times. Without times on both links, the client's link comes first."""
     streams = [files[0].beats(), files[1].beats()]
     if not all(file.has_times for file in files):
         for link, stream in enumerate(streams):
@@ -133,14 +133,14 @@ def in_order(files: List[MonitorFile]) -> Iterator[Tuple[int, str, Optional[int]
 
 
 def spelled(line: str, digits: int) -> str:
-    """The line with ids of so many digits."""
+    """Returns the line with ids of `digits` digits."""
     channel, *values = line.split(" ")
     names = FIELDS[channel]
     return " ".join([channel, *(value.rjust(digits, "0") if name in ("source", "sink") else value for name, value in zip(names, values))])
 
 
 def write_trace(path: str, part: Part, has_times: bool) -> None:
-    """Writes the trace of a part, and its times beside it; the second part and later ones get their number behind the name."""
+    """Writes the trace of a part, and its times to a second file. From the second part on, the name ends with the number of the part."""
     name = path if part.number == 1 else f"{path}.{part.number}"
     try:
         with open(name, "w", encoding="ascii") as out:

@@ -83,10 +83,10 @@ class LinkFlow:
         return count > 0
 
     def is_quiet(self) -> bool:
-        """Whether no burst and no request is outstanding."""
+        """Returns whether no burst and no request is outstanding."""
         return not (self._requests or self._bursts or self._is_unclear)
 
     def outstanding(self) -> List[str]:
-        """What is outstanding, in words."""
+        """Returns the outstanding bursts and requests, as text."""
         words = [f"a burst on {channel}" for channel, left in self.beats_left.items() if left]
         return words + [f"{channel} {'sink' if channel == 'D' else 'source'} {name}" for channel, name in sorted(self._requests)]

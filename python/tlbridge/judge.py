@@ -25,13 +25,13 @@ MODEL_NOTE = "the expected beats come from the unverified model tlbridge-model, 
 
 
 class Places:
-    """How the place of a beat is printed. `link` is client or manager."""
+    """Prints the place of a beat. `link` is client or manager."""
 
     def of(self, link: str, row: Row, is_near: bool) -> str:
         raise NotImplementedError
 
     def time(self, row: Row) -> Optional[int]:
-        """The simulation time of a beat, if it is known."""
+        """Returns the simulation time of a beat, if it is known."""
         raise NotImplementedError
 
 
@@ -39,7 +39,7 @@ class Places:
 
 
 def program_of(given: Optional[str], note: Callable[[str], None]) -> str:
-    """Finds tlbridge: the one that was named, installed with this, built in this repository, or in PATH; else the unverified model."""
+    """Finds tlbridge: the named one, the one installed with this package, built in this repository, or in PATH; otherwise the unverified model."""
     if given:
         return _no_wrapper(Path(given)) or given
     here = Path(__file__).resolve().parents
@@ -64,7 +64,7 @@ def _is_program(path: Path) -> bool:
 
 
 def _built(path: Path) -> Optional[Path]:
-    """The program itself: the repository's wrapper would prove and build it first, unseen, which takes long."""
+    """Returns the program itself. The wrapper of the repository would first prove and build it, which takes long and prints nothing here."""
     crate = path.parent / "crates" / "tlbridge"
     if path.name != "tlbridge" or not crate.is_dir():
         return path
@@ -91,7 +91,7 @@ class Fault(Exception):
 
 
 def ask(program: str, part: Part) -> str:
-    """Runs the program over the trace of a part. Returns the file of its answer; its standard error is passed on."""
+    """Runs the program over the trace of a part. Returns the file with its answer, and passes its standard error on."""
     size = os.path.getsize(part.trace)
     if size > MOST_BYTES:
         raise Failure(f"the trace has {size} bytes, but tlbridge takes at most {MOST_BYTES}: a run whose beats all have times is cut at quiet moments", 4)
@@ -118,7 +118,7 @@ def ask(program: str, part: Part) -> str:
 
 
 def verdicts_of(program: str, part: Part, answer: str) -> Dict[str, Tuple[str, int, str]]:
-    """The report lines of an answer, by channel: kind, count, and the last word. Its form is checked."""
+    """Returns the report lines of an answer by channel: kind, count and last word. Raises Failure if the answer is incomplete."""
     verdicts, channel, number = {}, "A", 0
     wanted = part.header.replace("tilelink-trace", "tilelink-far")
     with open(answer, encoding="latin-1") as lines:
@@ -143,12 +143,12 @@ def verdicts_of(program: str, part: Part, answer: str) -> Dict[str, Tuple[str, i
 
 
 class Channel:
-    """What the parts so far showed of a channel."""
+    """The counts and differences of a channel in the parts so far."""
 
     def __init__(self) -> None:
         self.near = self.expected = 0
-        self.stopped = ""  # the first verdict that is not done, in words
-        self.first: Dict[str, str] = {}  # of each kind of difference the first, in words
+        self.stopped = ""  # the first verdict that is not done, as text
+        self.first: Dict[str, str] = {}  # the first difference of each kind, as text
         self.counts = {"differ": 0, "are missing": 0, "are unexpected": 0}
 
     def lines(self) -> Iterator[str]:
@@ -159,7 +159,7 @@ class Channel:
 
 
 class Judge:
-    """Judges the parts of a run one after the other. `note` is called with what is no difference and has to be known."""
+    """Judges the parts of a run in order. `note` is called with each remark that is not a difference."""
 
     def __init__(self, program: str, widths: Tuple[int, int], places: Places, note: Callable[[str], None], ignore_unmasked: bool = False):
         self.program, self.widths, self.places, self._note, self._ignore = program, widths, places, note, ignore_unmasked
@@ -184,7 +184,7 @@ class Judge:
                 self._channel(part, channel, expected, verdicts[channel])
 
     def report(self, say: Callable[[str], None]) -> int:
-        """Prints what each channel came to. Returns the exit status."""
+        """Prints the result of each channel. Returns the exit status."""
         if not self.beats:
             raise Failure("no beat was accepted on either link, so there is nothing to compare", 2)
         for channel in CHANNELS:
@@ -206,7 +206,7 @@ class Judge:
         return self.places.of(LINKS[(channel in FROM_CLIENT) != is_near], row, is_near)
 
     def _differs(self, channel: str, kind: str, words: str, time: Optional[int]) -> None:
-        """A difference; the first one of its kind is kept in words."""
+        """Records a difference. The first one of its kind is kept as text."""
         self.is_right = False
         of = self.channels[channel]
         of.counts[kind] += 1
@@ -267,7 +267,7 @@ class Judge:
         return f"; its message begins at {self._place(channel, origin, True)}: {origin.line}" if origin else ""
 
     def _difference(self, channel: str, came: str, wanted: str) -> str:
-        """The fields that differ, in words."""
+        """Returns the fields that differ, as text."""
         mine, its = (dict(zip(FIELDS[channel], line.split(" ")[1:])) for line in (came, wanted))
         if self._ignore and channel in "AB" and its["opcode"] == PUT_PARTIAL:
             for fields in (mine, its):
@@ -307,12 +307,12 @@ class Origins:
 
 
 def beats_in(line: str, width: int, channel: str) -> int:
-    """The number of beats of the message that begins with a line."""
+    """Returns the number of beats of the message that begins with a line."""
     return 1 if channel == "E" else beats_of(channel, int(line[2], 16), int(line[6], 16), width)
 
 
 def messages(lines: Iterator[str], width: int, channel: str) -> Iterator[Tuple[int, str]]:
-    """Each line with the number of its message."""
+    """Yields each line with the number of its message."""
     left, number = 0, -1
     for line in lines:
         if not left:
@@ -328,6 +328,6 @@ def first_of(rows: Iterator[Row]) -> List[Row]:
 
 
 def enabled(data: str, mask: str) -> str:
-    """The bytes of data that the mask enables; `..` for each other one."""
+    """Returns the bytes of data that the mask enables, and `..` for each other byte."""
     lanes = len(data) // 2
     return "".join(data[2 * at : 2 * at + 2] if int(mask, 16) >> lanes - 1 - at & 1 else ".." for at in range(lanes))

@@ -1,4 +1,4 @@
-"""The shared library, and what its numbers mean."""
+"""The shared library, and the meaning of its status numbers."""
 import ctypes as c
 import ctypes.util
 import os
@@ -6,16 +6,20 @@ from dataclasses import dataclass
 from pathlib import Path
 from typing import Optional
 
-VERSION = 5  # of the library whose structures are here
+VERSION = 6  # of the library whose structures are here
+
+# Answers that are no refusals in Python: of drained, and of finish.
+NOT_TAKEN = 249
+NOT_SENT = 253
 
 
 class MissingLibrary(Exception):
-    """There is no library, or one of another version, or it lacks the pair of widths."""
+    """There is no library, or it has another version, or it does not have the pair of widths."""
 
 
 @dataclass(frozen=True)
-class Answer:
-    """What a call answered: 0 is success."""
+class Status:
+    """The status of a call, with its name and its sentence. 0 is success."""
 
     number: int
     name: str
@@ -26,11 +30,11 @@ class Answer:
 
 
 class Refused(Exception):
-    """A call was refused, and changed nothing. `answer` says why."""
+    """A call was refused, and changed nothing. `status` says why."""
 
-    def __init__(self, answer: Answer):
-        super().__init__(str(answer))
-        self.answer = answer
+    def __init__(self, status: Status):
+        super().__init__(str(status))
+        self.status = status
 
 
 class TextFields(c.Structure):
@@ -46,7 +50,7 @@ class BeatFields(c.Structure):
 
 
 class HandleFields(c.Structure):
-    _fields_ = [("held", c.c_void_p), ("live", c.c_bool), ("bridge", c.c_uint64)]
+    _fields_ = [("impl", c.c_void_p), ("is_open", c.c_bool), ("bridge", c.c_uint64)]
 
 
 class CountsFields(c.Structure):
@@ -57,9 +61,13 @@ class StandingsFields(c.Structure):
     _fields_ = [(channel, CountsFields) for channel in "abcde"]
 
 
+class TotalsFields(c.Structure):
+    _fields_ = [(name, c.c_uint64) for name in ("bridge", *"abcde")]
+
+
 class AnswerFields(c.Structure):
     _fields_ = [
-        ("text", c.c_void_p), ("length", c.c_size_t), ("line", c.c_uint64), ("held", c.c_void_p), ("live", c.c_bool), ("all_done", c.c_uint8),
+        ("text", c.c_void_p), ("length", c.c_size_t), ("line", c.c_uint64), ("impl", c.c_void_p), ("is_open", c.c_bool), ("all_done", c.c_uint8),
     ]
 
 
@@ -67,17 +75,17 @@ _loaded: Optional[c.CDLL] = None
 
 
 def _find() -> str:
-    """TLBRIDGE_LIBRARY, else the library in this package, else the one that the system's loader finds."""
+    """Returns the path in TLBRIDGE_LIBRARY, or else the library in this package, or else the one that the system's loader finds."""
     named = os.environ.get("TLBRIDGE_LIBRARY")
     packed = Path(__file__).resolve().parent / "libtlbridge.so"
     found = named or (str(packed) if packed.is_file() else ctypes.util.find_library("tlbridge"))
     if not found:
-        raise MissingLibrary("libtlbridge.so is not there: `make install` makes it, and TLBRIDGE_LIBRARY names it")
+        raise MissingLibrary("libtlbridge.so was not found: `make install` makes it, and the variable TLBRIDGE_LIBRARY may name it")
     return found
 
 
 def load(path: Optional[str] = None) -> c.CDLL:
-    """The library of this path, or the one that is found; all calls after the first get the same one."""
+    """Loads the library at `path`, or the one that is found, and returns it. Later calls without a path return the same one."""
     global _loaded
     if _loaded is None or path is not None:
         found = path or _find()
@@ -85,25 +93,25 @@ def load(path: Optional[str] = None) -> c.CDLL:
             library = c.CDLL(found)
         except OSError as error:
             raise MissingLibrary(f"{found}: {error}") from error
-        library.tl_board_pairs.restype = c.c_char_p
+        library.tl_scoreboard_pairs.restype = c.c_char_p
         _loaded = library
     return _loaded
 
 
 def pairs() -> str:
-    """The pairs of widths of the library, as "8:4 4:8"."""
-    names: bytes = load().tl_board_pairs()
+    """Returns the pairs of widths of the library, for example "8:4 4:8"."""
+    names: bytes = load().tl_scoreboard_pairs()
     return names.decode()
 
 
-def answer_of(number: int) -> Answer:
-    """What a number means."""
+def status_of(number: int) -> Status:
+    """Returns the status with this number."""
     text = TextFields()
-    load().tl_answer_text(c.c_uint8(number), c.byref(text))
-    return Answer(number, text.name.decode(), text.sentence.decode())
+    load().tl_status_text(c.c_uint8(number), c.byref(text))
+    return Status(number, text.name.decode(), text.sentence.decode())
 
 
 def check(number: int) -> None:
-    """Raises Refused but for 0."""
+    """Raises Refused unless the number is 0."""
     if number:
-        raise Refused(answer_of(number))
+        raise Refused(status_of(number))

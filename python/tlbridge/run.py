@@ -14,12 +14,12 @@ from .beats import CHANNELS
 from .flow import FROM_CLIENT, LinkFlow
 
 MOST_BYTES = 67_108_864  # of a trace
-PART_BYTES = 16 << 20  # a part ends at the first quiet moment after so many
+PART_BYTES = 16 << 20  # a part ends at the first quiet moment after this size
 LINKS = ("client", "manager")
 
 
 class Failure(Exception):
-    """Why there is no result, in words, and the exit status."""
+    """The reason why there is no result, and the exit status."""
 
     def __init__(self, words: str, status: int = 3):
         super().__init__(words)
@@ -27,18 +27,18 @@ class Failure(Exception):
 
 
 def shown(word: object, most: int = 40) -> str:
-    """Returns a word of a file as it may be printed."""
+    """Returns a word of a file in printable form."""
     text = word.decode("latin-1") if isinstance(word, bytes) else str(word)
     text = text if len(text) <= most else text[:most] + ".."
     return "".join(letter if " " <= letter <= "~" else f"\\x{ord(letter):02x}" for letter in text)
 
 
 class Ended(Exception):
-    """The run takes no more beats; in words, why not all of it is judged."""
+    """The run takes no more beats. The text says why not all of it is judged."""
 
 
 class Row:
-    """A beat of a part: its place, as the run was given it, its line, and on the near link its line in the trace of the whole run."""
+    """A beat of a part: its place as it was passed to the run, its line, and for a near beat its line number in the trace of the whole run."""
 
     __slots__ = ("place", "line", "number")
 
@@ -47,13 +47,13 @@ class Row:
 
 
 class Part:
-    """A stretch of a run: its near beats as a trace, and near and far beats by channel."""
+    """A part of a run: its near beats as a trace, and its near and far beats by channel."""
 
     def __init__(self, header: str, folder: str, number: int):
         self.header, self.folder, self.number = header, folder, number
         self.begin: Optional[int] = None
         self.end: Optional[int] = None
-        self.is_cut = False  # beats were under way when it ended, and what they became was not recorded
+        self.is_cut = False  # messages were incomplete when the record ended
         self.beats = 0
         self.trace = os.path.join(folder, "trace")
         self.near_before: Dict[str, int] = {}
@@ -63,14 +63,14 @@ class Part:
         return os.path.join(self.folder, f"{kind}-{channel}")
 
     def rows(self, kind: str, channel: str) -> Iterator[Row]:
-        """The beats of a channel on its near link or on its far link; `kind` is near or far."""
+        """Returns the beats of a channel on its near or far link; `kind` is near or far."""
         with open(self.file(kind, channel), encoding="ascii") as file:
             for row in file:
                 number, place, line = row.rstrip("\n").split("\t")
                 yield Row(place, line, int(number))
 
     def write_far(self, out: IO[str]) -> None:
-        """Writes the far beats as `tlbridge run` orders them, without its report lines."""
+        """Writes the far beats in the order of `tlbridge run`, without report lines."""
         out.write(self.header.replace("tilelink-trace", "tilelink-far") + "\n")
         for channel in CHANNELS:
             for row in self.rows("far", channel):
@@ -81,14 +81,14 @@ class Part:
             shutil.copyfileobj(file, out)
 
     def write_times(self, out: IO[str]) -> None:
-        """Writes the time of each beat of the trace, which is the last word of its place."""
+        """Writes the time of each beat of the trace: the last word of its place."""
         with open(os.path.join(self.folder, "places"), encoding="ascii") as file:
             for row in file:
                 out.write(row.rpartition(" ")[2])
 
 
 class Spool:
-    """The beats of the part at hand, in the order in which they came."""
+    """The beats of the current part, in the order of arrival."""
 
     def __init__(self, folder: str):
         self.file = open(os.path.join(folder, "beats"), "w+", encoding="ascii")
@@ -144,24 +144,24 @@ class Run:
         self.parts = 0
         self._lines = 1  # of the trace of the whole run: its header
         self._time: Optional[int] = None  # of the last beat
-        self._begin: Optional[int] = None  # of the part at hand
+        self._begin: Optional[int] = None  # of the current part
         self._quiet = (START, None)  # type: Tuple[Tuple[int, int, int], Optional[int]]
-        self._is_unsure = self._has_strangers = False  # beats of before the part may be under way; one of them was seen
+        self._is_unsure = self._has_strangers = False  # messages from before the part may be incomplete; a beat of one was seen
         self._mark = START
         self._left_out = 0
         self._in_reset: List[int] = []
         self.beats = 0
 
-    # ---- what happens
+    # ---- events
 
     def begins(self, time: int) -> None:
-        """The record begins. Later than at time 0 messages may be under way."""
+        """The record begins. If that is after time 0, messages may be under way."""
         self._begin = time
         if time:
             self._is_unsure = True
 
     def beat(self, link: int, line: str, time: Optional[int], place: str) -> None:
-        """A beat that link 0, the client's, or 1 accepted."""
+        """Adds a beat that a link accepted: 0 is the client's, 1 the manager's."""
         if time is not None and time != self._time:
             self._moment(time)
             self._time = time
@@ -172,7 +172,7 @@ class Run:
         self._spool.add("near" if is_near else "far", place, line)
 
     def reset(self, link: int, time: int, with_reset: int) -> None:
-        """A link enters reset; `with_reset` links have a reset."""
+        """A link enters reset. `with_reset` is the number of links that have a reset."""
         self._in_reset.append(link)
         if not self.beats:
             return
@@ -225,7 +225,7 @@ class Run:
         return ", ".join(words[:4]) + (", .." if len(words) > 4 else "")
 
     def _moment(self, time: int) -> None:
-        """All beats before `time` are there."""
+        """Checks whether `time` is a quiet moment. Every beat before it has been added."""
         if self._is_unsure and not self._is_one:
             client, manager = (flow.messages for flow in self._flows)
             if any((client if channel in "BD" else manager)[channel] > (manager if channel in "BD" else client)[channel] for channel in CHANNELS):
@@ -284,7 +284,7 @@ class Run:
     def _too_long(self) -> None:
         self._end_part(self._time, "", True)
         raise Ended(f"the trace from time {self._begin or 0} to {self._time} has {MOST_BYTES} bytes, and no quiet moment comes at which it could be cut: "
-                    f"{self._outstanding()}; what comes after it is not judged")
+                    f"{self._outstanding()}. Later beats are not judged")
 
     def _drop_strangers(self) -> None:
         """Drops the beats since the last quiet moment: some belong to messages that began before the part."""
@@ -322,7 +322,7 @@ class Run:
         self._spool.back_to(START)
 
     def _sorted(self, time: Optional[int]) -> Part:
-        """The part at hand, its beats sorted into files."""
+        """Returns the current part, with its beats sorted into files."""
         header = f"tilelink-trace {self.version} client {self.widths[0]} manager {self.widths[1]}"
         part = Part(header, self._folder.name, self.parts)
         part.begin, part.end, part.beats = self._begin, time, self._spool.beats

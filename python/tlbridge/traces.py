@@ -3,35 +3,35 @@ import ctypes as c
 from dataclasses import dataclass
 from typing import Union
 
-from .library import Answer, AnswerFields, answer_of, load
+from .library import AnswerFields, Status, load, status_of
 
 
 @dataclass(frozen=True)
-class Answered:
-    """The answer's text, as `tlbridge run` writes it, and whether all five channels are done."""
+class TraceResult:
+    """The text of an answer, as `tlbridge run` writes it, and whether all five channels are done."""
 
     text: str
     all_done: bool
 
 
 class TraceFault(Exception):
-    """The text is no trace, or there is no memory. `line` is the faulty line, counted from 1, or 0."""
+    """The text is not a valid trace, or memory ran out. `line` is the bad line, counted from 1, or 0 if there is none."""
 
-    def __init__(self, answer: Answer, line: int):
-        super().__init__(f"line {line}: {answer}" if line else str(answer))
-        self.answer = answer
+    def __init__(self, status: Status, line: int):
+        super().__init__(f"line {line}: {status}" if line else str(status))
+        self.status = status
         self.line = line
 
 
-def answer(text: Union[str, bytes], check: bool = False) -> Answered:
-    """Answers a trace as `tlbridge run`, or with `check`, without far beats, as `tlbridge check`. Raises TraceFault."""
+def run_trace(text: Union[str, bytes], check: bool = False) -> TraceResult:
+    """Returns the answer to a trace, as `tlbridge run` writes it. With `check` it has no far beats. Raises TraceFault."""
     data = text.encode() if isinstance(text, str) else bytes(text)
     library, made = load(), AnswerFields()
     library.tl_answer_trace.restype = c.c_uint8
     number = library.tl_answer_trace(data, c.c_size_t(len(data)), c.c_uint8(check), c.byref(made))
     if number:
-        raise TraceFault(answer_of(number), made.line)
+        raise TraceFault(status_of(number), made.line)
     try:
-        return Answered(c.string_at(made.text, made.length).decode(), bool(made.all_done))
+        return TraceResult(c.string_at(made.text, made.length).decode(), bool(made.all_done))
     finally:
         library.tl_answer_free(c.byref(made))

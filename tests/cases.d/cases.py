@@ -77,16 +77,16 @@ def of_lost_beats(client, manager):
         events = events[:of(events, channel)[-1] + 1]
         last = events[-1]
         open_requests = [event for event in events if event.channel == "A" and not event.is_far and event.place in ("first", "only")] if channel == "A" else []
-        said = sorted((f"time {event.time}: open: near A beat {event.number}, source {event.head['source']:04x}, has no response" for event in open_requests),
+        said = sorted((f"time {event.time}: outstanding: near A beat {event.number}, source {event.head['source']:04x}, has no response" for event in open_requests),
                       key=lambda line: line.split("source ")[1])
-        more = [f"time {events[-2].time}: open: {len(said) - 20} more requests have no response"] if len(said) > 20 else []
+        more = [f"time {events[-2].time}: outstanding: {len(said) - 20} more requests have no response"] if len(said) > 20 else []
         if channel != "D":
             yield Case(f"the last far beat of {channel} is lost", events[:-1], 1, [
-                f"time {events[-2].time}: far {channel} beat {last.number}: {head_said(last)}: is due and did not come", *said[:20], *more])
+                f"time {events[-2].time}: far {channel} beat {last.number}: {head_said(last)}: expected but missing", *said[:20], *more])
         again = replace(last, time=last.time + 10, number=last.number + 1)
         more = [line.replace(f"time {events[-2].time}", f"time {again.time}") for line in more]
         yield Case(f"the last far beat of {channel} comes twice", [*events, again], 1, [
-            f"time {again.time}: far {channel} beat {again.number}: {head_said(again)}: came and is not due", *said[:20], *more])
+            f"time {again.time}: far {channel} beat {again.number}: {head_said(again)}: unexpected", *said[:20], *more])
 
 
 def of_refused_beats(client, manager):
@@ -114,7 +114,7 @@ def of_resets(client, manager):
         made.send(channel, made.head(channel, 3, 4))
         near = [replace(event, time=200 + 10 * i) for i, event in enumerate(event for event in made.events if not event.is_far)]
         far = [replace(event, time=700 + 10 * i) for i, event in enumerate(event for event in made.events if event.is_far)]
-        opened = [] if channel == "B" else [f"time 200: open: near A beat 0, source {near[0].head['source']:04x}, has no response"]
+        opened = [] if channel == "B" else [f"time 200: outstanding: near A beat 0, source {near[0].head['source']:04x}, has no response"]
         apart = [reset(10, CLIENT, True), reset(10, MANAGER, True), reset(100, first, False), *near, reset(600, 1 - first, False)]
         yield Case(f"link {first} leaves the reset first, and sends", [*apart, *far], 0, opened)
         wrong, line = changed(far, len(far) - 1, "data")
@@ -140,7 +140,7 @@ def of_ends(client, manager):
     busy = [*made.events, replace(made.events[0], time=300, number=1)]
     yield Case("a source is used twice", started(busy), 2, [
         "time 400: near A beat 1: source 1234: 8 SourceBusy..", f"time 400: near A beat 1: {head_said(busy[0])}: waits: 8 SourceBusy..",
-        "time 400: open: near A beat 1, source 1234, has no response"])
+        "time 400: outstanding: near A beat 1, source 1234, has no response"])
 
 
 def cases(client, manager):

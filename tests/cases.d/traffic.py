@@ -203,7 +203,7 @@ def reported(was, came):
     """The line about a far beat that came so, and was due as it was."""
     order = "opcode param size source sink address mask denied corrupt data".split()
     names = [name for name in order if name in FIELDS[was.channel].split() and was.value(name) != came.value(name)]
-    said = "".join(f"; {name} got {shown(was, name, came.value(name))}, due {shown(was, name, was.value(name))}" for name in names)
+    said = "".join(f"; {name} got {shown(was, name, came.value(name))}, expected {shown(was, name, was.value(name))}" for name in names)
     return f"time {came.time}: far {was.channel} beat {was.number}{said}"
 
 

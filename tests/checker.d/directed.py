@@ -17,6 +17,8 @@ GET = Beat(opcode=4, size=2, source=5, address=0x1004, mask=0xF0)
 DATA = Beat(opcode=1, size=2, source=5)
 OTHER = replace(GET, address=0x2004)
 WRONG = replace(GET, mask=0x0F)
+LONG_GET, LONG_DATA = Beat(opcode=4, size=4, source=6, address=0x3000, mask=0xFF), Beat(opcode=1, size=4, source=6)
+LONG_PUT = Beat(size=4, source=5, address=0x4000, mask=0xFF)
 NONE = (0, 0, 0, 0)
 
 
@@ -34,17 +36,27 @@ CASES = [
         (both(GET, DATA), {"D"}, NONE, 0), (both(GET, DATA), {"D"}, (0, 0, 0, 9), 1), (both(GET, DATA), {"A", "D"}, (0, 0, 0, 9), 2)]),
     Case("another request is accepted than was answered", Settings(RESPOND_TO_OFFERED=1), [
         (both(GET, DATA), {"D"}, NONE, 0), ({"A": OTHER}, {"A"}, (7, 0, 0, 0), 1), ({"D": DATA}, {"D"}, NONE, 1)]),
-    Case("the same without RECOVER", Settings(RESPOND_TO_OFFERED=1, RECOVER=0), [
+    Case("the same without RESYNC_AFTER_FAULT", Settings(RESPOND_TO_OFFERED=1, RESYNC_AFTER_FAULT=0), [
         (both(GET, DATA), {"D"}, NONE, 0), ({"A": OTHER}, {"A"}, (7, 0, 0, 0), 1), ({"D": DATA}, {"D"}, (0, 0, 0, 9), 2), ({"A": GET}, {"A"}, NONE, 2)]),
-    Case("a response of another size than the offered request", Settings(RESPOND_TO_OFFERED=1, RECOVER=0), [
+    Case("a response of another size than the offered request", Settings(RESPOND_TO_OFFERED=1, RESYNC_AFTER_FAULT=0), [
         (both(GET, replace(DATA, size=3)), {"D"}, (0, 0, 0, 10), 1)]),
     Case("a response to an unlawful offered request", Settings(RESPOND_TO_OFFERED=1), [(both(WRONG, DATA), {"D"}, (0, 0, 0, 9), 1)]),
     Case("SizeMismatch closes the request", Settings(), [
         ({"A": GET}, {"A"}, NONE, 0), ({"D": replace(DATA, size=5)}, {"D"}, (0, 0, 0, 10), 1), *[({"D": replace(DATA, size=5)}, {"D"}, NONE, 1)] * 3,
         ({"A": GET}, {"A"}, NONE, 1), ({"D": DATA}, {"D"}, NONE, 1)]),
-    Case("but not without RECOVER", Settings(RECOVER=0), [
+    Case("but not without RESYNC_AFTER_FAULT", Settings(RESYNC_AFTER_FAULT=0), [
         ({"A": GET}, {"A"}, NONE, 0), *[({"D": replace(DATA, size=3)}, {"D"}, (0, 0, 0, 10), n) for n in (1, 2)], ({"A": GET}, {"A"}, (8, 0, 0, 0), 3),
         ({"D": DATA}, {"D"}, NONE, 3)]),
+    Case("HeadChanged begins no response to a request of its cycle without ALLOW_SAME_CYCLE_RESPONSE", Settings(ALLOW_SAME_CYCLE_RESPONSE=0), [
+        ({"A": LONG_GET}, {"A"}, NONE, 0), ({"D": LONG_DATA}, {"D"}, NONE, 0), (both(GET, DATA), {"A", "D"}, (0, 0, 0, 7), 1), ({"D": LONG_DATA}, {"D"}, NONE, 1),
+        ({"D": DATA}, {"D"}, NONE, 1)]),
+    Case("but with it", Settings(), [
+        ({"A": LONG_GET}, {"A"}, NONE, 0), ({"D": LONG_DATA}, {"D"}, NONE, 0), (both(GET, DATA), {"A", "D"}, (0, 0, 0, 7), 1), ({"D": DATA}, {"D"}, (0, 0, 0, 9), 2)]),
+    Case("HeadChanged begins no request of the source that its cycle frees without ALLOW_SAME_CYCLE_REUSE", Settings(ALLOW_SAME_CYCLE_REUSE=0), [
+        ({"A": LONG_PUT}, {"A"}, NONE, 0), (both(OTHER, replace(DATA, opcode=0, size=4)), {"A", "D"}, (7, 0, 0, 0), 1), ({"A": LONG_PUT}, {"A"}, NONE, 1),
+        ({"A": OTHER}, {"A"}, NONE, 1)]),
+    Case("but with it", Settings(), [
+        ({"A": LONG_PUT}, {"A"}, NONE, 0), (both(OTHER, replace(DATA, opcode=0, size=4)), {"A", "D"}, (7, 0, 0, 0), 1), ({"A": OTHER}, {"A"}, (8, 0, 0, 0), 2)]),
     Case("an offered beat is judged, and counted once", Settings(JUDGE_OFFERED=1), [
         *[({"A": WRONG}, set(), (5, 0, 0, 0), 1)] * 3, ({"A": replace(WRONG, address=0x2004)}, set(), (5, 0, 0, 0), 2),
         ({"A": WRONG}, set(), (5, 0, 0, 0), 3), ({"A": WRONG}, {"A"}, (5, 0, 0, 0), 3), ({"A": WRONG}, {"A"}, (5, 0, 0, 0), 4), ({"A": GET}, {"A"}, NONE, 4)]),

@@ -32,19 +32,19 @@ class Beat:
 
 @dataclass(frozen=True)
 class Settings:
-    WIDTH: int = 8
+    DATA_BYTES: int = 8
     ADDRESS_BITS: int = 64
     SIZE_BITS: int = 4
     SOURCE_BITS: int = 8
     SINK_BITS: int = 8
-    REQUESTS: int = 0
-    RESPOND_AT_ONCE: int = 1
-    REUSE_AT_ONCE: int = 1
+    MAX_OUTSTANDING: int = 0
+    ALLOW_SAME_CYCLE_RESPONSE: int = 1
+    ALLOW_SAME_CYCLE_REUSE: int = 1
     RESPOND_TO_OFFERED: int = 0
     MATCH_OPCODES: int = 0
-    RECOVER: int = 1
+    RESYNC_AFTER_FAULT: int = 1
     JUDGE_OFFERED: int = 0
-    REPORTS: int = 20
+    MAX_REPORTS: int = 20
 
 
 def name_of(channel, beat):
@@ -80,7 +80,7 @@ class Link:
         self.overflow = False
 
     def active(self, beat):
-        width = self.settings.WIDTH
+        width = self.settings.DATA_BYTES
         return sum(1 << (beat.address + i) % width for i in range(min(1 << beat.size, width)))
 
     def mask_is_wrong(self, channel, beat):
@@ -143,7 +143,7 @@ class Link:
         """Whether the link's state goes on with an accepted beat that has this fault."""
         if not fault:
             return True
-        if not self.settings.RECOVER:
+        if not self.settings.RESYNC_AFTER_FAULT:
             return False
         return fault in ("SizeMismatch", "OpcodeMismatch") or (fault == "HeadChanged" and self.may_begin(channel, beat, offered))
 
@@ -152,7 +152,7 @@ class Link:
             first, left = self.open[channel]
             self.open[channel] = (first, left - 1) if left > 1 else None
             return
-        beats = (1 << beat.size) // min(1 << beat.size, self.settings.WIDTH) if has_data(channel, beat) else 1
+        beats = (1 << beat.size) // min(1 << beat.size, self.settings.DATA_BYTES) if has_data(channel, beat) else 1
         self.open[channel] = (beat, beats - 1) if beats > 1 else None
         if channel == "A":
             if self.answered is None or fault:
@@ -162,14 +162,14 @@ class Link:
             self.answered = offered
 
     def put(self, beat):
-        if self.settings.REQUESTS and len(self.in_flight) >= self.settings.REQUESTS and beat.source not in self.in_flight:
+        if self.settings.MAX_OUTSTANDING and len(self.in_flight) >= self.settings.MAX_OUTSTANDING and beat.source not in self.in_flight:
             self.overflow = True
         else:
             self.in_flight[beat.source] = beat
 
 
 class Checker:
-    """What the checker says of each cycle: the fault of each channel's beat, the count of faults, `overflow`, and the lines of its reports."""
+    """The expected output of the checker in each cycle: the fault of each channel's beat, the count of faults, `overflow`, and its reports."""
 
     def __init__(self, settings):
         self.settings, self.link = settings, Link(settings)
@@ -180,11 +180,16 @@ class Checker:
         if beat is None or link.own_fault("A", beat) or beat.source in link.in_flight:
             return None
         changed = link.head_changed("A", beat)
-        if (changed and not settings.RECOVER) or (link.open["A"] and not (changed and a_accepted)) or (link.answered is not None and not changed):
+        if (changed and not settings.RESYNC_AFTER_FAULT) or (link.open["A"] and not (changed and a_accepted)) or (link.answered is not None and not changed):
             return None
         if a_accepted:
-            return beat if settings.RESPOND_AT_ONCE else None
-        return beat if settings.RESPOND_TO_OFFERED or (settings.RESPOND_AT_ONCE and not d_accepted) else None
+            return beat if settings.ALLOW_SAME_CYCLE_RESPONSE else None
+        return beat if settings.RESPOND_TO_OFFERED or (settings.ALLOW_SAME_CYCLE_RESPONSE and not d_accepted) else None
+
+    def judged(self, channel, beat, offered):
+        """The fault of an accepted beat, and whether the link's state goes on with it."""
+        fault = self.link.fault(channel, beat, True, offered)
+        return fault, self.link.takes(channel, beat, fault, offered)
 
     def faults_of(self, beats, accepted):
         """The fault of each beat that is judged; the state goes on with those that are accepted."""
@@ -193,18 +198,17 @@ class Checker:
         judged = set(beats) if settings.JUDGE_OFFERED else set(accepted)
         faults = {channel: link.fault(channel, beats[channel], False, request) for channel in judged - set(accepted)}
         to_offered = request if "A" not in accepted else None
-        before = {channel: link.fault(channel, beats[channel], True, to_offered) for channel in accepted}
+        before = {channel: self.judged(channel, beats[channel], to_offered) for channel in accepted}
+        fixed = {"A": not settings.ALLOW_SAME_CYCLE_REUSE, "D": not settings.ALLOW_SAME_CYCLE_RESPONSE}
         taken = set()
         while True:
             moved = False
             for channel in CHANNELS:
                 if channel not in accepted or channel in taken:
                     continue
-                fault = link.fault(channel, beats[channel], True, to_offered)
-                if (channel == "D" and not settings.RESPOND_AT_ONCE) or (channel == "A" and not settings.REUSE_AT_ONCE):
-                    fault = before[channel]
+                fault, takes = before[channel] if fixed.get(channel) else self.judged(channel, beats[channel], to_offered)
                 faults[channel] = fault
-                if link.takes(channel, beats[channel], fault, to_offered):
+                if takes:
                     link.take(channel, beats[channel], fault, to_offered)
                     taken.add(channel)
                     moved = True
@@ -225,7 +229,7 @@ class Checker:
             name = faults.get(channel, "")
             shown = (name, head(channel, beats[channel]), beats[channel].mask if channel in "AB" else 0, beats[channel].corrupt) if name else None
             if name and shown != link.waits[channel]:
-                if link.faults[channel] < self.settings.REPORTS:
+                if link.faults[channel] < self.settings.MAX_REPORTS:
                     asked = in_flight.get(beats[channel].source) or request or beats.get("A")
                     reports.append(self.words(channel, beats[channel], name, held[channel], asked))
                 link.faults[channel] += 1
@@ -243,7 +247,7 @@ class Checker:
     def words(self, channel, beat, fault, held, asked):
         """The line of a report, behind its time and place."""
         rest, answered = held
-        name, width = name_of(channel, beat), self.settings.WIDTH
+        name, width = name_of(channel, beat), self.settings.DATA_BYTES
         was = rest[0] if rest else answered
         if fault == "HeadChanged":
             fields = ["opcode", "param", "size", "source", *(["sink", "denied"] if channel == "D" else ["address"])]

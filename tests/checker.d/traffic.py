@@ -20,7 +20,7 @@ class Cycles:
         choose, settings, link = self.random, self.settings, self.checker.link
         opcode = choose.choice([i for i, name in enumerate(NAMES[channel]) if name != "-"])
         name = NAMES[channel][opcode]
-        beat = (settings.WIDTH - 1).bit_length()
+        beat = (settings.DATA_BYTES - 1).bit_length()
         size = min(choose.randrange(13) if self.chance(4) else choose.randrange(beat + 3), 12, (1 << settings.SIZE_BITS) - 1)
         made = Beat(opcode, choose.randrange(PARAMS.get(name, 1)), size, choose.choice(self.sources))
         if channel == "A" and self.chance(80):
@@ -44,7 +44,7 @@ class Cycles:
         made = link.open[channel][0] if link.open[channel] and not self.chance(3) else self.first(channel)
         if channel in "AB":
             active = link.active(made)
-            made = replace(made, mask=active & self.random.getrandbits(self.settings.WIDTH) if NAMES[channel][made.opcode] == "PutPartialData" else active)
+            made = replace(made, mask=active & self.random.getrandbits(self.settings.DATA_BYTES) if NAMES[channel][made.opcode] == "PutPartialData" else active)
         made = replace(made, corrupt=int(has_data(channel, made) and self.chance(20)))
         return self.spoilt(channel, made) if self.chance(20) else made
 
@@ -53,7 +53,7 @@ class Cycles:
         bits = {"opcode": 3, "param": 2 if channel == "D" else 3, "size": settings.SIZE_BITS, "source": settings.SOURCE_BITS, "corrupt": 1}
         bits.update({"sink": settings.SINK_BITS, "denied": 1} if channel == "D" else {"address": settings.ADDRESS_BITS})
         if channel in "AB":
-            bits["mask"] = settings.WIDTH
+            bits["mask"] = settings.DATA_BYTES
         name = choose.choice(sorted(bits))
         return replace(made, **{name: getattr(made, name) ^ 1 << choose.randrange(bits[name])})
 
@@ -78,5 +78,5 @@ class Cycles:
 
     def has_room(self, beat):
         """A request without room is for the tests of `overflow`."""
-        in_flight, most = self.checker.link.in_flight, self.settings.REQUESTS
+        in_flight, most = self.checker.link.in_flight, self.settings.MAX_OUTSTANDING
         return not most or len(in_flight) < most or beat.source in in_flight

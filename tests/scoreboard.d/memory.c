@@ -11,6 +11,7 @@ void *__real_realloc(void *, size_t);
 void __real_free(void *);
 
 static long asked, refused_from, refused_to, held;
+static size_t largest; /* block that grew */
 
 static bool is_refused(void) {
     asked++;
@@ -32,6 +33,7 @@ void *__wrap_calloc(size_t count, size_t bytes) {
 
 void *__wrap_realloc(void *block, size_t bytes) {
     if (is_refused()) return NULL;
+    if (bytes > largest) largest = bytes;
     return block == NULL ? counted(__real_malloc(bytes)) : __real_realloc(block, bytes);
 }
 
@@ -40,47 +42,64 @@ void __wrap_free(void *block) {
     __real_free(block);
 }
 
-static unsigned read_lines(tl_board *board) {
+static unsigned read_lines(tl_scoreboard *board) {
     uint64_t at;
     unsigned count = 0;
-    for (const char *line; (line = tl_board_line(board, &at)) != NULL; count++)
+    for (const char *line; (line = tl_scoreboard_next_message(board, &at)) != NULL; count++)
         if (strlen(line) == 0) abort();
     return count;
 }
 
 /* Hundreds of beats, far ones first, some of them wrong; a refused one; a reset of one link with beats of the other; and an end. */
-static void beats(tl_board *board) {
+static void beats(tl_scoreboard *board) {
     uint8_t lanes[TL_WIDEST] = {0};
     for (unsigned i = 0; i < 300; i++) {
         tl_beat ack = {.sink = (tl_id)i};
-        tl_board_beat(board, TL_MANAGER_LINK, 'E', i, &ack, NULL);
+        tl_scoreboard_beat(board, TL_MANAGER_LINK, 'E', i, &ack, NULL);
     }
     for (unsigned i = 0; i < 300; i++) {
         tl_beat ack = {.sink = (tl_id)(i % 30 == 0 ? i + 1 : i)};
-        tl_board_beat(board, TL_CLIENT_LINK, 'E', 1000 + i, &ack, NULL);
+        tl_scoreboard_beat(board, TL_CLIENT_LINK, 'E', 1000 + i, &ack, NULL);
     }
     for (unsigned i = 0; i < 100; i++) {
         tl_beat release = {.opcode = 7, .size = 5, .source = 3, .address = i == 50 ? 1 : 32 * (uint64_t)i};
-        for (int k = 0; k < 4; k++) tl_board_beat(board, TL_CLIENT_LINK, 'C', 2000 + i, &release, lanes);
+        for (int k = 0; k < 4; k++) tl_scoreboard_beat(board, TL_CLIENT_LINK, 'C', 2000 + i, &release, lanes);
     }
     read_lines(board);
-    tl_board_reset(board, TL_MANAGER_LINK, true, 3000);
+    tl_scoreboard_reset(board, TL_MANAGER_LINK, true, 3000);
     for (unsigned i = 0; i < 80; i++) {
         tl_beat get = {.opcode = 4, .size = 2, .source = (tl_id)i, .address = 8, .mask = 0xf};
-        tl_board_beat(board, TL_CLIENT_LINK, 'A', 3000 + i, &get, lanes);
+        tl_scoreboard_beat(board, TL_CLIENT_LINK, 'A', 3000 + i, &get, lanes);
     }
-    tl_board_reset(board, TL_MANAGER_LINK, false, 4000);
+    tl_scoreboard_reset(board, TL_MANAGER_LINK, false, 4000);
 }
 
 /* Whether the board could be opened; `count` says how many differences it has at its end. */
 static bool run(uint64_t *count) {
-    tl_board *board = tl_board_open(8, 4, 0);
+    tl_scoreboard *board = tl_scoreboard_open(8, 4, 0);
     if (board == NULL) return false;
     beats(board);
-    *count = tl_board_end(board);
+    *count = tl_scoreboard_finish(board);
     read_lines(board);
-    tl_board_free(board);
+    tl_scoreboard_free(board);
     return true;
+}
+
+/* Whether lines that are read at once take no more room than a few of them, however many there are. */
+static bool gives_room_back(void) {
+    const tl_beat ack = {.sink = 1};
+    tl_scoreboard *board = tl_scoreboard_open(8, 4, 0);
+    unsigned lines = 0;
+    largest = 0;
+    for (unsigned i = 0; i < 200; i++) {
+        tl_scoreboard_beat(board, TL_CLIENT_LINK, 'E', 3 * i, &ack, NULL);
+        tl_scoreboard_reset(board, TL_CLIENT_LINK, true, 3 * i + 1);
+        tl_scoreboard_reset(board, TL_CLIENT_LINK, false, 3 * i + 2);
+        lines += read_lines(board);
+    }
+    tl_scoreboard_finish(board);
+    tl_scoreboard_free(board);
+    return lines == 200 && largest < 1000;
 }
 
 int main(void) {
@@ -88,6 +107,7 @@ int main(void) {
     unsigned passed = 0, failed = 0, opened = 0;
     if (!run(&all) || held != 0) return printf("%ld blocks held without a refusal\n", held), 1;
     long allocations = asked;
+    if (!gives_room_back()) return printf("the room of lines that were read grew to %zu bytes\n", largest), 1;
     for (int from_then_on = 0; from_then_on < 2; from_then_on++)
         for (long i = 1; i <= allocations; i++) {
             asked = held = 0;

@@ -62,6 +62,7 @@ typedef struct {
     uint64_t home, came; /* near beats of the message under way; 0: there is none */
     uint8_t bytes[MOST_BYTES], on[MOST_BYTES], bad[MOST_BYTES];
     line stage, ring, inbox;
+    uint64_t sent, taken; /* far beats */
 } crossing;
 
 typedef struct {
@@ -196,6 +197,7 @@ static bool take(bridge *all, int x, tl_beat *beat, uint8_t *lanes) {
     if (first->begins && x == D && beat->opcode != 6) all->busy[beat->source] = false;
     of->inbox.first = (of->inbox.first + 1) % of->inbox.room;
     of->inbox.count--;
+    of->taken++;
     return true;
 }
 
@@ -208,7 +210,11 @@ static bool is_sent_by(int side, int x) {
 static size_t pump(bridge *all, int side) {
     size_t moved = 0;
     for (int x = 0; x < CHANNELS; x++)
-        if (is_sent_by(side, x)) moved += line_move(&all->of[x].stage, &all->of[x].ring);
+        if (is_sent_by(side, x)) {
+            size_t sent = line_move(&all->of[x].stage, &all->of[x].ring);
+            all->of[x].sent += sent;
+            moved += sent;
+        }
     return moved;
 }
 
@@ -223,6 +229,26 @@ static tl_standings standings_of(const bridge *all) {
     tl_counts counts[CHANNELS];
     for (int x = 0; x < CHANNELS; x++) counts[x] = (tl_counts){all->of[x].stage.count, all->of[x].ring.count, all->of[x].inbox.count};
     return (tl_standings){counts[A], counts[B], counts[C], counts[D], counts[E]};
+}
+
+/* What a side has sent and what was taken from it. */
+static tl_totals totals_of(const bridge *all, int side, uint64_t number) {
+    uint64_t beats[CHANNELS];
+    for (int x = 0; x < CHANNELS; x++) beats[x] = is_sent_by(side, x) ? all->of[x].sent : all->of[x].taken;
+    return (tl_totals){number, beats[A], beats[B], beats[C], beats[D], beats[E]};
+}
+
+static uint8_t finish(const bridge *all, int side, uint64_t number, tl_totals *receipt) {
+    for (int x = 0; x < CHANNELS; x++)
+        if (is_sent_by(side, x) && (!all->of[x].closed || all->of[x].stage.count > 0)) return TL_NOT_SENT;
+    *receipt = totals_of(all, side, number);
+    return TL_OK;
+}
+
+static uint8_t drained(const bridge *all, int side, uint64_t number, const tl_totals *receipt) {
+    tl_totals got = totals_of(all, side, number);
+    bool as_many = side == 0 ? got.b == receipt->b && got.d == receipt->d : got.a == receipt->a && got.c == receipt->c && got.e == receipt->e;
+    return number != receipt->bridge ? TL_BRIDGE_MISMATCH : as_many ? TL_OK : TL_NOT_TAKEN;
 }
 
 static void free_all(bridge *all) {
@@ -278,7 +304,7 @@ static const struct {
 #include "answers.h"
 };
 
-static void answer_text(uint8_t answer, tl_text *text) {
+static void status_text(uint8_t answer, tl_text *text) {
     memset(text, 0, sizeof *text);
     for (size_t i = 0; i < sizeof answers / sizeof *answers; i++)
         if (answers[i].number == answer) {
@@ -290,8 +316,8 @@ static void answer_text(uint8_t answer, tl_text *text) {
 /* ---- The calls of each pair */
 
 #define LOCKED(result, expression) \
-    if (!side->live) return 0; \
-    bridge *all = side->held; \
+    if (!side->is_open) return 0; \
+    bridge *all = side->impl; \
     pthread_mutex_lock(&all->lock); \
     result value = expression; \
     pthread_mutex_unlock(&all->lock); \
@@ -301,28 +327,40 @@ static void answer_text(uint8_t answer, tl_text *text) {
         LOCKED(bool, !all->of[channel].closed && all->of[channel].stage.count == 0) \
     } \
     uint8_t TL_CALL(cw, mw, offer_##x)(TL_CALL(cw, mw, sender) *side, const tl_beat *beat, const uint8_t lanes[near_width]) { \
-        if (!side->live) return TL_NO_SIDE; \
+        if (!side->is_open) return TL_NOT_OPEN; \
         LOCKED(uint8_t, offer(all, channel, beat, lanes)) \
     } \
     bool TL_CALL(cw, mw, take_##x)(TL_CALL(cw, mw, taker) *side, tl_beat *beat, uint8_t lanes[far_width]) { \
         LOCKED(bool, take(all, channel, beat, lanes)) \
     } \
     uint8_t TL_CALL(cw, mw, close_##x)(TL_CALL(cw, mw, sender) *side) { \
-        if (!side->live) return TL_NO_SIDE; \
+        if (!side->is_open) return TL_NOT_OPEN; \
         LOCKED(uint8_t, all->of[channel].came > 0 ? TL_MID_BURST : (all->of[channel].closed = true, TL_OK)) \
     }
 #define PLAIN_SIDE(cw, mw, which, number) \
     void TL_CALL(cw, mw, free_##which)(TL_CALL(cw, mw, which) *side) { \
-        release(&side->held, &side->live); \
+        release(&side->impl, &side->is_open); \
         side->bridge = 0; \
     } \
     size_t TL_CALL(cw, mw, pump_##which)(TL_CALL(cw, mw, which) *side) { LOCKED(size_t, pump(all, number)) } \
-    size_t TL_CALL(cw, mw, fetch_##which)(TL_CALL(cw, mw, which) *side) { LOCKED(size_t, fetch(all, number)) }
+    size_t TL_CALL(cw, mw, fetch_##which)(TL_CALL(cw, mw, which) *side) { LOCKED(size_t, fetch(all, number)) } \
+    uint8_t TL_CALL(cw, mw, count_##which)(TL_CALL(cw, mw, which) *side, tl_totals *totals) { \
+        if (!side->is_open) return TL_NOT_OPEN; \
+        LOCKED(uint8_t, (*totals = totals_of(all, number, side->bridge), TL_OK)) \
+    } \
+    uint8_t TL_CALL(cw, mw, finish_##which)(TL_CALL(cw, mw, which) *side, tl_totals *receipt) { \
+        if (!side->is_open) return TL_NOT_OPEN; \
+        LOCKED(uint8_t, finish(all, number, side->bridge, receipt)) \
+    } \
+    uint8_t TL_CALL(cw, mw, drained_##which)(TL_CALL(cw, mw, which) *side, const tl_totals *receipt) { \
+        if (!side->is_open) return TL_NOT_OPEN; \
+        LOCKED(uint8_t, drained(all, number, side->bridge, receipt)) \
+    }
 #define PLAIN_MEETING(cw, mw, name, settles) \
     uint8_t TL_CALL(cw, mw, name)(TL_CALL(cw, mw, client) *client, TL_CALL(cw, mw, manager) *manager, tl_standings *standings) { \
-        if (!client->live || !manager->live) return TL_NO_SIDE; \
-        if (client->bridge != manager->bridge) return TL_OTHER_BRIDGE; \
-        bridge *all = client->held; \
+        if (!client->is_open || !manager->is_open) return TL_NOT_OPEN; \
+        if (client->bridge != manager->bridge) return TL_BRIDGE_MISMATCH; \
+        bridge *all = client->impl; \
         while (settles && pump(all, 0) + pump(all, 1) + fetch(all, 0) + fetch(all, 1) > 0) {} \
         *standings = standings_of(all); \
         return TL_OK; \
@@ -343,16 +381,16 @@ static void answer_text(uint8_t answer, tl_text *text) {
         if (ring < 1 || ring > TL_MAX_RING) return TL_RING_SIZE; \
         bridge *all = make(cw, mw, ring); \
         if (all == NULL) return TL_OUT_OF_MEMORY; \
-        client->held = manager->held = all; \
-        client->live = manager->live = true; \
+        client->impl = manager->impl = all; \
+        client->is_open = manager->is_open = true; \
         client->bridge = manager->bridge = number; \
         return TL_OK; \
     } \
-    void TL_CALL(cw, mw, answer_text)(uint8_t answer, tl_text *text) { answer_text(answer, text); } \
+    void TL_CALL(cw, mw, status_text)(uint8_t answer, tl_text *text) { status_text(answer, text); } \
     uint32_t TL_CALL(cw, mw, version)(void) { return TL_VERSION; }
-OF_EACH_PAIR(PLAIN)
+TLBRIDGE_OF_EACH_PAIR(PLAIN)
 
-/* What the Python package asks of the library of traces. */
-void tl_answer_text(uint8_t answer, tl_text *text) {
-    answer_text(answer, text);
+/* The call of the trace library that the Python package needs. */
+void tl_status_text(uint8_t answer, tl_text *text) {
+    status_text(answer, text);
 }

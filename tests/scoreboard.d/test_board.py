@@ -127,7 +127,7 @@ class Changed(unittest.TestCase):
                 came = flipped(all_lanes, "data", 8 * lane)
                 with self.subTest(client=client, channel=channel):
                     self.assertEqual(judged(events[:at] + [came] + events[at + 1:], client, manager), (0, []))
-                    self.assertEqual(judged(events[:at] + [came] + events[at + 1:], client, manager, unmasked=True),
+                    self.assertEqual(judged(events[:at] + [came] + events[at + 1:], client, manager, compare_unmasked=True),
                                      (1, [reported(all_lanes, came)]))
 
 
@@ -154,11 +154,11 @@ class Lost(unittest.TestCase):
                 left = of(all_events, channel)[-count:]
                 events = [event for i, event in enumerate(all_events) if i not in left]
                 first = all_events[left[0]]
-                more = f", nor did {count - 1} more" if count > 1 else ""
+                more = f"; {count - 1} more are missing" if count > 1 else ""
                 with self.subTest(channel=channel, count=count):
                     self.assertEqual(
-                        [line for line in judged(events)[1] if ": open: " not in line],
-                        [f"time {events[-1].time}: far {channel} beat {first.number}: {head_said(first)}: is due and did not come{more}"])
+                        [line for line in judged(events)[1] if ": outstanding: " not in line],
+                        [f"time {events[-1].time}: far {channel} beat {first.number}: {head_said(first)}: expected but missing{more}"])
 
     def test_last_beat_comes_again(self):
         for channel in "ABCDE":
@@ -166,11 +166,11 @@ class Lost(unittest.TestCase):
                 events = exchange(8, 4)
                 last = of(events, channel)[-1]
                 again = [replace(events[last], time=events[-1].time + 10 * (i + 1), number=events[last].number + 1 + i) for i in range(count)]
-                more = f", nor are {count - 1} more" if count > 1 else ""
+                more = f"; {count - 1} more are unexpected" if count > 1 else ""
                 with self.subTest(channel=channel, count=count):
                     came = again[0]
                     self.assertEqual(judged(events + again), (1, [
-                        f"time {came.time}: far {channel} beat {came.number}: {head_said(came)}: came and is not due{more}"]))
+                        f"time {came.time}: far {channel} beat {came.number}: {head_said(came)}: unexpected{more}"]))
 
     def test_cut(self):
         """The last message of a channel is not whole."""
@@ -180,14 +180,16 @@ class Lost(unittest.TestCase):
             events = events[:begins + 1]
             with self.subTest(channel=channel):
                 count, lines = judged(events, 4, 8)
-                self.assertIn(f"time {events[-1].time}: near {channel}: the last message is not whole", lines)
+                self.assertIn(f"time {events[-1].time}: near {channel}: the last message is incomplete", lines)
 
 
 class AtItsEnd(unittest.TestCase):
     def test_no_beat(self):
         self.assertEqual(judged([]), (1, ["time 0: no beat was accepted on either link, so nothing was compared"]))
         self.assertEqual(judged([], allow_no_beats=True), (0, []))
-        self.assertEqual(judged([], allow_no_beats=True, unmasked=True), (0, []))
+        self.assertEqual(judged([], allow_no_beats=True, compare_unmasked=True), (0, []))
+        board = Scoreboard(8, 4)  # a difference at its end alone
+        self.assertEqual((board.differences, board.end(), board.differences), (0, 1, 1))
 
     def test_no_beat_but_in_reset(self):
         events = exchange(8, 4)
@@ -223,7 +225,7 @@ class AtItsEnd(unittest.TestCase):
             made.send("A", made.head("A", 4, 2, source=source))
         times = [event.time for event in made.events if not event.is_far]
         self.assertEqual(judged(made.events), (0, [
-            f"time {time}: open: near A beat {number}, source {source:04x}, has no response" for number, (time, source) in enumerate(zip(times, sources))]))
+            f"time {time}: outstanding: near A beat {number}, source {source:04x}, has no response" for number, (time, source) in enumerate(zip(times, sources))]))
 
     def test_many_open_requests(self):
         made = Exchange(8, 4)
@@ -232,7 +234,7 @@ class AtItsEnd(unittest.TestCase):
         count, lines = judged(made.events)
         self.assertEqual((count, len(lines)), (0, 21))
         self.assertRegex(lines[19], "near A beat 19, source 0039, has no response$")
-        self.assertEqual(lines[20], f"time {made.events[-1].time}: open: 5 more requests have no response")
+        self.assertEqual(lines[20], f"time {made.events[-1].time}: outstanding: 5 more requests have no response")
 
     def test_many_differences(self):
         for differences in (19, 20, 21, 50):
@@ -253,7 +255,7 @@ class AtItsEnd(unittest.TestCase):
 
     def test_never_ended(self):
         """A board that saw beats and was not ended says so when it is given back, at the program's end too."""
-        said = ("tlbridge scoreboard: freed without tl_board_end, so what did not come is not known: 0 differences in 1 beats so far\n")
+        said = ("tlbridge scoreboard: freed without tl_scoreboard_finish, so missing beats were not reported: 0 differences in 1 beats so far\n")
         begin = "from tlbridge import Beat, Scoreboard; board = Scoreboard(8, 4); "
         for program, error in ((begin + "board.beat('client', 'E', 1, Beat(sink=1))", said),
                                (begin + "board.beat('client', 'E', 1, Beat(sink=1)); del board", said),
@@ -267,7 +269,7 @@ class AtItsEnd(unittest.TestCase):
         begin = "from tlbridge import Beat, Scoreboard\nwith Scoreboard(8, 4) as board:\n board.beat('client', 'E', 1, Beat(sink=1))\n"
         ran = self.run_apart(begin)
         self.assertEqual(ran.returncode, 1)
-        self.assertTrue(ran.stderr.endswith("Differs: 1 differences in 1 beats\ntime 1: far E beat 0: sink 0001: is due and did not come\n"), ran.stderr)
+        self.assertTrue(ran.stderr.endswith("Differs: 1 differences in 1 beats\ntime 1: far E beat 0: sink 0001: expected but missing\n"), ran.stderr)
         ran = self.run_apart(begin + " board.beat('manager', 'E', 1, Beat(sink=1))")
         self.assertEqual((ran.returncode, ran.stderr), (0, ""))
         ran = self.run_apart(begin + " raise KeyError('own')")
@@ -282,13 +284,13 @@ class AtItsEnd(unittest.TestCase):
         with self.assertRaisesRegex(ValueError, "a link is 'client' or 'manager', and not 2"):
             board.reset(2, True, 1)
 
-    def test_say(self):
+    def test_on_message(self):
         said = []
-        board = Scoreboard(8, 4, say=said.append)
+        board = Scoreboard(8, 4, on_message=said.append)
         board.beat("client", "E", 1, Beat(sink=1))
         board.beat("manager", "E", 1, Beat(sink=2))
         board.end()
-        self.assertEqual(said, ["time 1: far E beat 0; sink got 0002, due 0001"])
+        self.assertEqual(said, ["time 1: far E beat 0; sink got 0002, expected 0001"])
 
 
 class Resets(unittest.TestCase):
@@ -365,17 +367,19 @@ class Resets(unittest.TestCase):
         made.send("A", made.head("A", 0, 4))
         near = [event for event in made.events if not event.is_far]
         extra = Event(made.time + 5, MANAGER, "E", {"sink": 3})
-        count, lines = judged([*near, extra, reset(made.time + 6, 1, True), reset(made.time + 9, 1, False)])
-        self.assertEqual((count, lines), (0, [f"time {made.time + 6}: reset of the manager's link: 5 beats in flight on both links are not judged"]))
+        again = Event(made.time + 20, CLIENT, "E", {"sink": 3})  # after the first reset
+        count, lines = judged([*near, extra, reset(made.time + 6, 1, True), reset(made.time + 9, 1, False), again, reset(made.time + 30, 0, True)])
+        self.assertEqual((count, lines), (0, [f"time {made.time + 6}: reset of the manager's link: 5 beats in flight on both links are not judged",
+                                              f"time {made.time + 30}: reset of the client's link: 1 beats in flight on both links are not judged"]))
 
     def test_one_link_alone(self):
-        """What the client's link accepts while the manager's is in reset goes on; if it is reset, too, it does not."""
+        """Beats that the client's link accepts while the manager's is in reset are judged, unless the client's link is reset, too."""
         made = Exchange(8, 4)
         made.send("A", made.head("A", 0, 4))
         near = [event for event in made.events if not event.is_far]
         far = moved([event for event in made.events if event.is_far], 1000)
         self.assertEqual(judged([reset(1, 1, True), *near, reset(900, 1, False), *far]), (0, [
-            f"time {near[0].time}: open: near A beat 0, source {near[0].head['source']:04x}, has no response"]))
+            f"time {near[0].time}: outstanding: near A beat 0, source {near[0].head['source']:04x}, has no response"]))
         wrong = [*far[:-1], flipped(far[-1], "address", 63)]
         self.assertEqual(judged([reset(1, 1, True), *near, reset(900, 1, False), *wrong])[1][0], reported(far[-1], wrong[-1]))
         self.assertEqual(judged([reset(1, 1, True), *near, reset(800, 0, True), reset(850, 0, False), reset(900, 1, False)]), (0, []))
@@ -412,11 +416,11 @@ class Refused(unittest.TestCase):
             for i in own if whole and fault not in (3, 5, 6, 10) else []:
                 wrong[i] = spoilt(events[i], fault)
         count, lines = judged(wrong)
-        lines = [said for said in lines if ": open: " not in said]
+        lines = [said for said in lines if ": outstanding: " not in said]
         self.assertEqual((count, len(lines)), (1, 1), lines)
         self.assertTrue(lines[0].startswith(line), lines[0])
         self.assertIn(f": refused: {fault} {SENTENCES[fault]}: ", lines[0])
-        self.assertTrue(lines[0].endswith("; what becomes of it is not judged"), lines[0])
+        self.assertTrue(lines[0].endswith("; its far beats are not judged"), lines[0])
         if fault == 5:
             self.assertIn(f", mask {wrong[at].mask:02x}: refused" if channel == "A" else f", mask {wrong[at].mask:x}: refused", lines[0])
         return True
@@ -500,7 +504,7 @@ class Refused(unittest.TestCase):
             events = [replace(event, number=event.number - lag[event.is_far]) for event in made.events]
             with self.subTest(channel=channel):
                 count, lines = judged(cut + events)
-                lines = [line for line in lines if ": open: " not in line]
+                lines = [line for line in lines if ": outstanding: " not in line]
                 self.assertEqual((count, len(lines)), (1, 1), lines)
                 self.assertRegex(lines[0], f"^time {second.time}: near {channel} beat 2: .*: refused: 7 HeadChanged")
                 at = of(events, channel, data=True)[-1]
@@ -520,7 +524,7 @@ class Refused(unittest.TestCase):
 
 
 class OneLink(unittest.TestCase):
-    """What one link shows by itself."""
+    """Mistakes that show on one link alone."""
 
     def get(self, source, address=0x1004):
         return {"opcode": 4, "param": 0, "size": 2, "source": source, "address": address}

@@ -1,16 +1,19 @@
-"""What Python passes to the library and gets from it: each field and its place, each count, each answer, what is freed."""
+"""Values between Python and the library: each field and its place, each count, each status, and memory that is freed."""
 import ctypes
 import os
 import re
 import subprocess
 import sys
+import types
 import unittest
 from pathlib import Path
+from unittest import mock
 
-from tlbridge import Beat, Bridge, MissingLibrary, Refused, Scoreboard, answer_of, load
+import tlbridge
+from tlbridge import Beat, Bridge, MissingLibrary, Refused, Scoreboard, status_of, load
 from tlbridge.beats import beat_of
-from tlbridge.bridge import Counts
-from tlbridge.library import BeatFields, HandleFields, StandingsFields, TextFields, check
+from tlbridge.bridge import Counts, Totals
+from tlbridge.library import BeatFields, HandleFields, StandingsFields, TextFields, TotalsFields, check
 
 ROOT = Path(__file__).resolve().parent.parent.parent
 PAIRS = [tuple(map(int, pair.split(":"))) for pair in os.environ.get("TLBRIDGE_PAIRS", "8:4").split()]
@@ -29,20 +32,23 @@ class Structures(unittest.TestCase):
         counts = dict(StandingsFields._fields_)["a"]
         self.assertEqual(self.offsets(counts), dict(staged=0, in_ring=8, inbox=16))
         self.assertEqual(self.offsets(StandingsFields), {channel: 24 * i for i, channel in enumerate("abcde")})
+        self.assertEqual(self.offsets(TotalsFields), {"bridge": 0, **{channel: 8 + 8 * i for i, channel in enumerate("abcde")}})
 
     def test_answers(self):
         """Each number of the header has a name and a sentence of docs/FAULTS.md's table of words."""
         header = (ROOT / "include" / "tlbridge.h").read_text()
         numbers = {int(number) for number in re.findall(r"^    TL_[A-Z_]+ = (\d+),?$", header, re.M)}
-        self.assertEqual(numbers, {*range(24), 251, 252, 254})
-        self.assertEqual(len({answer_of(number).name for number in numbers}), len(numbers))
-        self.assertEqual(answer_of(8).sentence, "the source's last request still waits for its response")
-        self.assertTrue(answer_of(14).sentence.endswith("of 1 to 64 bytes, in version 2 of 1 to 128"), answer_of(14).sentence)
-        self.assertEqual((answer_of(99).name, answer_of(99).sentence), ("", ""))
+        self.assertEqual(numbers, {*range(24), 249, *range(251, 255)})
+        self.assertEqual(len({status_of(number).name for number in numbers}), len(numbers))
+        self.assertEqual(status_of(8).sentence, "the source's last request still waits for its response")
+        self.assertTrue(status_of(14).sentence.endswith("(1 to 64; 128 in version 2 only)"), status_of(14).sentence)
+        self.assertEqual((status_of(99).name, status_of(99).sentence), ("", ""))
+        for constant, number in re.findall(r"^    TL_([A-Z_]+) = (\d+),?$", header, re.M):
+            self.assertEqual(status_of(int(number)).name.lower(), {"CHANNEL_LETTER": "channel"}.get(constant, constant.replace("_", "").lower()))
         for number in numbers - {0}:
             with self.assertRaises(Refused) as refused:
                 check(number)
-            self.assertEqual(refused.exception.answer.number, number)
+            self.assertEqual(refused.exception.status.number, number)
         check(0)
 
 
@@ -85,12 +91,12 @@ class Sides(unittest.TestCase):
                 side = "client" if channel in "ACE" else "manager"
                 self.assertEqual(getattr(bridge, side).pump(), 1)
                 self.assertEqual(getattr(bridge.meet(), channel.lower()), Counts(0, 1, 0))
-                self.assertEqual(bridge.taker(channel).fetch(), 1)
+                self.assertEqual(bridge.receiver(channel).fetch(), 1)
                 self.assertEqual(getattr(bridge.meet(), channel.lower()), Counts(0, 0, 1))
                 self.assertFalse(bridge.meet().drained)
-                self.assertIsNotNone(bridge.taker(channel).take(channel))
+                self.assertIsNotNone(bridge.receiver(channel).take(channel))
                 self.assertTrue(bridge.meet().drained)
-                self.assertIsNone(bridge.taker(channel).take(channel))
+                self.assertIsNone(bridge.receiver(channel).take(channel))
 
     def test_many_at_once(self):
         """More than 255 beats are pumped in one call: 4,096 bytes from 16 lanes to 2 are 2,048 far beats, 8 for each near beat."""
@@ -108,12 +114,83 @@ class Sides(unittest.TestCase):
             bridge.client.offer("E", Beat(sink=1))
             with self.assertRaises(Refused) as refused:
                 bridge.client.offer("E", Beat(sink=2))
-            self.assertEqual((refused.exception.answer.number, refused.exception.answer.name), (254, "NotReady"))
+            self.assertEqual((refused.exception.status.number, refused.exception.status.name), (254, "NotReady"))
 
     def test_closed(self):
         with Bridge(8, 4) as bridge:
             bridge.client.close("E")
             self.assertFalse(bridge.client.ready("E"))
+
+    def test_totals(self):
+        """Each channel has a number of beats of its own, which the sender counts when they are pumped and the taker when they are taken."""
+        with Bridge(8, 4) as bridge:
+            number = bridge.client.totals().bridge
+            for channel, times in zip("ABCDE", (1, 2, 3, 0, 4)):
+                beat = {"A": Beat(opcode=4, size=2, mask=0xF), "B": Beat(opcode=6, size=2, mask=0xF), "C": Beat(opcode=4, size=2)}.get(channel, Beat())
+                for _ in range(times):
+                    bridge.offer(channel, beat)
+            self.assertEqual(bridge.client.totals(), Totals(number, 1, 0, 3, 0, 3))
+            bridge.settle()
+            self.assertEqual(bridge.client.totals(), Totals(number, 1, 0, 3, 0, 4))
+            self.assertEqual(bridge.manager.totals(), Totals(number, 0, 2, 0, 0, 0))
+            for channel, times in zip("ABCE", (1, 1, 2, 3)):
+                for _ in range(times):
+                    self.assertIsNotNone(bridge.receiver(channel).take(channel))
+            self.assertEqual(bridge.client.totals(), Totals(number, 1, 1, 3, 0, 4))
+            self.assertEqual(bridge.manager.totals(), Totals(number, 1, 2, 2, 0, 3))
+            bridge.offer("D", Beat(opcode=1, size=2, data=bytes(4)))
+            self.assertEqual(len(list(bridge.receive_all("D"))), 1)
+            self.assertEqual((bridge.client.totals().d, bridge.manager.totals().d), (1, 1))
+
+    def test_receipt(self):
+        """A side gives a receipt once its channels are closed and nothing is staged; the other side has all once it took as many."""
+        with Bridge(8, 4, ring=1) as bridge:
+            self.assertIsNone(bridge.manager.finish())
+            for _ in range(2):
+                bridge.offer("E", Beat())
+            bridge.client.close("A")
+            bridge.client.close("C")
+            self.assertEqual(bridge.client.pump(), 1)
+            self.assertIsNone(bridge.client.finish())
+            bridge.client.close("E")
+            receipt = bridge.client.finish()
+            self.assertEqual(receipt, bridge.client.totals())
+            self.assertEqual(receipt.e, 2)
+            self.assertFalse(bridge.client.ready("E"))
+            for _ in range(2):
+                self.assertFalse(bridge.manager.drained(receipt))
+                self.assertEqual(bridge.manager.fetch() if bridge.meet().e.inbox == 0 else 1, 1)
+                self.assertIsNotNone(bridge.manager.take("E"))
+            self.assertTrue(bridge.manager.drained(receipt))
+
+    def test_receipt_of_the_manager(self):
+        with Bridge(8, 4) as bridge:
+            bridge.offer("B", Beat(opcode=6, size=2, mask=0xF))
+            bridge.manager.close("B")
+            bridge.manager.close("D")
+            self.assertIsNone(bridge.manager.finish())
+            bridge.settle()
+            receipt = bridge.manager.finish()
+            self.assertEqual((receipt.b, receipt.d), (1, 0))
+            self.assertFalse(bridge.client.drained(receipt))
+            self.assertIsNotNone(bridge.client.take("B"))
+            self.assertTrue(bridge.client.drained(receipt))
+
+    def test_receipt_refused(self):
+        """A receipt of another bridge, and sides that were freed, are refused."""
+        with Bridge(8, 4) as bridge, Bridge(8, 4) as other:
+            for channel in "ACE":
+                bridge.client.close(channel)
+            receipt = bridge.client.finish()
+            self.assertTrue(bridge.manager.drained(receipt))
+            with self.assertRaises(Refused) as refused:
+                other.manager.drained(receipt)
+            self.assertEqual(refused.exception.status.name, "BridgeMismatch")
+            bridge.free()
+            for call in (bridge.client.totals, bridge.client.finish, lambda: bridge.manager.drained(receipt)):
+                with self.assertRaises(Refused) as refused:
+                    call()
+                self.assertEqual(refused.exception.status.name, "NotOpen")
 
     def test_ring(self):
         for ring in (-1, 1 << 64):
@@ -128,13 +205,13 @@ class Sides(unittest.TestCase):
         with Bridge(8, 4) as bridge:
             pass
         for side in (bridge.client, bridge.manager):
-            self.assertFalse(side._handle.live)
+            self.assertFalse(side._handle.is_open)
         bridge = Bridge(8, 4)
         bridge.free()
         for side, channel in ((bridge.client, "A"), (bridge.manager, "B")):
             with self.assertRaises(Refused) as refused:
                 side.close(channel)
-            self.assertEqual(refused.exception.answer.name, "NoSide")
+            self.assertEqual(refused.exception.status.name, "NotOpen")
 
 
 class Library(unittest.TestCase):
@@ -156,7 +233,7 @@ class Library(unittest.TestCase):
         """A library of another version is refused by its number."""
         program = ("import tlbridge, tlbridge.bridge as b\nb.VERSION = 4\ntry:\n  tlbridge.Bridge(8, 4)\n"
                    "except tlbridge.MissingLibrary as error:\n  print(error)")
-        self.assertEqual(self.run_apart(program).stdout, "the library is of version 5, and this package of 4\n")
+        self.assertEqual(self.run_apart(program).stdout, "the library is of version 6, and this package of 4\n")
 
     def test_memory(self):
         """A thousand bridges and boards, made and left, take no more memory than the first hundred."""
@@ -175,11 +252,64 @@ class Library(unittest.TestCase):
         self.assertLess(int(ran.stdout), 2000)  # KiB
 
 
+class Answers:
+    """A library whose answer to each trace is given, and which notes its calls."""
+
+    def __init__(self, text=b"", number=0, line=0, all_done=1):
+        self.text, self.number, self.line, self.all_done, self.calls = text, number, line, all_done, []
+
+        def answers(data, length, check, made):
+            self.calls.append((data, length.value, check.value))
+            made._obj.line = self.line
+            if self.number == 0:
+                made._obj.text, made._obj.length, made._obj.all_done = ctypes.cast(self.text, ctypes.c_void_p).value, len(self.text), self.all_done
+            return self.number
+
+        self.tl_answer_trace = answers
+        self.tl_answer_free = lambda made: self.calls.append("free")
+
+
+class OfTraces(unittest.TestCase):
+    """answer() passes the whole text, reads the whole answer, and frees it."""
+
+    def answer(self, library, *words, **more):
+        with mock.patch("tlbridge.traces.load", return_value=library):
+            return tlbridge.run_trace(*words, **more)
+
+    def test_answered(self):
+        for text, given, check in (("A\0é\n", "A\0é\n".encode(), False), (b"\xff\0", b"\xff\0", True)):
+            library = Answers("= A\0 döne\n".encode(), all_done=check)
+            self.assertEqual(self.answer(library, text, check=check), tlbridge.TraceResult("= A\0 döne\n", check))
+            self.assertEqual(library.calls, [(given, len(given), int(check)), "free"])
+
+    def test_freed_if_it_is_no_text(self):
+        library = Answers(b"\xff")
+        with self.assertRaises(UnicodeDecodeError):
+            self.answer(library, "")
+        self.assertEqual(library.calls, [(b"", 0, 0), "free"])
+
+    def test_faults(self):
+        for number, line, said in ((14, 1, "line 1: 14 Header"), (17, 70000000000, "line 70000000000: 17 Shape"), (13, 0, "13 OutOfMemory")):
+            library = Answers(number=number, line=line)
+            with self.assertRaises(tlbridge.TraceFault) as fault:
+                self.answer(library, "A\n")
+            self.assertEqual((fault.exception.status.number, fault.exception.line), (number, line))
+            self.assertTrue(str(fault.exception).startswith(said), str(fault.exception))
+            self.assertEqual(len(library.calls), 1)
+
+
+class Names(unittest.TestCase):
+    def test_all(self):
+        """`from tlbridge import *` gives each public name of the package that is no module."""
+        public = {name for name, value in vars(tlbridge).items() if not name.startswith("_") and not isinstance(value, types.ModuleType)}
+        self.assertEqual({*tlbridge.__all__}, public)
+
+
 class Counted(unittest.TestCase):
     def test_wide_counts(self):
         """The calls that count return 64 bits."""
         board = Scoreboard(8, 4, allow_no_beats=True)
-        for name in ("tl_board_end", "tl_board_differences", "tl_board_beats"):
+        for name in ("tl_scoreboard_finish", "tl_scoreboard_differences", "tl_scoreboard_beats"):
             self.assertIs(getattr(load(), name).restype, ctypes.c_uint64)
         board.end()
 

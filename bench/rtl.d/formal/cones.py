@@ -6,7 +6,10 @@ SCRIPT = "proc; flatten; opt_clean"
 
 
 def check(rtl, parameters, room, only_resets=True):
-    """What was checked; `only_resets`: the logic before a valid or a ready has no input in it but a reset, and with two clocks that of its link."""
+    """Returns a sentence about the outputs that were checked. Errors: Failure with each dependence on a line.
+
+    With `only_resets` the logic before a valid or a ready may have no input except a reset; with two clocks, that of its link.
+    """
     netlist = Flat(build(rtl, parameters, SCRIPT, room))
     ends = {name: bits for name, bits in netlist.outputs.items() if name.endswith(("_valid", "_ready"))}
     faults = []

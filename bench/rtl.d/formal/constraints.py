@@ -51,7 +51,7 @@ class Bridge:
 
 
 def check(sdc, rtl, parameters, room, **settings):
-    """What was checked; raises Failure with each fault on a line."""
+    """Returns a sentence about the constraints that were checked. Errors: Failure with each fault on a line."""
     bridge = Bridge(rtl, parameters, room)
     found = evaluate(sdc, bridge.place, room, **settings)
     delays = [(first, last) for command, _, first, last in found if command == "set_max_delay"]

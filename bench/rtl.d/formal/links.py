@@ -1,5 +1,5 @@
-"""The bridge between two checkers, sv/tl_checker.sv, as one module for a proof: by assumption the client keeps the rules on its link and the
-manager on its own; each beat that the bridge sends is asserted to keep them. Both clocks are free. No rule reads data, so data is 0.
+"""The bridge between two checkers, sv/tl_checker.sv, as one module for a proof. By assumption the client keeps the rules on its link, and the
+manager on its own. Each beat that the bridge sends is asserted to keep them. Both clocks are free. No rule reads data, so data is 0.
 """
 ADDRESS_BITS, SIZE_BITS, SOURCE_BITS, SINK_BITS = 4, 3, 1, 1
 FIELDS = {
@@ -56,8 +56,8 @@ def module(client, manager, channels="abcde", settings=""):
     tl_bridge #(.CLIENT_BYTES({client}), .MANAGER_BYTES({manager}), {CHECKER}{settings}) bridge (
         .client_clock(client_clock), .client_reset(1'b0), .manager_clock(manager_clock), .manager_reset(1'b0),
         {', '.join(bridge)});
-    tl_checker #(.WIDTH({client}), {CHECKER}, .ASSUME_CLIENT(1'b1)) client (.clock(client_clock), .reset(1'b0), {', '.join(joined['client'])});
-    tl_checker #(.WIDTH({manager}), {CHECKER}, .ASSUME_MANAGER(1'b1)) manager (.clock(manager_clock), .reset(1'b0), {', '.join(joined['manager'])});
+    tl_checker #(.DATA_BYTES({client}), {CHECKER}, .ASSUME_CLIENT(1'b1)) client (.clock(client_clock), .reset(1'b0), {', '.join(joined['client'])});
+    tl_checker #(.DATA_BYTES({manager}), {CHECKER}, .ASSUME_MANAGER(1'b1)) manager (.clock(manager_clock), .reset(1'b0), {', '.join(joined['manager'])});
 {quiet}`ifdef REACH
     logic [3:0] beats = 0;
     always @(posedge client_clock) if (client_d_valid && client_d_ready && client_d_opcode == 1 && client_d_size == 3) beats <= beats + 1'b1;

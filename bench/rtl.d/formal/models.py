@@ -12,7 +12,7 @@ class Failure(Exception):
 
 
 def run(words, seconds=None, **more):
-    """What a tool prints, on both streams. `seconds` is a limit of time that no sound run reaches; abc's own limit is one of processor time."""
+    """Returns the status of a tool, and the text that it prints on both streams. `seconds` is a limit of time that no sound run reaches; abc's own limit is one of processor time."""
     try:
         done = subprocess.run(words, stdout=subprocess.PIPE, stderr=subprocess.STDOUT, text=True, timeout=seconds, **more)
     except subprocess.TimeoutExpired as late:
@@ -72,7 +72,7 @@ class Model:
         return self.solve(f"bmc3 -F {frames} -T {seconds}", seconds)
 
     def reached(self, frames, seconds, prefix=""):
-        """The labels with this prefix whose assertion fails within so many frames, each looked at by itself, and the frame."""
+        """Returns the labels with this prefix whose assertion fails within `frames`, each looked at by itself, and the frame."""
         found = {}
         for number, label in enumerate(self.labels):
             if not label.startswith(prefix):

@@ -1,4 +1,4 @@
-//! When no pipe, no pair of ends, no bridge and no pair of sides is made.
+//! Tests of the errors on making a pipe, a pair of ends, a bridge and a pair of sides.
 #![tactic(auto, using(tl_lanes::proofs::Widths::width_4, tl_lanes::proofs::Widths::width_8, tl_lanes::proofs::Widths::width_16))]
 
 use crate::lending::holds_at;
@@ -9,7 +9,7 @@ use tl_msg::ChA;
 use tl_ring::{BuildFault, SyncPipe, ring_pair};
 use tl_sides::bridge;
 
-/// What is made over rings.
+/// The values that are made over rings.
 enum Made {
     Pipe,
     Ends,
@@ -33,7 +33,7 @@ fn refusal_of_sides(heap: &LocalHeap, ring: usize) -> Option<BuildFault> {
     bridge::<4, 16, &LocalHeap>(heap, ring).err()
 }
 
-/// Why this is not made over this heap, if it is not.
+/// Returns the fault of making this value over this heap, or `None` if it is made.
 fn refusal(made: &Made, heap: &LocalHeap, ring: usize) -> Option<BuildFault> {
     match made {
         Made::Pipe => refusal_of_pipe(heap, ring),
@@ -43,9 +43,10 @@ fn refusal(made: &Made, heap: &LocalHeap, ring: usize) -> Option<BuildFault> {
     }
 }
 
-/// What is made with rings of so many beats over heaps from none on, how many bytes more each has, how many
-/// heaps there are, and whether it is made over the last of them. A bridge and its sides have tables, which are
-/// the last growths and far greater than the rings.
+/// A row: the value that is made, the size of its rings in beats, the number of bytes that each
+/// heap has more than the one before, the number of heaps, and whether the value is made over the
+/// last of them. A bridge and its sides have tables, which are the last allocations and far larger
+/// than the rings.
 type Heaps = (Made, usize, usize, usize, bool);
 
 const HEAPS: [Heaps; 14] = [
@@ -55,7 +56,7 @@ const HEAPS: [Heaps; 14] = [
     (Made::Bridge, 16, 0x8000, 40, true),
     (Made::Sides, 16, 16, 4096, false),
     (Made::Sides, 16, 0x8000, 40, true),
-    // the smallest ring and the largest one are no wrong size
+    // the smallest ring and the largest one are valid sizes
     (Made::Pipe, 1, 0, 1, false),
     (Made::Pipe, 4096, 0, 1, false),
     (Made::Ends, 1, 0, 1, false),
@@ -66,13 +67,14 @@ const HEAPS: [Heaps; 14] = [
     (Made::Sides, 4096, 0, 1, false),
 ];
 
-/// Whether a ring of this size is refused for it.
+/// Returns whether making this value is refused because of its ring size.
 fn refuses_size(made: &Made, heap: &LocalHeap, ring: usize) -> bool {
     refusal(made, heap, ring) == Some(BuildFault::RingSize)
 }
 
-/// Whether there is no memory for this on a heap of so many bytes. None where another fault is answered, a ring has other
-/// than 1 to 4,096 beats, or not all of the heap is free in the end.
+/// Returns whether a heap of `bytes` bytes has too little memory for this value. Returns `None` if
+/// another fault is returned, the ring size is not 1 to 4,096, or not all of the heap is free at
+/// the end.
 fn is_refused(alloc: Global, made: &Made, ring: usize, bytes: usize) -> Option<bool> {
     let Ok(heap) = LocalHeap::new(alloc, bytes) else {
         return None;
@@ -89,7 +91,7 @@ fn is_refused(alloc: Global, made: &Made, ring: usize, bytes: usize) -> Option<b
     }
 }
 
-/// Whether each fault is OutOfMemory, but where it is made over the last heaps.
+/// Returns whether each heap gives OutOfMemory, except the last ones over which the value is made.
 fn are_refused(alloc: Global, heaps: &Heaps) -> bool {
     let (made, ring, more) = (&heaps.0, heaps.1, heaps.2);
     let (count, is_made) = (heaps.3, heaps.4);
@@ -104,8 +106,8 @@ fn are_refused(alloc: Global, heaps: &Heaps) -> bool {
     last != is_made
 }
 
-/// A heap hands out 16 bytes at least, so each ring is the growth that is refused at some size, and
-/// then each table at some greater one.
+/// A heap allocates at least 16 bytes at a time. So each ring is the allocation that fails at some
+/// size, and then each table at some larger one.
 #[test]
 fn each_refused_growth_is_out_of_memory(rt: HostRuntime) {
     for (number, heaps) in HEAPS.iter().enumerate() {

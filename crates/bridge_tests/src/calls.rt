@@ -3,14 +3,14 @@
 use tl_lanes::Mask;
 use tl_msg::{BeatFault, SideFault};
 
-/// What an offer is answered.
+/// The result of an offer.
 pub type Said = Result<(), SideFault>;
 
-/// What is done, and what comes of it.
+/// A call, and its expected result.
 pub enum Call {
-    /// The client offers a Get of 4 bytes from this address, and is answered so.
+    /// The client offers a Get of 4 bytes from this address, with this result.
     Asks(u64, Said),
-    /// The manager offers a response of this opcode and size with these lanes, and is answered so.
+    /// The manager offers a response of this opcode and size with these lanes, with this result.
     Answers(u8, u8, [u8; 16], Said),
     /// One beat is moved.
     ClientPumps,
@@ -25,12 +25,12 @@ pub enum Call {
     TakesNothing,
 }
 
-/// The bytes 88 to dd, of which the last four stand on the lanes of address 100c.
+/// The bytes 88 to dd, of which the last four are on the lanes of address 100c.
 const LANES: [u8; 16] = [
     0x88, 0x99, 0x00, 0x11, 0x22, 0x33, 0x44, 0x55, 0x66, 0x77, 0x88, 0x99, 0xaa, 0xbb, 0xcc, 0xdd,
 ];
 
-/// A request and its response, and a second request once that was taken.
+/// A request and its response, and a second request after the response was taken.
 pub const ANSWERED: [Call; 16] = [
     Call::Answers(3, 2, LANES, Err(SideFault::Beat(BeatFault::Opcode))),
     Call::Answers(1, 2, LANES, Err(SideFault::NoRequest)),

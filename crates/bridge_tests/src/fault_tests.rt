@@ -5,7 +5,7 @@ use tl_msg::{BeatFault, OutOfMemory, SideFault};
 use tl_ring::{BuildFault, EndFault};
 use tl_trace::{TraceFault, TraceKind};
 
-/// Whether a value is printed as this text.
+/// Returns whether a value is printed as this text.
 fn is_printed<T: Display>(alloc: Global, value: &T, text: &str) -> bool {
     match format!(in alloc; "{value}") {
         Ok(printed) => printed.as_str() == text,

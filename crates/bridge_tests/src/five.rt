@@ -15,7 +15,7 @@ B 7 2 6 00 0000000000000080 ff 0000000000000000 0
 A 7 2 6 01 0000000000000040 f 00000000 0
 ";
 
-/// A script of no beat.
+/// Returns a script without beats.
 pub fn empty<const C: usize, const M: usize>(alloc: Global) -> Script<C, M> {
     Script {
         a: Vec::new(alloc),
@@ -26,7 +26,7 @@ pub fn empty<const C: usize, const M: usize>(alloc: Global) -> Script<C, M> {
     }
 }
 
-/// Whether each list has one beat.
+/// Returns whether each list has one beat.
 pub fn has_one_each(script: &Script<4, 8>) -> bool {
     (script.a.len() == 1)
         & (script.b.len() == 1)
@@ -35,7 +35,7 @@ pub fn has_one_each(script: &Script<4, 8>) -> bool {
         & (script.e.len() == 1)
 }
 
-/// Whether each list has at most 4,096 beats.
+/// Returns whether each list has at most 4,096 beats.
 pub fn is_short<const C: usize, const M: usize>(script: &Script<C, M>) -> bool
     ensures { IsTrue result → HasShortLists script.now }
 {
@@ -52,13 +52,13 @@ const HEADER: Header = Header {
     manager: 8,
 };
 
-/// What is answered where the text has another header, or its script is long.
+/// The fault that is returned if the text has another header, or its script is too long.
 const OTHER: TraceFault = TraceFault {
     line: 1,
     kind: TraceKind::Header,
 };
 
-/// The script that [`FIVE`] is read into.
+/// Returns the script of [`FIVE`].
 pub fn script_of_five(alloc: Global) -> Result<Script<4, 8>, TraceFault>
     ensures { IfOk result HasShortLists }
 {

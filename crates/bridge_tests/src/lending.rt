@@ -1,10 +1,10 @@
-//! Values that are made for a test, lent to it and let go. (Of any type, since a function that itself holds a bridge is dear to check.)
-//! And how a test tells what failed.
+//! Values that are made for a test, lent to it and discarded. (The functions are generic, because a
+//! function that itself holds a bridge is expensive to check.) Also the report of a failed test.
 
 use std::process::Abort;
 use std::test::Fail;
 
-/// Whether the value was made, and a test that it is lent to passes.
+/// Returns whether the value was made, and a test that borrows it passes.
 pub fn lent<T: Drop, E: Drop, F: FnOnce(&mut T) -> bool>(made: Result<T, E>, test: F) -> bool
     requires { F.IsAlwaysCallable test }
 {
@@ -14,7 +14,7 @@ pub fn lent<T: Drop, E: Drop, F: FnOnce(&mut T) -> bool>(made: Result<T, E>, tes
     }
 }
 
-/// Whether the value was made, and what is wanted comes of each of these steps.
+/// Returns whether the value was made, and each of these steps has its expected result.
 pub fn come_of<T: Drop, E: Drop, S, F: FnMut(&mut T, &S) -> bool>(
     made: Result<T, E>,
     mut play: F,
@@ -34,19 +34,20 @@ pub fn come_of<T: Drop, E: Drop, S, F: FnMut(&mut T, &S) -> bool>(
     }
 }
 
-/// Lets two values go, with all that they hold.
+/// Discards two values, with everything that they hold.
 pub fn let_both_go<S: Drop, T: Drop>(one: S, other: T) {
     drop(one);
     drop(other);
 }
 
-/// Ends the test where this is not so, and names the row, or the call that fails. (Here alone, since a text that is put together is dear
-/// to check.)
+/// Ends the test if this is false, and names the row, or the call that fails. (Only here, because
+/// formatting a text is expensive to check.)
 pub fn holds_at<R: Abort>(rt: &R, is_so: bool, row: usize) {
     assert!(rt; is_so, "row {row}");
 }
 
-/// What a test answers that passes where this is so, or else fails with the fault that kept it from being told.
+/// Returns the result of a test: passed if this is true, and otherwise failed, or failed with the
+/// fault that prevented a result.
 pub fn passes(is_so: Result<bool, Fail>) -> Result<(), Fail> {
     match is_so {
         Ok(true) => Ok(()),

@@ -1,6 +1,7 @@
-//! Tests of lanes, messages, bursts, the converter and traces, of the crossing, from one channel's pipe and ends to
-//! both sides of the bridge and the runs of a script, and of parts of the program, in a crate of their own: a crate
-//! with tests is proved twice, and each spends half a minute on loading alone.
+//! Tests of lanes, messages, bursts, the converter and traces, of the crossing, from one channel's
+//! pipe and ends to both sides of the bridge and the runs of a script, and of parts of the program,
+//! in a crate of their own. A crate with tests is proved twice, and each proof spends half a minute
+//! only on loading.
 #![tactic(auto)]
 
 #[cfg(test)]
@@ -35,11 +36,11 @@ use tl_msg::ChA;
 use tl_ring::{SendEnd, SyncPipe};
 use tl_sides::{ClientSide, ManagerSide};
 
-/// Does nothing, for a type whose values can be let go.
+/// Does nothing, for a type whose values can be dropped.
 fn can_be_let_go<T: Drop>() {}
 
-/// Names the largest types whose values the tests let go. What lets them go has answers in `proofs/`, and a check without
-/// the tests refuses those of a function that is not there.
+/// Names the largest types whose values the tests drop. Dropping them has proofs in `proofs/`, and
+/// a check without the tests refuses proofs of a function that does not exist.
 pub fn name_what_is_let_go() {
     can_be_let_go::<SyncBridge<4, 16>>();
     can_be_let_go::<ClientSide<4, 16>>();

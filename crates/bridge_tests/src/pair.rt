@@ -1,2 +1,3 @@
 //! Tests of the two sides of the bridge, each for a thread of its own.
+mod receipt_tests;
 mod side_tests;

@@ -8,12 +8,12 @@ use std::alloc::Global;
 use tl_bridge::{Standings, SyncBridge};
 use tl_msg::{HeadB, HeadC, HeadE};
 
-/// Whether a Get of source 11 from this address is offered, and answered so.
+/// Returns whether a Get of source 11 from this address is offered, with this result.
 fn asks(bridge: &mut SyncBridge<4, 16>, address: u64, said: &Said) -> bool {
     bridge.ready_a() && bridge.offer_a(get(0x11, address, 0xf)) == *said
 }
 
-/// Whether a response to source 11 is offered, and answered so.
+/// Returns whether a response to source 11 is offered, with this result.
 fn answers(
     bridge: &mut SyncBridge<4, 16>,
     opcode: u8,
@@ -24,7 +24,7 @@ fn answers(
     bridge.ready_d() && bridge.offer_d(data(opcode, size, 0x11, *lanes)) == *said
 }
 
-/// Whether that comes of a call.
+/// Returns whether a call has its expected result.
 fn play(bridge: &mut SyncBridge<4, 16>, call: &Call) -> bool {
     match call {
         Call::Asks(address, said) => asks(bridge, *address, said),
@@ -37,27 +37,27 @@ fn play(bridge: &mut SyncBridge<4, 16>, call: &Call) -> bool {
     }
 }
 
-/// Whether that comes of these calls over rings of so many beats.
+/// Returns whether these calls have their expected results over rings of `ring` beats.
 fn calls_come_of(alloc: Global, ring: usize, calls: &[Call]) -> bool {
     come_of(SyncBridge::new(alloc, ring), play, calls)
 }
 
-/// Whether a Get of source 1 from this address is offered between buses of 4 bytes.
+/// Returns whether a Get of source 1 from this address is accepted between buses of 4 bytes.
 fn asks_across(bridge: &mut SyncBridge<4, 4>, address: u64) -> bool {
     bridge.ready_a() && bridge.offer_a(get(1, address, 0xf)).is_ok()
 }
 
-/// Whether a response to it, of 4 bytes like this one, is offered.
+/// Returns whether a response to it, of 4 bytes like this one, is accepted.
 fn answers_across(bridge: &mut SyncBridge<4, 4>, byte: u8) -> bool {
     bridge.ready_d() && bridge.offer_d(data(1, 2, 1, [byte; 4])).is_ok()
 }
 
-/// Whether one beat is moved.
+/// Returns whether one beat is moved.
 fn moves_one(bridge: &mut SyncBridge<4, 4>) -> bool {
     (bridge.pump() == 1) & (bridge.fetch() == 1)
 }
 
-/// Whether both cross.
+/// Returns whether the request and its response both cross.
 fn ask_and_answer(bridge: &mut SyncBridge<4, 4>, address: u64, byte: u8) -> bool {
     let is_there = asks_across(bridge, address) & moves_one(bridge);
     let is_taken = bridge.take_a() == Some(get(1, address, 0xf));
@@ -65,12 +65,12 @@ fn ask_and_answer(bridge: &mut SyncBridge<4, 4>, address: u64, byte: u8) -> bool
     is_there & is_taken & is_back & (bridge.take_d() == Some(data(1, 2, 1, [byte; 4])))
 }
 
-/// Whether source 1 asks and is answered twice.
+/// Returns whether source 1 sends two requests and receives two responses.
 fn both_cross_twice(bridge: &mut SyncBridge<4, 4>) -> bool {
     ask_and_answer(bridge, 0, 0x11) & ask_and_answer(bridge, 4, 0x22)
 }
 
-/// Also of a source that is used twice, and of one between equal widths.
+/// Also for a source that is used twice, and between equal widths.
 #[test]
 fn a_request_and_its_response(rt: HostRuntime) {
     let come = calls_come_of(rt.alloc(), 4, &ANSWERED) & calls_come_of(rt.alloc(), 1, &TWICE);
@@ -95,7 +95,7 @@ const PROBE_ACK: HeadC = HeadC {
 
 const GRANT_ACK: HeadE = HeadE { sink: 7 };
 
-/// Offers a beat of B, one of C and one of E, and answers whether they were accepted.
+/// Offers a beat of B, one of C and one of E. Returns whether they were accepted.
 fn all_offered(bridge: &mut SyncBridge<4, 16>) -> bool {
     if !(bridge.ready_b() & bridge.ready_c() & bridge.ready_e()) {
         return false;
@@ -105,14 +105,14 @@ fn all_offered(bridge: &mut SyncBridge<4, 16>) -> bool {
         & bridge.offer_e(blank(GRANT_ACK, 0)).is_ok()
 }
 
-/// Whether these three are taken.
+/// Returns whether these three are taken.
 fn all_taken(bridge: &mut SyncBridge<4, 16>) -> bool {
     (bridge.take_b() == Some(blank(PROBE, 0xf)))
         & (bridge.take_c() == Some(blank(PROBE_ACK, 0)))
         & (bridge.take_e() == Some(blank(GRANT_ACK, 0)))
 }
 
-/// Closes each channel, and answers whether it was closed, and not ready then.
+/// Closes each channel. Returns whether each was closed, and is then not ready.
 fn closes_each(bridge: &mut SyncBridge<4, 16>) -> bool {
     let a = bridge.close_a().is_ok() & !bridge.ready_a();
     let b = bridge.close_b().is_ok() & !bridge.ready_b();
@@ -122,7 +122,7 @@ fn closes_each(bridge: &mut SyncBridge<4, 16>) -> bool {
     a & b & c & d & e
 }
 
-/// Whether these three cross, no channel has a beat then, and each closes.
+/// Returns whether these three cross, no channel has a beat afterwards, and each closes.
 fn cross_and_close(bridge: &mut SyncBridge<4, 16>) -> bool {
     let is_moved = all_offered(bridge) & (bridge.pump() == 3) & (bridge.fetch() == 3);
     let is_there = bridge.standings().c.inbox == 1;

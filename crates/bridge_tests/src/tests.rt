@@ -4,7 +4,7 @@ use tl_bridge::laws::{every_run, one_settled_state, steps_are_admitted};
 use tl_bridge::{Request, RequestTable, SourceTable};
 use tl_msg::OutOfMemory;
 
-/// Whether a table tells three sources apart, of which two begin and one ends.
+/// Returns whether a table distinguishes three sources, of which two begin and one ends.
 fn notes_sources(table: &mut SourceTable) -> bool {
     let is_free = !table.busy(0x0107);
     table.begin(0x0107);
@@ -25,12 +25,13 @@ const SECOND: Request = Request {
     address: u64::MAX - 63,
 };
 
-/// The requests of three sources.
+/// Returns the requests of three sources.
 fn three_requests(table: &RequestTable) -> [Option<Request>; 3] {
     [table.get(0x0111), table.get(0xffff), table.get(0x0011)]
 }
 
-/// Whether a table tells three sources apart, of which two ask, one of them twice, and that one ends.
+/// Returns whether a table distinguishes three sources: two of them send requests, one of these
+/// twice, and that one ends.
 fn notes_requests(table: &mut RequestTable) -> bool {
     let is_free = table.get(0x0111) == None;
     table.begin(0x0111, FIRST);
@@ -50,7 +51,7 @@ fn sources_in_use_and_requests_that_wait(rt: HostRuntime) {
     assert!(rt; are_sources & lent(RequestTable::new(rt.alloc()), notes_requests));
 }
 
-/// Whether there is no memory for a table of this kind.
+/// Returns whether there is no memory for a table of this kind.
 fn has_no_sources(heap: &LocalHeap) -> bool {
     SourceTable::new(heap).err() == Some(OutOfMemory)
 }
@@ -59,8 +60,8 @@ fn has_no_requests(heap: &LocalHeap) -> bool {
     RequestTable::new(heap).err() == Some(OutOfMemory)
 }
 
-/// Whether two tables take as many bytes as that, there is no memory for a third one, of either kind, none is lost by
-/// asking, and none is taken once they are gone.
+/// Returns whether two tables allocate this number of bytes, there is no memory for a third one of
+/// either kind, a failed allocation loses none, and all of it is free after they are dropped.
 fn take_their_memory(heap: &LocalHeap) -> bool {
     let sources = SourceTable::new(heap);
     let has_sources = sources.is_ok() & (heap.used() == 1 << 16);
@@ -71,14 +72,16 @@ fn take_their_memory(heap: &LocalHeap) -> bool {
     has_sources & has_both & has_no_third & (heap.used() == 0)
 }
 
-/// A table of sources takes a byte for each of the 65,536 sources, and one of requests 16 bytes.
+/// A table of sources allocates one byte for each of the 65,536 sources, and a table of requests 16
+/// bytes.
 #[test]
 fn tables_take_their_memory_at_once(rt: HostRuntime) {
     let heap = LocalHeap::new(rt.alloc(), 17 << 16).expect(&rt, "there is memory");
     assert!(rt; take_their_memory(&heap));
 }
 
-/// A heap hands out 16 bytes at least: it has none for a table that lacks but a few.
+/// A heap allocates at least 16 bytes at a time. So an allocation fails even if only a few bytes
+/// are missing.
 #[test]
 fn tables_without_memory(rt: HostRuntime) {
     let small = LocalHeap::new(rt.alloc(), (1 << 16) - 16).expect(&rt, "there is memory");

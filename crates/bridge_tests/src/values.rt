@@ -1,10 +1,10 @@
-//! Beats and standings that several tests name.
+//! Beats and standings that several tests use.
 
 use tl_lanes::Mask;
 use tl_msg::{Beat, BeatOf, ChD, HeadA, HeadD, HeadE, SinkId, SourceId};
 use tl_ring::Standing;
 
-/// A beat whose lanes are zero.
+/// Returns a beat whose lanes are zero.
 pub fn blank<H, const W: usize>(head: H, mask: Mask) -> BeatOf<H, W> {
     BeatOf {
         head,
@@ -14,7 +14,7 @@ pub fn blank<H, const W: usize>(head: H, mask: Mask) -> BeatOf<H, W> {
     }
 }
 
-/// Get of 4 bytes.
+/// Returns a Get of 4 bytes.
 pub fn get<const W: usize>(source: SourceId, address: u64, mask: Mask) -> BeatOf<HeadA, W> {
     let head = HeadA {
         opcode: 4,
@@ -26,7 +26,7 @@ pub fn get<const W: usize>(source: SourceId, address: u64, mask: Mask) -> BeatOf
     blank(head, mask)
 }
 
-/// A beat of a response with data, of 2 to the power `size` bytes.
+/// Returns a beat of a response with data, of 2 to the power of `size` bytes.
 pub fn data<const W: usize>(
     opcode: u8,
     size: u8,
@@ -48,7 +48,7 @@ pub fn data<const W: usize>(
     }
 }
 
-/// A beat of PutFullData of 2 to the power of `size` bytes.
+/// Returns a beat of PutFullData of 2 to the power of `size` bytes.
 pub fn put<const W: usize>(size: u8, address: u64, mask: Mask, lanes: [u8; W]) -> BeatOf<HeadA, W> {
     BeatOf {
         head: HeadA {
@@ -64,12 +64,12 @@ pub fn put<const W: usize>(size: u8, address: u64, mask: Mask, lanes: [u8; W]) -
     }
 }
 
-/// A beat of GrantAck.
+/// Returns a beat of GrantAck.
 pub fn ack(sink: SinkId) -> BeatOf<HeadE, 4> {
     blank(HeadE { sink }, 0)
 }
 
-/// So many beats in the stage, in the ring and in the inbox.
+/// Returns these numbers of beats in the stage, in the ring and in the inbox.
 pub fn at(staged: usize, in_ring: usize, inbox: usize) -> Standing {
     Standing {
         staged,

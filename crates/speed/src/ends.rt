@@ -1,5 +1,5 @@
-//! Measures one crossing between its two ends, in one thread and in two, beside plain `rtrb`, which moves the same beats by the same
-//! slices.
+//! Measures one crossing between its two ends, in one thread and in two, and a plain `rtrb` ring
+//! that moves the same beats in the same slices.
 ghost use Rattle.tl_lanes.specs.Lanes.{IsWidth};
 
 use crate::figures::Figures;
@@ -9,9 +9,10 @@ use std::slice;
 use std::thread::{Threads, join};
 use tl_lanes::{Mask, active, is_width};
 use tl_msg::{Beat, BeatOf, ChA, ChE, Channel, HeadA, SinkId};
-use tl_ring::{ROOM, SendEnd, TakeEnd, ring_pair};
+use tl_ring::{STAGE_CAPACITY, SendEnd, TakeEnd, ring_pair};
 
-/// The names of the figures of a crossing and of a plain ring, in their order; and their places.
+/// The names of the figures of a crossing and of a plain ring, in their order. Their positions
+/// follow.
 pub const OF_ENDS: [&str; 5] = [
     "beats",
     "crossing_one_thread",
@@ -22,31 +23,32 @@ pub const OF_ENDS: [&str; 5] = [
 
 const BEATS: usize = 0;
 
-/// The places of the times of a pair of ends: those of one thread, and of two.
+/// The positions of the times of a pair of ends: in one thread, and in two.
 type Places = (usize, usize);
 
 const CROSSING: Places = (1, 2);
 
 const PLAIN: Places = (3, 4);
 
-/// How many beats stand in memory, which are sent over and over: whole messages.
+/// The number of beats in memory, which are sent repeatedly. They are whole messages.
 const SOME: usize = 64;
 
-/// A side gives up after so many turns.
+/// The number of turns after which a side gives up.
 const TURNS: usize = 1 << 40;
 
 /// The sending end of a ring.
 trait Sender<B> {
-    /// Takes a beat in where it can. Answers whether it was taken in.
+    /// Accepts a beat if possible. Returns whether it was accepted.
     fn offer(&mut self, beat: &B) -> bool;
 
-    /// Sends what it can of what was taken in. Answers whether nothing of it is left.
+    /// Sends as many accepted beats as possible. Returns whether all of them are sent.
     fn pump(&mut self) -> bool;
 }
 
-/// The taking end of a ring.
+/// The receiving end of a ring.
 trait Taker {
-    /// Takes all that it finds, and answers how many beats that were. Each one's mask is added to the sum, so that it is read.
+    /// Takes all beats that have arrived. Returns their number. Adds the mask of each to the sum,
+    /// so that the beat is read.
     fn take(&mut self, masks: &mut Mask) -> usize;
 }
 
@@ -95,7 +97,7 @@ impl<H: Copy, const W: usize> Sender<BeatOf<H, W>> for Producer<BeatOf<H, W>, Gl
     }
 }
 
-/// The taking end of a plain ring, with room for the beats that one call takes.
+/// The receiving end of a plain ring, with a buffer for the beats that one call takes.
 #[derive(Drop)]
 struct PlainTaker<B: Copy> {
     end: Consumer<B, Global>,
@@ -112,18 +114,19 @@ impl<H: Copy, const W: usize> Taker for PlainTaker<BeatOf<H, W>> {
     }
 }
 
-/// Both ends of a plain ring of so many beats such as this one.
+/// Creates both ends of a plain ring of `ring` beats. `beat` fills the buffer.
 fn plain_pair<B: Copy>(
     alloc: Global,
     ring: usize,
     beat: B,
 ) -> Result<(Producer<B, Global>, PlainTaker<B>), AllocError> {
-    let room = vec![in alloc; beat; ROOM]?;
+    let room = vec![in alloc; beat; STAGE_CAPACITY]?;
     let (producer, end) = RingBuffer::new(alloc, ring)?;
     Ok((producer, PlainTaker { end, room }))
 }
 
-/// Offers the beat of this number, and sends what can be sent. Answers whether the beat was taken in.
+/// Offers beat number `number`, and sends as many beats as possible. Returns whether the beat was
+/// accepted.
 fn send_next<S: Sender<B>, B>(sender: &mut S, beats: &[B], number: usize) -> bool {
     let accepted = match beats.get(number % SOME) {
         Some(beat) => sender.offer(beat),
@@ -133,7 +136,7 @@ fn send_next<S: Sender<B>, B>(sender: &mut S, beats: &[B], number: usize) -> boo
     accepted
 }
 
-/// Sends so many beats.
+/// Sends `count` beats.
 fn send_all<S: Sender<B>, B>(sender: &mut S, beats: &[B], count: usize) {
     let mut sent = 0;
     for _ in 0..TURNS {
@@ -147,7 +150,7 @@ fn send_all<S: Sender<B>, B>(sender: &mut S, beats: &[B], count: usize) {
     }
 }
 
-/// Takes so many beats, and answers the sum of their masks.
+/// Takes `count` beats. Returns the sum of their masks.
 fn take_all<T: Taker>(taker: &mut T, count: usize) -> Mask {
     let (mut left, mut masks) = (count, 0);
     for _ in 0..TURNS {
@@ -159,8 +162,8 @@ fn take_all<T: Taker>(taker: &mut T, count: usize) -> Mask {
     masks
 }
 
-/// Sends so many beats and takes them, in one thread: where no more are taken in, all that is there is taken. Answers the sum of
-/// their masks.
+/// Sends and takes `count` beats in one thread: whenever no more are accepted, takes all that have
+/// arrived. Returns the sum of their masks.
 fn send_and_take<S: Sender<B>, T: Taker, B>(
     sender: &mut S,
     taker: &mut T,
@@ -182,7 +185,8 @@ fn send_and_take<S: Sender<B>, T: Taker, B>(
     masks
 }
 
-/// Sends so many beats from a sender to a taker, in one thread and then in two, which run free. Both passes are timed.
+/// Sends `count` beats from a sender to a receiver, in one thread and then in two that run freely.
+/// Times both passes.
 fn measure_pair<S: Sender<B> + Send + Drop, T: Taker + Send + Drop, B: Sync>(
     rt: &HostRuntime,
     threads: &impl Threads,
@@ -203,11 +207,11 @@ fn measure_pair<S: Sender<B> + Send + Drop, T: Taker + Send + Drop, B: Sync>(
     );
     figures.lap(rt, places.1);
     if one != two {
-        figures.refuse("the two passes took other beats");
+        figures.refuse("the two passes took different beats");
     }
 }
 
-/// Sends so many beats through a plain ring.
+/// Sends `count` beats through a plain ring.
 fn measure_plain<H: Copy + Send + Sync, const W: usize>(
     rt: &HostRuntime,
     threads: &impl Threads,
@@ -218,12 +222,12 @@ fn measure_plain<H: Copy + Send + Sync, const W: usize>(
 ) {
     match plain_pair(rt.alloc(), ring, beats[0]) {
         Ok(ends) => measure_pair(rt, threads, PLAIN, ends, beats, count, figures),
-        Err(_) => figures.refuse("there is no such ring"),
+        Err(_) => figures.refuse("a plain ring of this size cannot be made"),
     }
 }
 
-/// A PutFullData of 64 bytes on a bus of `W` bytes, or of as many as a wider bus has: each of its beats, with
-/// this byte on all lanes.
+/// Returns one beat of a PutFullData with `byte` on all lanes. The message has 64 bytes, or 128 on
+/// a bus of 128 bytes.
 fn request<const W: usize>(byte: u8) -> Beat<ChA, W>
     requires { IsWidth W }
 {
@@ -262,7 +266,7 @@ fn number_acks(beats: &mut [Beat<ChE, 8>]) {
     }
 }
 
-/// Sends so many beats of requests through a crossing, and through a plain ring of as many places.
+/// Sends `count` beats of requests through a crossing, and through a plain ring of the same size.
 fn measure_requests<const W: usize>(
     rt: &HostRuntime,
     threads: &impl Threads,
@@ -279,11 +283,11 @@ fn measure_requests<const W: usize>(
             measure_pair(rt, threads, CROSSING, ends, &beats, count, figures);
             measure_plain(rt, threads, &beats, ring, count, figures);
         }
-        Err(_) => figures.refuse("there is no crossing over such a ring"),
+        Err(_) => figures.refuse("a crossing with a ring of this size cannot be made"),
     }
 }
 
-/// Sends so many GrantAcks through a crossing, and through a plain ring of as many places.
+/// Sends `count` GrantAcks through a crossing, and through a plain ring of the same size.
 #[tactic(auto, using(tl_lanes::proofs::Widths::width_8))]
 fn measure_acks(
     rt: &HostRuntime,
@@ -299,12 +303,12 @@ fn measure_acks(
             measure_pair(rt, threads, CROSSING, ends, &beats, count, figures);
             measure_plain(rt, threads, &beats, ring, count, figures);
         }
-        Err(_) => figures.refuse("there is no crossing over such a ring"),
+        Err(_) => figures.refuse("a crossing with a ring of this size cannot be made"),
     }
 }
 
-/// Sends so many beats of a channel through a ring of `ring` beats, four times: between both ends in one thread and in two, and
-/// through plain `rtrb` likewise. Each pass is timed.
+/// Sends `count` beats of a channel through a ring of `ring` beats: through a crossing, and through
+/// a plain `rtrb` ring, each in one thread and then in two. Times each pass.
 #[tactic(auto, using(tl_lanes::proofs::Widths::width_8, tl_lanes::proofs::Widths::width_64, tl_lanes::proofs::Widths::width_128))]
 pub fn measure(
     rt: &HostRuntime,

@@ -1,8 +1,9 @@
-//! What was measured: figures by name, and the times and the memory among them.
+//! The measured figures by name, including times and memory.
 use std::fs;
 use std::time::Instant;
 
-/// Figures by their place; or why there are none. Time is counted from the last start.
+/// Figures by their position, or the reason why there are none. Time is counted from the last
+/// start.
 #[derive(Drop)]
 pub struct Figures {
     numbers: [u128; 7],
@@ -10,7 +11,7 @@ pub struct Figures {
     start: Option<Instant>,
 }
 
-/// The most memory that a process has had so far, in KiB, by the text of its status.
+/// Returns the peak memory of a process in KiB, from the text of its status file.
 fn peak_of(status: &str) -> u128 {
     let Some((_, after)) = status.split_once("VmHWM:") else {
         return 0;
@@ -20,7 +21,7 @@ fn peak_of(status: &str) -> u128 {
 }
 
 impl Figures {
-    /// Figures that are 0.
+    /// Creates figures that are all 0.
     pub fn new() -> Figures {
         Figures {
             numbers: [0; 7],
@@ -29,24 +30,24 @@ impl Figures {
         }
     }
 
-    /// Notes that nothing can be measured, and why.
+    /// Records that nothing can be measured, and why.
     pub fn refuse(&mut self, fault: &'static str) {
         self.fault = Some(fault);
     }
 
-    /// Adds to the figure at this place.
+    /// Adds to the figure at this position.
     pub fn add(&mut self, place: usize, number: u128) {
         if let Some(sum) = self.numbers.get_mut(place) {
             *sum = sum.saturating_add(number);
         }
     }
 
-    /// Counts time from this moment.
+    /// Starts counting time.
     pub fn start(&mut self, rt: &HostRuntime) {
         self.start = Instant::now(rt).ok();
     }
 
-    /// Adds the nanoseconds since the start, 0 where the clock cannot be read, and starts again.
+    /// Adds the nanoseconds since the start, or 0 if the clock cannot be read, and starts again.
     pub fn lap(&mut self, rt: &HostRuntime, place: usize) {
         let nanos = match (self.start, Instant::now(rt)) {
             (Some(start), Ok(end)) => end.duration_since(start).as_nanos(),
@@ -56,7 +57,7 @@ impl Figures {
         self.start(rt);
     }
 
-    /// Adds the most memory that the process has had so far, in KiB.
+    /// Adds the peak memory of this process so far, in KiB.
     pub fn add_peak(&mut self, rt: &HostRuntime, place: usize) {
         match fs::read_to_string(rt, "/proc/self/status") {
             Ok(status) => self.add(place, peak_of(&status)),
@@ -64,7 +65,7 @@ impl Figures {
         }
     }
 
-    /// Prints the figure of this name and place. Answers whether it could.
+    /// Prints the figure with this name and position. Returns whether it was printed.
     fn print_one(&self, rt: &HostRuntime, name: &str, place: usize) -> bool {
         match self.numbers.get(place) {
             Some(number) => println!(rt; "{name} {number}").is_ok(),
@@ -72,7 +73,8 @@ impl Figures {
         }
     }
 
-    /// Prints the figures of these names, a line each, or why there are none. Answers whether all are printed.
+    /// Prints the figures with these names, one on each line, or the reason why there are none.
+    /// Returns whether all were printed.
     pub fn print(&self, rt: &HostRuntime, names: &[&str]) -> bool {
         if let Some(fault) = self.fault {
             let _ = eprintln!(rt; "{fault}");

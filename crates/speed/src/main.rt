@@ -1,12 +1,16 @@
-//! Measures reading, conversion and writing of traces, and one crossing between its two ends. `bench/run` runs it, over traces that
-//! `bench/make-bursts` makes. Whole runs are measured as processes of `tlbridge`, by `bench/programs`.
+//! Measures reading, conversion and writing of traces, and one crossing between its two ends.
+//! `bench/run` runs it on traces that `bench/make-bursts` makes. `bench/programs` measures whole
+//! runs as processes of `tlbridge`.
 //!
-//! - `speed measure` reads a trace of A or E lines on standard input. It prints what it measured: on each line a name and a number,
-//!   a time in nanoseconds, a peak of memory in KiB or a count. `speed pass` measures plain passes over such a text.
-//! - `speed ends CHANNEL WIDTH RING BEATS` sends so many beats of A or E through the two ends of a crossing at equal widths, and
-//!   through plain `rtrb`, in one thread and in two. What it prints is like that of `measure`.
+//! - `speed measure` reads a trace of A or E lines from standard input. Each line of its output is
+//!   a name and a number: a time in nanoseconds, a peak of memory in KiB or a count. `speed pass`
+//!   measures plain passes over such a text.
+//! - `speed ends CHANNEL WIDTH RING BEATS` sends `BEATS` beats of A or E through the two ends of a
+//!   crossing at equal widths, and through a plain `rtrb` ring, in one thread and in two. Its
+//!   output is like that of `measure`.
 //!
-//! A word that should be a number and is none, or is missing, counts as 0. Where nothing can be measured, it says why and ends with 1.
+//! A word that should be a number and is not, or is missing, counts as 0. If nothing can be
+//! measured, the program prints the reason and ends with status 1.
 #![tactic(auto)]
 
 mod ends;
@@ -18,7 +22,7 @@ use std::process::ExitCode;
 use std::thread::Threads;
 use std::{env, io};
 
-/// The word at this place; an empty one behind the last.
+/// Returns the word at this position, or an empty one after the last.
 fn word_at(words: &[String], at: usize) -> &str {
     match words.get(at) {
         Some(word) => word.as_str(),
@@ -26,12 +30,12 @@ fn word_at(words: &[String], at: usize) -> &str {
     }
 }
 
-/// The number that the word at this place is.
+/// Returns the number at this position, or 0.
 fn number_at(words: &[String], at: usize) -> usize {
     word_at(words, at).parse().unwrap_or(0)
 }
 
-/// The names of the figures that this word of the command line asks for, in their order.
+/// Returns the names of the figures that the first word asks for, in their order.
 fn names_of(word: &str) -> &'static [&'static str] {
     match word {
         "pass" => &measure::OF_PASS,
@@ -41,14 +45,14 @@ fn names_of(word: &str) -> &'static [&'static str] {
     }
 }
 
-/// Says which words there are.
+/// Prints the usage.
 fn print_usage(rt: &HostRuntime) {
     let _ = println!(rt;
-        "usage: speed ends A|E WIDTH RING BEATS, or one of pass and measure < TRACE"
+        "usage: speed ends A|E WIDTH RING BEATS, speed measure < TRACE, or speed pass < TRACE"
     );
 }
 
-/// Measures what the words of the command line ask for, behind the program's own name.
+/// Measures what the words of the command line ask for, after the program's own name.
 fn measure_by(rt: &HostRuntime, threads: &impl Threads, words: &[String], figures: &mut Figures) {
     let (width, ring, count) = (
         number_at(words, 3),

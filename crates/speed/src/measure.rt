@@ -13,10 +13,10 @@ use tl_msg::{Beat, ChA, ChE};
 use tl_stream::{Input, MAX_BYTES, script_of_input};
 use tl_trace::{HeadText, Script, header_of_text, write_far};
 
-/// How many near beats are converted before the lines of their far beats are written.
+/// The number of near beats that are converted before the lines of their far beats are written.
 const AT_ONCE: usize = 64;
 
-/// The names of a pass's figures, in their order; and their places.
+/// The names of the figures of a pass, in their order. Their positions follow.
 pub const OF_PASS: [&str; 4] = ["whole", "count", "bytes", "lines"];
 
 const WHOLE: usize = 0;
@@ -27,7 +27,7 @@ const BYTES: usize = 2;
 
 const LINES: usize = 3;
 
-/// The names of a trace's figures, in their order; and their places.
+/// The names of the figures of a trace, in their order. Their positions follow.
 pub const OF_TRACE: [&str; 7] = [
     "read",
     "peak",
@@ -52,7 +52,7 @@ const FAR_BEATS: usize = 5;
 
 const FAR_BYTES: usize = 6;
 
-/// How many LFs a text has.
+/// Returns the number of LFs in a text.
 fn line_ends(text: &[u8]) -> usize {
     let mut count: usize = 0;
     for byte in text {
@@ -61,10 +61,10 @@ fn line_ends(text: &[u8]) -> usize {
     count
 }
 
-/// Takes all of standard input into memory, and counts its LFs: plain passes, to compare with.
+/// Reads all of standard input into memory and counts its LFs, as plain passes for comparison.
 pub fn pass(rt: &HostRuntime, reader: &mut Stdin, figures: &mut Figures) {
     let Ok(mut text) = Vec::with_capacity(rt.alloc(), MAX_BYTES) else {
-        return figures.refuse("there is no memory for the text");
+        return figures.refuse("out of memory: the text does not fit");
     };
     figures.start(rt);
     if reader.read_to_end(&mut text).is_err() {
@@ -77,14 +77,16 @@ pub fn pass(rt: &HostRuntime, reader: &mut Stdin, figures: &mut Figures) {
     figures.add(LINES, lines as u128);
 }
 
-/// A channel whose conversion is measured. (What is generic in a trait of this crate owes the checker no sizes behind references.)
+/// A channel whose conversion is measured. (Functions that are generic in a trait of this crate
+/// need no proof of the sizes behind references.)
 trait Measured: HeadText {}
 
 impl Measured for ChA {}
 
 impl Measured for ChE {}
 
-/// Feeds near beats to a converter, and appends the far beats that they give. Answers whether all were fed.
+/// Feeds near beats to a converter, and appends the far beats that they complete. Returns whether
+/// all were fed.
 fn convert<K: Measured, const W: usize, const V: usize>(
     converter: &mut Converter<K, W, V>,
     given: &mut ArrayVec<Beat<K, V>, WIDEST>,
@@ -131,8 +133,9 @@ fn convert_some<K: Measured, const W: usize, const V: usize>(
     }
 }
 
-/// Converts the beats of a channel, whole messages, and writes the lines of their far beats: some at a time, so that far beats stand
-/// in memory that was used before. The lines are written behind one another.
+/// Converts the beats of a channel, which are whole messages, and writes the lines of their far
+/// beats one after the other. It converts a few at a time, so that far beats go into memory that
+/// was used before.
 fn convert_and_write<K: Measured, const W: usize, const V: usize>(
     rt: &HostRuntime,
     converter: &mut Converter<K, W, V>,
@@ -153,7 +156,7 @@ fn convert_and_write<K: Measured, const W: usize, const V: usize>(
     figures.add(FAR_BYTES, text.len() as u128);
 }
 
-/// The version of a trace between these widths, by its first line.
+/// Returns the version of a trace between these widths, from its first line.
 fn version_between(text: &[u8], client: usize, manager: usize) -> Option<u8>
     ensures { IfSome result (λ version. IsWidth client × IsWidth manager × HasHeader text.now version client manager) }
 {
@@ -167,7 +170,8 @@ fn version_between(text: &[u8], client: usize, manager: usize) -> Option<u8>
     }
 }
 
-/// Adds what it took to read a script, converts its beats of A, or of E where there is none of A, and writes the far ones.
+/// Adds the time and memory of reading a script. Then converts its beats of A, or of E if it has
+/// none of A, and writes the far beats.
 fn measure_script<const C: usize, const M: usize>(
     rt: &HostRuntime,
     script: &Script<C, M>,
@@ -189,8 +193,8 @@ fn measure_script<const C: usize, const M: usize>(
     }
 }
 
-/// Reads a trace between these widths piece by piece, as the program does, converts its beats of A, or of E where it has none of A,
-/// and writes the far ones.
+/// Reads a trace between these widths incrementally, as the program does. Then converts its beats
+/// of A, or of E if it has none of A, and writes the far beats.
 fn measure_pair<const C: usize, const M: usize>(
     rt: &HostRuntime,
     reader: &mut Stdin,
@@ -201,20 +205,21 @@ fn measure_pair<const C: usize, const M: usize>(
 {
     let version = match version_between(input.held(), C, M) {
         Some(version) => version,
-        _ => return figures.refuse("the text is no trace between these widths"),
+        _ => return figures.refuse("the text is not a trace between these widths"),
     };
     match script_of_input::<Stdin, C, M>(rt.alloc(), reader, input, version) {
         Ok(script) => measure_script(rt, &script, version, figures),
-        Err(_) => figures.refuse("the text is no trace"),
+        Err(_) => figures.refuse("the text is not a valid trace"),
     }
 }
 
-/// Reads the rest of a trace, of which the input holds the first piece, converts its beats and writes the far ones.
+/// Reads the rest of a trace, whose first piece the input holds, converts its beats and writes the
+/// far beats.
 fn measure_input(rt: &HostRuntime, reader: &mut Stdin, input: &mut Input, figures: &mut Figures)
     requires { IsFresh (⟦<Stdin as Read>⟧.remaining reader.old) input.old }
 {
     let Some(header) = header_of_text(input.held()) else {
-        return figures.refuse("the text is no trace");
+        return figures.refuse("the text is not a valid trace");
     };
     match (header.client, header.manager) {
         (8, 8) => measure_pair::<8, 8>(rt, reader, input, figures),
@@ -228,8 +233,8 @@ fn measure_input(rt: &HostRuntime, reader: &mut Stdin, input: &mut Input, figure
     }
 }
 
-/// Reads a trace from standard input piece by piece, as the program does, converts its beats and writes the far ones. Each part is
-/// timed.
+/// Reads a trace from standard input incrementally, as the program does, converts its beats and
+/// writes the far beats. Times each part.
 pub fn measure(rt: &HostRuntime, reader: &mut Stdin, figures: &mut Figures) {
     figures.start(rt);
     match Input::open(rt.alloc(), reader) {

@@ -1,4 +1,4 @@
--- What a run ends in makes the answer.
+-- The outcome of a run determines the answer.
 use Rattle.tl_answer.proofs.Names.{Result, Ok, Err, IfOk, ◌≡◌, ℕ, Bool, true, false, List, [], ◌∷◌, ◌++◌, length, refl, sym, ap, ◌∙◌}
 use Rattle.tl_answer.proofs.Names.{append-nil, append_assoc, arith, list_all, Beats, far_beats, verdicts, EndsIn, near_beats, Tells, IsScriptOf}
 use Rattle.tl_answer.proofs.Names.{Script, Line, far_header, far_lines, near, taken, report, is_done, text_of, IsAnswer, TextFault}
@@ -6,7 +6,7 @@ use Rattle.tl_msg.specs.declared.verdict.Verdict.{Verdict}
 use Rattle.tl_answer.specs.declared.answer.Answer.{Answer}
 use Rattle.tl_run.specs.declared.outcome.Outcome.{Outcome}
 
--- what a run took are the far beats of its script
+-- the far beats that a run took are those of its script
 taken-is : {C M : ℕ} (bs : Beats C M) (outcome : Outcome C M) → EndsIn bs outcome → taken outcome ≡ far_beats bs
 taken-is bs outcome h = rw h.far_a (rw h.far_b (rw h.far_c (rw h.far_d (rw h.far_e refl))))
 
@@ -25,7 +25,7 @@ of-run {C} {M} version bs outcome h =
     ap (λ far. far_header version C M ++ far_lines version far ++ report outcome.verdicts) (taken-is bs outcome h) ∙
     ap (λ vs. far_header version C M ++ far_lines version (far_beats bs) ++ report vs) h.verdicts_are
 
--- what is written of what the near beats of a trace end in is the answer to a text that tells it
+-- the text written for the near beats of a trace is the answer to the text of that trace
 module _ (version C M : ℕ) (lines : List Line) (text : List ℕ) (told : Tells text version C M lines) where
   pub script-text : (bs : Beats C M) → bs ≡ near C M lines → (check : Bool) → (answer : List ℕ) → answer ≡ text_of version bs check →
       (done : Bool) → done ≡ list_all is_done (verdicts bs) → IsAnswer text check answer done
@@ -39,7 +39,7 @@ module _ (version C M : ℕ) (lines : List Line) (text : List ℕ) (told : Tells
     all_done = done-is ∙ ap (λ q. list_all is_done (verdicts q)) same;
   }
 
-  -- the same of a check, whose answer has the verdicts alone
+  -- the same for a check, whose answer has only the verdicts
   pub checks-text : (ended : List Verdict) → ended ≡ verdicts (near C M lines) →
       (answer : List ℕ) → answer ≡ far_header version C M ++ report ended →
       (done : Bool) → done ≡ list_all is_done ended → IsAnswer text true answer done
@@ -48,12 +48,12 @@ module _ (version C M : ℕ) (lines : List Line) (text : List ℕ) (told : Tells
       (text-is ∙ ap (λ vs. far_header version C M ++ report vs) are ∙ without-far version (near C M lines))
       done (done-is ∙ ap (λ vs. list_all is_done vs) are)
 
--- five texts, one behind another
+-- five texts, one after another
 pub lines-behind : (o0 o1 o2 o3 o4 o5 a b c d e : List ℕ) → o1 ≡ o0 ++ a → o2 ≡ o1 ++ b → o3 ≡ o2 ++ c → o4 ≡ o3 ++ d → o5 ≡ o4 ++ e →
     o5 ≡ o0 ++ (a ++ b ++ c ++ d ++ e)
 lines-behind o0 o1 o2 o3 o4 o5 a b c d e p q r s t = rw t (rw s (rw r (rw q (rw p (simp append_assoc)))))
 
--- a text and the report of five verdicts behind it
+-- a text followed by the report of five verdicts
 pub with-report : (vs : List Verdict) → length vs ≡ 5 → (before after : List ℕ) →
     ((a b c d e : Verdict) → vs ≡ a ∷ b ∷ c ∷ d ∷ e ∷ [] → after ≡ before ++ report (a ∷ b ∷ c ∷ d ∷ e ∷ [])) → after ≡ before ++ report vs
 with-report (a ∷ b ∷ c ∷ d ∷ e ∷ []) five before after is = is a b c d e refl
@@ -64,7 +64,7 @@ with-report (a ∷ b ∷ c ∷ []) five before after is = absurd (omega arith)
 with-report (a ∷ b ∷ c ∷ d ∷ []) five before after is = absurd (omega arith)
 with-report (a ∷ b ∷ c ∷ d ∷ e ∷ f ∷ more) five before after is = absurd (omega arith)
 
--- what follows of what was made, from two of its clauses
+-- a property that follows from two clauses of a result
 pub of-both : {X : Type 0} (P Q R : X → Type 0) → ((made : X) → P made → Q made → R made) → (given : Result X TextFault) →
     IfOk given P → IfOk given Q → IfOk given R
 of-both P Q R follows (Ok made) p q = follows made p q
@@ -92,7 +92,7 @@ module _ {C M : ℕ} (version : ℕ) (bs : Beats C M) (check : Bool) where
   of-parts is text spells (Ok made) text-is = rw is (text-is ∙ spells)
   of-parts is text spells (Err fault) text-is = tt
 
-  -- which is the answer to a text that tells these beats
+  -- it is the answer to a text with these beats
   pub answers-text : (lines : List Line) (text : List ℕ) → Tells text version C M lines → bs ≡ near C M lines → (given : Result Answer TextFault) →
       HasText given (text_of version bs check) → IsDone given (list_all is_done (verdicts bs)) →
       IfOk given (λ made. IsAnswer text check made.text.items made.all_done)

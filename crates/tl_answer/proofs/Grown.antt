@@ -1,4 +1,4 @@
--- A list that grows where a result is Ok, and stays as it was else.
+-- A list that grows if a result is Ok, and otherwise stays as it was.
 use Rattle.tl_answer.proofs.Names.{◌≡◌, List, Result, Ok, Err, if◌then◌else◌, OnOk}
 use Rattle.std.specs.Result.{is_ok}
 

@@ -1,4 +1,4 @@
--- What a text's header names, and a text that has none.
+-- The header of a text, and a text without one.
 use Rattle.tl_answer.proofs.Names.{◌≡◌, ◌≢◌, ◌≤◌, ◌∷◌, [], ◌||◌, ℕ, Bool, true, false, List, length, None, Some, if◌then◌else◌, refl, ap}
 use Rattle.tl_answer.proofs.Names.{◌∙◌, subst, ◌==◌, eqb-true, IsWidth, each_width, body, cut, onto_first, is_newline, header_of, HasHeader}
 use Rattle.tl_answer.proofs.Names.{faults_after, faults_of_lines, IsFirstFault, Line, Script, IsScriptOf, most_bytes}
@@ -24,7 +24,7 @@ body_more : (byte : ℕ) (ends : Bool) (lines : List (List ℕ)) (rest : List �
 body_more byte true lines rest is same = rw is refl
 body_more byte false lines rest is same = ap body (first_onto byte lines) ∙ rw is (ap (λ xs. byte ∷ xs) same)
 
--- the first line of a text, without its end, is what stands before the text's first line end
+-- the first line of a text, without its end, is the part before the text's first line end
 body_first : (text : List ℕ) → body (first_line (cut text)) ≡ body text
 body_first [] = refl
 body_first (byte ∷ text) = body_more byte (is_newline byte) (cut text) (body text) refl (body_first text)

@@ -1,4 +1,4 @@
--- What the proofs of this crate name most, of the library and of the definitions, passed on by one module.
+-- The names that the proofs of this crate use most, from the library and from the definitions, re-exported by one module.
 pub use Rattle.std.proofs.Common.{Ok, ◌≡◌, ℕ, Bool, true, false, List, [], ◌∷◌, ◌++◌, length, refl, sym, ap, subst, ◌∙◌, append-nil, arith, ◌≢◌, ◌+◌}
 pub use Rattle.std.proofs.Common.{◌-◌, ◌≤◌, take, drop, Option, None, Some, length-append, append_assoc, take-append-drop, ◌<◌, ◌^◌}
 pub use Rattle.std.proofs.Common.{zero-le, if◌then◌else◌, ◌||◌, map, replicate, ◌⊎◌, ◌↔◌, inl, inr, nat_eq, rules, lit<}
@@ -28,7 +28,7 @@ pub use Rattle.tl_stream.specs.declared.fault.TextFault.{TextFault}
 pub use Rattle.tl_stream.specs.declared.input.Input.{Input}
 pub use Rattle.tl_trace.specs.Faults.{IsFirstFault, body, cut, onto_first, is_newline, header_of, HasHeader, faults_after, faults_of_lines}
 pub use Rattle.tl_trace.specs.Fields.{Form, form_a, form_b, form_c, form_d, form_e}
-pub use Rattle.tl_trace.specs.Scripts.{IsScriptOf, Gone, GoesOn, HasCounts, HasGrown, HasLetGo, more_gone, IsRestOf, none_gone, beat_of_a, beat_of_b}
+pub use Rattle.tl_trace.specs.Scripts.{IsScriptOf, Discarded, GoesOn, HasCounts, HasGrown, HasRemoved, more_discarded, IsRestOf, none_gone, beat_of_a, beat_of_b}
 pub use Rattle.tl_trace.specs.Scripts.{beat_of_c, beat_of_d, beat_of_e}
 pub use Rattle.tl_trace.specs.Texts.{Tells, newline}
 pub use Rattle.tl_trace.specs.declared.header.Header.{Header}

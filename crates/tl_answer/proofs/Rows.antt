@@ -72,7 +72,7 @@ cut_is_not_done = refl
 
 -- ---- both sides
 
--- the response to a Get at 0x1004, from a bus of 8: its data stands on the upper four lanes
+-- the response to a Get at 0x1004, from a bus of 8 bytes: its data is on the upper four lanes
 abbrev reply : (sink : ℕ) → Line
 reply sink = line.D (record {
   head = record { opcode = 1; param = 0; size = 2; source = 7; sink = sink; denied = false };
@@ -156,7 +156,7 @@ wide_source : answer_of 2 8 4 (get_of 0x0107 ∷ []) false ≡ lines_of
 unfolding digits
 wide_source = refl
 
--- two sources that differ above the eighth bit alone are two sources
+-- two sources that differ only above the eighth bit are two sources
 two_wide_sources : answer_of 2 8 4 (get_of 0x0107 ∷ get_of 0x0007 ∷ []) false ≡ lines_of
     (codes "tilelink-far 2 client 8 manager 4" ∷
     codes "A 4 0 2 0107 0000000000001004 f 00000000 0" ∷ codes "A 4 0 2 0007 0000000000001004 f 00000000 0" ∷
@@ -171,7 +171,7 @@ wide_source_used_twice : answer_of 2 8 4 (get_of 0x0107 ∷ get_of 0x0107 ∷ []
 unfolding digits
 wide_source_used_twice = refl
 
--- sinks have four digits, too
+-- sinks have four digits as well
 five_cross_in_version_2 : answer_of 2 4 8 five false ≡ lines_of
     (codes "tilelink-far 2 client 4 manager 8" ∷
     codes "A 7 2 6 0001 0000000000000040 ff 0000000000000000 0" ∷ codes "B 7 2 6 0000 0000000000000080 f 00000000 0" ∷

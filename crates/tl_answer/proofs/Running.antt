@@ -1,10 +1,10 @@
--- What a run is refused for.
+-- The errors of a run.
 use Rattle.tl_answer.proofs.Names.{Result, Ok, Err, IfErr, ◌≡◌, ◌≢◌, ◌≤◌, ◌<◌, ◌⊎◌, ◌↔◌, ℕ, inl, inr, refl, arith, IfErr-weaker}
 use Rattle.tl_run.specs.declared.outcome.RunFault.{RunFault}
 use Rattle.tl_run.specs.declared.outcome.RunFault.TheVariants.{RingSize, OutOfMemory, Stalled}
 use Rattle.tl_ring.specs.declared.pipe.TheConstants.{MAX_RING}
 
--- not for its rings, where they are of a size that rings may have
+-- not the size of its rings, if they are in range
 pub size-is-right : {X : Type 0} (result : Result X RunFault) (ring : ℕ) → 1 ≤ ring → ring ≤ MAX_RING →
     IfErr result (λ fault. (fault ≡ RingSize) ↔ ((ring ≡ 0) ⊎ (MAX_RING < ring))) → IfErr result (λ fault. fault ≢ RingSize)
 size-is-right result ring some few refused =
@@ -14,7 +14,7 @@ size-is-right result ring some few refused =
       | inr more ↦ omega (arith, more, few)
     ]) refused
 
--- and not for a stall: so for want of memory alone
+-- and not a stall: so only out of memory
 pub for-memory : {X : Type 0} (result : Result X RunFault) → IfErr result (λ fault. fault ≢ RingSize) → IfErr result (λ fault. fault ≢ Stalled) →
     IfErr result (λ fault. fault ≡ OutOfMemory)
 for-memory (Ok made) sized moves = tt

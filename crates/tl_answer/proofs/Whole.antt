@@ -1,4 +1,4 @@
--- What came of a text that is read piece by piece is what comes of the whole text.
+-- The result of reading a text incrementally is a result of the whole text.
 use Rattle.tl_answer.proofs.Names.{IfSome, IfOk, IfErr, IsOfText, ◌≡◌, ◌≢◌, ℕ, ◌-◌, ◌<◌, ◌≤◌, Bool, true, false, nat_eq, ◌||◌, List, [], ◌∷◌, ◌++◌}
 use Rattle.tl_answer.proofs.Names.{length, Option, None, Some, Result, Ok, Err, refl, sym, ap, ◌∙◌, subst, arith, length-append, or_parts}
 use Rattle.tl_answer.proofs.Names.{eqb-true, list_any, Consumes, IsAtEnd, is_newline, body, header_of, IsFirstFault, Header, IsFresh, IsRefused}
@@ -81,7 +81,7 @@ header_refused left input fresh none = (([], fresh.taken), λ p. absurd cc, head
 
 -- ---- a text that is kept whole
 
--- it is refused for its own fault, or for want of memory
+-- its errors are its own fault and out of memory
 pub fault_of_text : (text : List ℕ) (fault : TraceFault) → (fault.kind ≢ kinds.OutOfMemory → IsFirstFault text fault.line fault.kind) →
     IsOfText text (of_trace fault)
 fault_of_text text fault first = cases fault.kind refl

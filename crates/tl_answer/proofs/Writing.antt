@@ -1,4 +1,4 @@
--- What the writes of an answer put out.
+-- The effect of writing an answer.
 use Rattle.tl_answer.proofs.Names.{Result, Ok, Err, IfSome, IfOk, OnOk, IfErr, ◌≡◌, ℕ, Bool, List, ◌++◌, Option}
 use Rattle.tl_answer.proofs.Names.{None, Some, refl, sym, ap, subst, append_assoc, Appends-trans, Appends, Keeps}
 use Rattle.tl_answer.proofs.Names.{AnswersRead, spelled, AnswersText, IsAnswer, TextFault}
@@ -7,7 +7,7 @@ use Rattle.tl_order.specs.declared.Order.{Order}
 use Rattle.tl_stream.specs.declared.fault.TextFault.TheVariants as faults
 use Rattle.tl_answer.specs.declared.parts.AnswerParts.{AnswerParts}
 
--- two texts, two more behind them, and one more
+-- two texts, two more after them, and one more
 pub five-out : (w0 w1 w2 w3 : Option (List ℕ)) (a b c d e : List ℕ) → Appends w0 w1 (a ++ b) → Appends w1 w2 (c ++ d) → Appends w2 w3 e →
     Appends w0 w3 (a ++ b ++ c ++ d ++ e)
 five-out w0 w1 w2 w3 a b c d e to_b to_d to_e =
@@ -18,7 +18,7 @@ keeps-itself : (held : Option (List ℕ)) → Keeps held held
 keeps-itself None = tt
 keeps-itself (Some text) = refl
 
--- a text without an answer, where nothing was written
+-- a text without an answer, if nothing was written
 pub unwritten : (unread left held : Option (List ℕ)) (order : Order) (fault : TextFault) → AnswersRead unread left order (Err fault) →
     AnswersText unread left held held order (Err fault)
 unwritten unread left held order (faults.Trace fault) read = (read.0, keeps-itself held, read.1, read.2)
@@ -28,7 +28,7 @@ unwritten unread left held order faults.Write read = absurd read
 unwritten unread left held order faults.TooLong read = (keeps-itself held, read)
 unwritten unread left held order faults.OutOfMemory read = keeps-itself held
 
--- what was written is the answer
+-- the text that was written is the answer
 pub written : (unread left held holds : Option (List ℕ)) (order : Order) (made : AnswerParts) (result : Result Bool TextFault) →
     AnswersRead unread left order (Ok made)
     → OnOk result (Appends held holds (spelled made)) → IfOk result (λ done. done ≡ made.all_done) → IfErr result (λ fault. fault ≡ faults.Write) →

@@ -1,5 +1,5 @@
--- The answer to a text (this project's choice). It has the version and the widths of the trace that the text tells, then the beats that arrive on
--- the other side, and then one line for each channel that reports how far it came.
+-- The answer to a text (this project's choice). It has a line with the version and the widths of the trace, then the
+-- beats that arrive on the other side, and then one line for each channel that reports how far it got.
 use Rattle.std.specs.Prelude.{◌++◌, ℕ, Bool, true, false, cond, List, [], ◌∷◌, codes, decimal}
 use Rattle.std.specs.List.{filter_map, list_all}
 use Rattle.tl_msg.specs.declared.verdict.Verdict.{Verdict}
@@ -22,8 +22,9 @@ far_header version client manager =
 abbrev pub taken : {C M : ℕ} → Outcome C M → Beats M C
 taken outcome = record { a = outcome.a.items; b = outcome.b.items; c = outcome.c.items; d = outcome.d.items; e = outcome.e.items }
 
--- the far beats of A, then those of B, C, D and E, each channel in the order in which they are taken: the manager side takes A, C and E, on its own
--- lanes, and the client side takes B and D; ids have the digits that they have in a trace of the version
+-- the far beats of A, then those of B, C, D and E, on each channel in the order in which they are taken. The manager
+-- side takes A, C and E on its own lanes, and the client side takes B and D. Ids have the digits of a trace of this
+-- version
 abbrev pub far_lines : {C M : ℕ} → (version : ℕ) → Beats M C → List ℕ
 far_lines {C = C} {M = M} version far =
     beats_text (form_a version) M far.a ++ beats_text (form_b version) C far.b ++ beats_text (form_c version) M far.c ++
@@ -41,7 +42,7 @@ is_done _ = false
 
 -- the two sides' widths and the beats of a trace
 module _ (client manager : ℕ) (lines : List Line) where
-  -- its near beats by channel, each list in the order of its lines
+  -- its near beats by channel, each list in the order of the lines
   abbrev pub near : Beats client manager
   near = record {
     a = filter_map (beat_of_a client) lines;

@@ -1,4 +1,4 @@
-//! The answer to a text, without a reader and a writer.
+//! The answer to a script, and the choice of the way to make it.
 ghost use Rattle.std.specs.Prelude.{◌≡◌, ◌≢◌, ◌<◌, ◌++◌, [], ◌∷◌, false, length, IfOk, OnOk, IfErr};
 ghost use Rattle.std.specs.List.{list_all};
 ghost use Rattle.tl_lanes.specs.Lanes.{IsWidth};
@@ -39,7 +39,7 @@ pub struct Answer {
     pub all_done: bool,
 }
 
-/// The first line of an answer.
+/// Returns the first line of an answer.
 pub(crate) fn header(
     alloc: Global,
     version: u8,
@@ -54,7 +54,7 @@ pub(crate) fn header(
     }
 }
 
-/// Appends the five report lines.
+/// Appends the five report lines. Errors: `OutOfMemory`.
 pub(crate) fn write_reports(out: &mut Vec<u8>, verdicts: &[Verdict; 5]) -> Result<(), OutOfMemory>
     ensures text { (a b c d e : Verdict) → verdicts.now ≡ a ∷ b ∷ c ∷ d ∷ e ∷ [] →
         OnOk result (out.new.items ≡ out.old.items ++ report (a ∷ b ∷ c ∷ d ∷ e ∷ [])) }
@@ -68,7 +68,7 @@ pub(crate) fn write_reports(out: &mut Vec<u8>, verdicts: &[Verdict; 5]) -> Resul
     a.and(b).and(c).and(d).and(e)
 }
 
-/// Whether all beats of each channel were accepted, and no burst is unfinished.
+/// Returns whether, on each channel, all beats were accepted and no burst is unfinished.
 pub(crate) fn are_done(verdicts: &[Verdict; 5]) -> bool
     ensures { result ≡ list_all is_done verdicts.now }
 {
@@ -77,14 +77,14 @@ pub(crate) fn are_done(verdicts: &[Verdict; 5]) -> bool
         .all(|verdict| matches!(verdict, Verdict::Done { .. }))
 }
 
-/// The lists of a script that was read are short. Nothing is done.
-fn are_short<const C: usize, const M: usize>(script: &Script<C, M>)
+/// Lemma: the lists of a script that was read are short.
+fn lemma_lists_are_short<const C: usize, const M: usize>(script: &Script<C, M>)
     requires { WasRead script.now }
     ensures { HasShortLists script.now }
 {}
 
-/// The run of a script with each side in a thread of its own, as the order has it. Refused with
-/// `OutOfMemory` alone.
+/// Runs a script with each side in its own thread, with the ring size and turns of the order.
+/// Returns the outcome. Errors: only `OutOfMemory`.
 fn run_script<T: Threads, const C: usize, const M: usize>(
     rt: &T,
     alloc: Global,
@@ -95,14 +95,14 @@ fn run_script<T: Threads, const C: usize, const M: usize>(
     ensures ok { IfOk result (SettlesTo script.now) }
     ensures err { IfErr result (λ fault. fault ≡ NoRunMemory) }
 {
-    are_short::<C, M>(script);
+    lemma_lists_are_short::<C, M>(script);
     let ring = order.ring();
     let turns = order.turns();
     run_threads(rt, alloc, script, ring, turns, &mut NoGate, &mut NoGate)
 }
 
-/// The answer of a check whose channels end with these verdicts, from A to E: the version of the
-/// trace and the widths, and the five report lines.
+/// Returns the answer of a check whose channels end with these verdicts, from A to E: the line with
+/// the version of the trace and the widths, and the five report lines. Errors: only `OutOfMemory`.
 pub fn check_of(
     alloc: Global,
     verdicts: &[Verdict; 5],
@@ -128,14 +128,14 @@ pub fn check_of(
     }
 }
 
-/// A beat takes little memory, whatever the width of its bus is. Nothing is done.
-fn beats_fit<const C: usize, const M: usize>()
+/// Lemma: a beat takes little memory, whatever the width of its bus.
+fn lemma_beats_fit<const C: usize, const M: usize>()
     requires { IsWidth C × IsWidth M }
     ensures client { beat_size C < 9223372036854775808 }
     ensures manager { beat_size M < 9223372036854775808 }
 {}
 
-/// Writes the lines of the far beats of a run, where none were written before.
+/// Writes the lines of the far beats of a run. Requires: no lines were written before.
 fn take_far<const C: usize, const M: usize>(
     far: &mut FarTexts,
     outcome: &Outcome<C, M>,
@@ -144,11 +144,11 @@ fn take_far<const C: usize, const M: usize>(
     ensures lines { OnOk result (HasLines far.new (taken outcome.now)) }
     ensures version { OnOk result (far.new.version ≡ far.old.version) }
 {
-    beats_fit::<C, M>();
+    lemma_beats_fit::<C, M>();
     far.take(&outcome.a, &outcome.b, &outcome.c, &outcome.d, &outcome.e)
 }
 
-/// The answer that the outcome of a run makes, in parts.
+/// Returns the answer for the outcome of a run, in parts. Errors: only `OutOfMemory`.
 fn parts_of<const C: usize, const M: usize>(
     alloc: Global,
     outcome: &Outcome<C, M>,
@@ -170,8 +170,8 @@ fn parts_of<const C: usize, const M: usize>(
     }
 }
 
-/// The answer to a script by that run. The script is let go before the answer is made. Refused with
-/// `OutOfMemory` alone.
+/// Returns the answer to a script, by a run in two threads. Frees the script before it makes the
+/// answer. Errors: only `OutOfMemory`.
 #[inline(never)]
 fn threads_answer_of<T: Threads, const C: usize, const M: usize>(
     rt: &T,
@@ -198,15 +198,15 @@ fn threads_answer_of<T: Threads, const C: usize, const M: usize>(
     answer
 }
 
-/// What a header names are widths that a channel can have. Nothing is done.
-pub(crate) fn are_widths<const C: usize, const M: usize>(input: &Input, version: u8)
+/// Lemma: the widths of a header are widths of a link.
+pub(crate) fn lemma_are_widths<const C: usize, const M: usize>(input: &Input, version: u8)
     requires { HasHeader (held input.now) version C M }
     ensures client { IsWidth C }
     ensures manager { IsWidth M }
 {}
 
-/// A width that a header names is 128 where it is none of the other seven. Nothing is done.
-fn is_widest(input: &Input, version: u8, client: usize, manager: usize)
+/// Lemma: a width of a header is 128 if it is none of the other seven.
+fn lemma_is_widest(input: &Input, version: u8, client: usize, manager: usize)
     requires { HasHeader (held input.now) version client manager }
     ensures client { client ≢ 1 → client ≢ 2 → client ≢ 4 → client ≢ 8 → client ≢ 16 →
         client ≢ 32 → client ≢ 64 → HasHeader (held input.now) version 128 manager }
@@ -214,7 +214,7 @@ fn is_widest(input: &Input, version: u8, client: usize, manager: usize)
         manager ≢ 32 → manager ≢ 64 → HasHeader (held input.now) version client 128 }
 {}
 
-/// The answer to a text whose header names this version and these widths.
+/// Returns the answer to a text whose header names this version and these widths.
 fn with_widths<T: Threads, R: Read, const C: usize, const M: usize>(
     rt: &T,
     alloc: Global,
@@ -233,14 +233,15 @@ fn with_widths<T: Threads, R: Read, const C: usize, const M: usize>(
     if order.is_sync() {
         return run_input::<R, C, M>(alloc, reader, input, version, order.ring());
     }
-    are_widths::<C, M>(input, version);
+    lemma_are_widths::<C, M>(input, version);
     match script_of_input::<R, C, M>(alloc, reader, input, version) {
         Ok(script) => threads_answer_of::<T, C, M>(rt, alloc, script, version, order),
         Err(fault) => Err(fault),
     }
 }
 
-/// The same, for a client of `C` bytes: the manager's width is one of eight.
+/// Returns the answer to a text, for a client of `C` bytes and a manager whose width is known only
+/// at run time.
 fn with_client<T: Threads, R: Read, const C: usize>(
     rt: &T,
     alloc: Global,
@@ -254,18 +255,18 @@ fn with_client<T: Threads, R: Read, const C: usize>(
     ensures { ReadsAnswer (unread_of input.old (R.remaining reader.old)) (R.remaining reader.new)
         (is_check order.now) input.new result }
 {
-    is_widest(input, version, C, manager);
+    lemma_is_widest(input, version, C, manager);
     at_width!(
         manager,
         with_widths::<T, R, C, _>(rt, alloc, reader, input, version, order)
     )
 }
 
-/// The answer to a text of which the input holds the first piece, and nothing of it was used: the
-/// version of the trace and the widths, the far beats unless the order is a check, and the five
-/// report lines. It is the same for each order that is no check.
+/// Returns the answer to a text: the line with the version of the trace and the widths, the far
+/// beats unless the order is a check, and the five report lines. Every order that is not a check
+/// has the same answer. The input holds the first piece of the text, and nothing of it was used.
 ///
-/// Refused as `script_of_input` is.
+/// Errors: as `script_of_input`.
 pub(crate) fn answer_input<T: Threads, R: Read>(
     rt: &T,
     alloc: Global,
@@ -283,7 +284,7 @@ pub(crate) fn answer_input<T: Threads, R: Read>(
             kind: TraceKind::Header,
         }));
     };
-    is_widest(input, header.version, header.client, header.manager);
+    lemma_is_widest(input, header.version, header.client, header.manager);
     at_width!(
         header.client,
         with_client::<T, R, _>(

@@ -1,4 +1,5 @@
-//! The answer of a check to a text as it comes in: what was judged is not held any more.
+//! The answer of a check to a text that is read incrementally. Beats that were judged are removed
+//! from memory.
 ghost use Rattle.std.specs.Prelude.{◌≡◌, ◌++◌, [], true, IfOk, IfErr};
 ghost use Rattle.std.specs.List.{list_all};
 ghost use Rattle.tl_lanes.specs.Lanes.{IsWidth};
@@ -15,7 +16,7 @@ ghost use Rattle.tl_answer.specs.Inner.Parts.{spelled};
 ghost use Rattle.tl_stream.specs.Inputs.{IsFresh, held, unread_of};
 ghost use Rattle.tl_stream.specs.declared.fault.TextFault.TheVariants.{OutOfMemory as NoMemory};
 
-use crate::answer::{are_widths, check_of};
+use crate::answer::{check_of, lemma_are_widths};
 use crate::parts::AnswerParts;
 use std::alloc::{AllocError, Global};
 use std::io::Read;
@@ -24,7 +25,7 @@ use tl_settle::{ClientBook, ManagerBook, new_books};
 use tl_stream::{Input, Listener, TextFault, read_through};
 use tl_trace::{Counts, Script};
 
-/// What makes `Judge`, of another crate, a `Listener` here. It has no value.
+/// Allows this crate to implement `Listener` for `Judge`, a type of another crate. Has no value.
 #[derive(Drop)]
 struct Check;
 
@@ -34,11 +35,11 @@ impl<const C: usize, const M: usize> Listener<Check, C, M> for Judge<C, M> {
     ghost Hears = { JudgesOn };
 
     fn hear(&mut self, held: &Script<C, M>) -> Result<Counts, AllocError> {
-        Ok(self.go_on(held))
+        Ok(self.advance(held))
     }
 }
 
-// The answer of the check that ends with these beats. Refused with `OutOfMemory` alone.
+// Returns the answer of the check that ends with these beats. Errors: only `OutOfMemory`.
 fn end_of<const C: usize, const M: usize>(
     alloc: Global,
     judge: &mut Judge<C, M>,
@@ -46,10 +47,10 @@ fn end_of<const C: usize, const M: usize>(
     last: Script<C, M>,
 ) -> Result<AnswerParts, TextFault>
     requires { IsWidth C × IsWidth M × CanJudge judge.old last }
-    ensures text { (near : Beats C M) → AreEnd judge.old.gone last.entry near →
+    ensures text { (near : Beats C M) → AreEnd judge.old.discarded last.entry near →
         HasJudged near judge.old → IfOk result (λ made.
         spelled made ≡ far_header version C M ++ report (verdicts near)) }
-    ensures done { (near : Beats C M) → AreEnd judge.old.gone last.entry near →
+    ensures done { (near : Beats C M) → AreEnd judge.old.discarded last.entry near →
         HasJudged near judge.old → IfOk result (λ made.
         made.all_done ≡ list_all is_done (verdicts near)) }
     ensures err { IfErr result (λ fault. fault ≡ NoMemory) }
@@ -62,7 +63,8 @@ fn end_of<const C: usize, const M: usize>(
     }
 }
 
-// The answer of a check by a new judge to a text whose header names this version and these widths.
+// Returns the answer of a check, by a new judge, to a text whose header names this version and
+// these widths.
 fn check_by<R: Read, const C: usize, const M: usize>(
     alloc: Global,
     reader: &mut R,
@@ -75,14 +77,14 @@ fn check_by<R: Read, const C: usize, const M: usize>(
     ensures { ReadsAnswer (unread_of input.old (R.remaining reader.old)) (R.remaining reader.new)
         true input.new result }
 {
-    are_widths::<C, M>(input, version);
+    lemma_are_widths::<C, M>(input, version);
     match read_through::<R, Check, Judge<C, M>, C, M>(alloc, reader, input, version, judge) {
         Ok(last) => end_of(alloc, judge, version, last),
         Err(fault) => Err(fault),
     }
 }
 
-// A judge that has heard nothing of a trace in this version.
+// Creates a judge that has advanced over no beat of a trace in this version.
 fn new_judge<const C: usize, const M: usize>(
     client: ClientBook<C>,
     manager: ManagerBook<M>,
@@ -94,9 +96,10 @@ fn new_judge<const C: usize, const M: usize>(
     Judge::new(client, manager)
 }
 
-/// The answer of a check to a text whose header names this version and these widths, where the input
-/// holds its first piece and nothing of it was used. It is read to its end, piece by piece, and no
-/// more stands in memory than a piece of it and the beats that wait. Refused as `script_of_input` is.
+/// Returns the answer of a check to a text whose header names this version and these widths. The
+/// input holds its first piece, and nothing of it was used. The text is read to its end,
+/// incrementally: only one piece of it and the beats that wait are in memory. Errors: as
+/// `script_of_input`.
 #[inline(never)]
 pub(crate) fn check_input<R: Read, const C: usize, const M: usize>(
     alloc: Global,

@@ -1,11 +1,15 @@
-//! The answer of a run in one thread to a text as it comes in: what was accepted is not held any more.
+//! The answer of a run in one thread to a text that is read incrementally. Beats that were accepted
+//! are removed from memory.
 ghost use Rattle.std.specs.Prelude.{◌≡◌, ◌≤◌, ◌<◌, ℕ, false, IfOk, IfErr};
 ghost use Rattle.std.specs.List.{list_all};
 ghost use Rattle.tl_lanes.specs.Lanes.{IsWidth};
 ghost use Rattle.tl_ring.specs.declared.pipe.TheConstants.{MAX_RING};
 ghost use Rattle.tl_settle.specs.Outcomes.{verdicts};
+ghost use Rattle.tl_run.specs.Arrivals.{no_beats};
+ghost use Rattle.tl_run.specs.Running.{IsNew as IsNewBridge};
+ghost use Rattle.tl_answer.specs.Inner.FarTexts.{HasLines};
 ghost use Rattle.tl_trace.specs.Faults.{HasHeader};
-ghost use Rattle.tl_trace.specs.Scripts.{Gone};
+ghost use Rattle.tl_trace.specs.Scripts.{Discarded};
 ghost use Rattle.tl_answer.specs.Answer.{is_done};
 ghost use Rattle.tl_answer.specs.Inner.Answered.{ReadsAnswer};
 ghost use Rattle.tl_answer.specs.Inner.Crossing.{Crosses, CrossesOn};
@@ -16,7 +20,7 @@ ghost use Rattle.tl_answer.specs.Inner.Sizes.{bridge_size, crossing_size, run_si
 ghost use Rattle.tl_stream.specs.Inputs.{IsFresh, held, unread_of};
 ghost use Rattle.tl_stream.specs.declared.fault.TextFault.TheVariants.{OutOfMemory as NoMemory};
 
-use crate::answer::are_widths;
+use crate::answer::lemma_are_widths;
 use crate::far_text::FarTexts;
 use crate::parts::AnswerParts;
 use std::alloc::{AllocError, Global};
@@ -27,7 +31,7 @@ use tl_sides::SyncBridge;
 use tl_stream::{Input, Listener, TextFault, read_through};
 use tl_trace::{Counts, Script};
 
-/// A run in one thread, whose far beats are written as lines as they are taken.
+/// A run in one thread. Its far beats are written as lines when they are taken.
 #[derive(Drop)]
 pub(crate) struct Crossing<const C: usize, const M: usize> {
     run: SyncRun<C, M>,
@@ -35,8 +39,21 @@ pub(crate) struct Crossing<const C: usize, const M: usize> {
 }
 
 impl<const C: usize, const M: usize> Crossing<C, M> {
-    /// A run that has not begun, of a trace in this version, over rings of `ring` beats each. Refused
-    /// with `OutOfMemory` alone.
+    /// Creates a run that has not begun, over a new bridge. Its far beats are written to `far`,
+    /// which is of this version.
+    fn over(bridge: SyncBridge<C, M>, far: FarTexts, _version: u8) -> Self
+        requires { IsWidth C × IsWidth M × IsNewBridge bridge × HasLines {C = C} {M = M} far no_beats ×
+            (far.version ≡ _version) }
+        ensures { IsNew (Crosses _version) result }
+    {
+        lemma_run_fits::<C, M>();
+        let run = SyncRun::new(bridge);
+        a_new_run_has_run(&run, &far);
+        Crossing { run, far }
+    }
+
+    /// Creates a run that has not begun, of a trace in this version, with rings of `ring` beats
+    /// each. Errors: only `OutOfMemory`.
     #[inline(never)]
     pub(crate) fn new(alloc: Global, version: u8, ring: usize) -> Result<Self, TextFault>
         requires { IsWidth C × IsWidth M × (1 ≤ ring) × (ring ≤ MAX_RING) }
@@ -47,30 +64,26 @@ impl<const C: usize, const M: usize> Crossing<C, M> {
             Ok(far) => far,
             Err(error) => return Err(TextFault::from(error)),
         };
-        run_fits::<C, M>();
+        lemma_run_fits::<C, M>();
         match SyncBridge::<C, M, Global>::new(alloc, ring) {
-            Ok(bridge) => {
-                let run = SyncRun::new(bridge);
-                a_new_run_has_run(&run, &far);
-                Ok(Crossing { run, far })
-            }
-            // the rings have a size that rings may have
+            Ok(bridge) => Ok(Crossing::over(bridge, far, version)),
+            // only out of memory: `ring` is in the range of ring sizes
             Err(_) => Err(TextFault::OutOfMemory),
         }
     }
 
-    // Lets the run go.
+    // Frees the run.
     #[inline(never)]
-    pub(crate) fn let_go(self)
+    pub(crate) fn discard(self)
         requires { IsWidth C × IsWidth M }
     {
-        run_fits::<C, M>();
-        self.run.let_go();
+        lemma_run_fits::<C, M>();
+        self.run.discard();
     }
 
-    /// The answer of the run that ends with these beats: the version of the trace and the widths, the
-    /// far beats, and the five report lines. Refused with `OutOfMemory` alone. Nothing is promised of
-    /// the run any more.
+    /// Ends the run with these last beats. Returns its answer: the line with the version of the
+    /// trace and the widths, the far beats, and the five report lines. Errors: only `OutOfMemory`.
+    /// The contract promises nothing about the run afterwards.
     #[inline(never)]
     pub(crate) fn end(
         &mut self,
@@ -78,16 +91,16 @@ impl<const C: usize, const M: usize> Crossing<C, M> {
         last: Script<C, M>,
     ) -> Result<AnswerParts, TextFault>
         requires { IsWidth C × IsWidth M ×
-            ((version : ℕ) × (gone : Gone C M) × Crosses version self.old gone last) }
-        ensures text { (version : ℕ) (gone : Gone C M) →
-            Crosses version self.old gone last.entry → IfOk result (λ made.
-            spelled made ≡ text_of version (all_of gone last.entry) false) }
-        ensures done { (version : ℕ) (gone : Gone C M) →
-            Crosses version self.old gone last.entry → IfOk result (λ made.
-            made.all_done ≡ list_all is_done (verdicts (all_of gone last.entry))) }
+            ((version : ℕ) × (discarded : Discarded C M) × Crosses version self.old discarded last) }
+        ensures text { (version : ℕ) (discarded : Discarded C M) →
+            Crosses version self.old discarded last.entry → IfOk result (λ made.
+            spelled made ≡ text_of version (all_of discarded last.entry) false) }
+        ensures done { (version : ℕ) (discarded : Discarded C M) →
+            Crosses version self.old discarded last.entry → IfOk result (λ made.
+            made.all_done ≡ list_all is_done (verdicts (all_of discarded last.entry))) }
         ensures err { IfErr result (λ fault. fault ≡ NoMemory) }
     {
-        run_fits::<C, M>();
+        lemma_run_fits::<C, M>();
         let ended = self.run.end(&last, &mut self.far);
         drop(last);
         match ended {
@@ -97,15 +110,15 @@ impl<const C: usize, const M: usize> Crossing<C, M> {
     }
 }
 
-// A run takes little memory, and its bridge, whatever their two widths are. Nothing is done.
-fn run_fits<const C: usize, const M: usize>()
+// Lemma: a run and its bridge take little memory, whatever the two widths.
+fn lemma_run_fits<const C: usize, const M: usize>()
     requires { IsWidth C × IsWidth M }
     ensures run { run_size C M < 9223372036854775808 }
     ensures bridge { bridge_size C M < 9223372036854775808 }
 {}
 
-// And with its texts. Nothing is done.
-pub(crate) fn crossing_fits<const C: usize, const M: usize>()
+// Lemma: a run with its texts takes little memory, whatever the two widths.
+pub(crate) fn lemma_crossing_fits<const C: usize, const M: usize>()
     requires { IsWidth C × IsWidth M }
     ensures { crossing_size C M < 9223372036854775808 }
 {}
@@ -116,12 +129,12 @@ impl<const C: usize, const M: usize> Listener<Crossing<C, M>, C, M> for Crossing
     ghost Hears = { CrossesOn };
 
     fn hear(&mut self, held: &Script<C, M>) -> Result<Counts, AllocError> {
-        run_fits::<C, M>();
-        self.run.go_on(held, &mut self.far)
+        lemma_run_fits::<C, M>();
+        self.run.advance(held, &mut self.far)
     }
 }
 
-// The answer of a new run to a text whose header names this version and these widths.
+// Returns the answer of a new run to a text whose header names this version and these widths.
 fn cross<R: Read, const C: usize, const M: usize>(
     alloc: Global,
     reader: &mut R,
@@ -134,7 +147,7 @@ fn cross<R: Read, const C: usize, const M: usize>(
     ensures { ReadsAnswer (unread_of input.old (R.remaining reader.old)) (R.remaining reader.new)
         false input.new result }
 {
-    are_widths::<C, M>(input, version);
+    lemma_are_widths::<C, M>(input, version);
     match read_through::<R, Crossing<C, M>, Crossing<C, M>, C, M>(
         alloc, reader, input, version, crossing,
     ) {
@@ -143,10 +156,10 @@ fn cross<R: Read, const C: usize, const M: usize>(
     }
 }
 
-/// The answer of a run in one thread, over rings of `ring` beats, to a text whose header names this
-/// version and these widths, where the input holds its first piece and nothing of it was used. It is
-/// read to its end, piece by piece: no more stands in memory than a piece of it, the beats that wait,
-/// and the answer so far. Refused as `script_of_input` is.
+/// Returns the answer of a run in one thread, with rings of `ring` beats, to a text whose header
+/// names this version and these widths. The input holds its first piece, and nothing of it was
+/// used. The text is read to its end, incrementally: only one piece of it, the beats that wait and
+/// the answer so far are in memory. Errors: as `script_of_input`.
 #[inline(never)]
 pub(crate) fn run_input<R: Read, const C: usize, const M: usize>(
     alloc: Global,
@@ -160,13 +173,20 @@ pub(crate) fn run_input<R: Read, const C: usize, const M: usize>(
     ensures { ReadsAnswer (unread_of input.old (R.remaining reader.old)) (R.remaining reader.new)
         false input.new result }
 {
-    are_widths::<C, M>(input, version);
-    crossing_fits::<C, M>();
-    let mut crossing = match Crossing::<C, M>::new(alloc, version, ring) {
-        Ok(crossing) => crossing,
-        Err(fault) => return Err(fault),
+    lemma_are_widths::<C, M>(input, version);
+    lemma_crossing_fits::<C, M>();
+    let far = match FarTexts::new(alloc, version, C, M) {
+        Ok(far) => far,
+        Err(error) => return Err(TextFault::from(error)),
     };
+    lemma_run_fits::<C, M>();
+    // (not by `Crossing::new`, whose result would be one more type for each pair of widths)
+    let Ok(bridge) = SyncBridge::<C, M, Global>::new(alloc, ring) else {
+        // only out of memory: `ring` is in the range of ring sizes
+        return Err(TextFault::OutOfMemory);
+    };
+    let mut crossing = Crossing::<C, M>::over(bridge, far, version);
     let answer = cross(alloc, reader, input, version, &mut crossing);
-    crossing.let_go();
+    crossing.discard();
     answer
 }

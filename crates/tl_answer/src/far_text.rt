@@ -1,4 +1,4 @@
-//! The lines of far beats, which are written while the beats come.
+//! The lines of far beats, which are written when the beats are taken.
 ghost use Rattle.std.specs.Prelude.{◌≡◌, ◌++◌, ℕ, IfOk, IfErr};
 ghost use Rattle.std.specs.List.{list_all};
 ghost use Rattle.tl_settle.specs.Outcomes.{Beats};
@@ -17,8 +17,8 @@ use tl_msg::{Beat, ChA, ChB, ChC, ChD, ChE, Verdict};
 use tl_stream::TextFault;
 use tl_trace::write_far;
 
-/// The lines of the far beats of a run, each channel's in a text of its own: that of A begins with
-/// the first line of an answer.
+/// The lines of the far beats of a run, with one text for each channel. The text of A begins with
+/// the first line of the answer.
 #[derive(Drop)]
 pub(crate) struct FarTexts {
     a: Vec<u8>,
@@ -30,7 +30,7 @@ pub(crate) struct FarTexts {
 }
 
 impl FarTexts {
-    // The first line of an answer in this version.
+    // Returns the first line of an answer in this version, without any far beats.
     pub(crate) fn new(
         alloc: Global,
         version: u8,
@@ -53,7 +53,7 @@ impl FarTexts {
         }
     }
 
-    // The lines so far, of which none are left here.
+    // Returns the lines so far, and leaves none here.
     pub(crate) fn handed_over(&mut self, alloc: Global) -> FarTexts
         ensures { result ≡ self.old }
     {
@@ -68,8 +68,8 @@ impl FarTexts {
         replace(self, none)
     }
 
-    // The answer of a run that ends with these verdicts, from A to E: the five report lines stand
-    // behind the lines of E. Refused with `OutOfMemory` alone.
+    // Returns the answer of a run that ends with these verdicts, from A to E. The five report lines
+    // come after the lines of E. Errors: only `OutOfMemory`.
     pub(crate) fn into_answer(self, verdicts: &[Verdict; 5]) -> Result<AnswerParts, TextFault>
         ensures text { (C M : ℕ) (far : Beats M C) → HasLines self far → IfOk result (λ made.
             spelled made ≡ far_header self.version C M

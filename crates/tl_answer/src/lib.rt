@@ -1,5 +1,6 @@
-//! The answer to a text: from the bytes of a trace to the bytes that go out. How a text is read, and why
-//! it is refused, `tl_stream` says, whose names callers have here, too.
+//! The answer to a text: from the bytes of a trace to the bytes of the program's output.
+//! `tl_stream` reads the text and defines the reasons to refuse it; its names are exported here as
+//! well.
 #![tactic(auto)]
 
 mod answer;

@@ -1,4 +1,4 @@
-//! The answer to a text in parts, none of which has to be moved behind another one.
+//! The answer to a text in several parts, so that none has to be moved to follow another one.
 ghost use Rattle.std.specs.Prelude.{◌≡◌, IfOk, IfErr};
 ghost use Rattle.tl_answer.specs.Inner.Parts.{spelled};
 ghost use Rattle.tl_stream.specs.declared.fault.TextFault.TheVariants.{OutOfMemory as NoMemory};
@@ -20,7 +20,7 @@ pub(crate) struct AnswerParts {
 }
 
 impl AnswerParts {
-    /// An answer whose text stands in the first part.
+    /// Returns an answer in parts whose whole text is the first part.
     pub(crate) fn of(alloc: Global, answer: Answer) -> AnswerParts
         ensures text { spelled result ≡ answer.text.items }
         ensures done { result.all_done ≡ answer.all_done }
@@ -36,7 +36,7 @@ impl AnswerParts {
         }
     }
 
-    /// The answer in one text. Refused with `OutOfMemory` alone.
+    /// Returns the answer as one text. Errors: only `OutOfMemory`.
     pub(crate) fn joined(self) -> Result<Answer, TextFault>
         ensures text { IfOk result (λ answer. answer.text.items ≡ spelled self) }
         ensures done { IfOk result (λ answer. answer.all_done ≡ self.all_done) }

@@ -1,4 +1,4 @@
-//! The answer to a text that the caller keeps, with both sides of the bridge in one thread.
+//! The answer to a text that is in memory as a whole, with both sides of the bridge in one thread.
 ghost use Rattle.std.specs.Prelude.{◌≡◌, ◌≤◌, ◌++◌, false, length, Some, IfOk, IfErr};
 ghost use Rattle.std.specs.List.{list_all};
 ghost use Rattle.tl_settle.specs.Outcomes.{verdicts};
@@ -14,17 +14,17 @@ ghost use Rattle.tl_stream.specs.declared.fault.TextFault.TheVariants.{OutOfMemo
 
 use crate::answer::{Answer, check_of};
 use crate::at_width;
-use crate::crossing::{Crossing, crossing_fits};
+use crate::crossing::{Crossing, lemma_crossing_fits};
 use crate::parts::AnswerParts;
 use std::alloc::Global;
 use tl_check::verdicts_of;
 use tl_stream::TextFault;
 use tl_trace::{Script, TraceFault, TraceKind, header_of_text, read_script};
 
-/// How many beats a ring holds: no answer depends on it.
+/// The number of beats that a ring holds. No answer depends on it.
 const RING: usize = 256;
 
-/// The answer of a check to a script: no far beat is made for it.
+/// Returns the answer of a check to a script. Makes no far beats. Errors: only `OutOfMemory`.
 fn check_script<const C: usize, const M: usize>(
     alloc: Global,
     script: &Script<C, M>,
@@ -43,8 +43,8 @@ fn check_script<const C: usize, const M: usize>(
     check_of(alloc, &verdicts, version, C, M)
 }
 
-/// The answer to a script by a run in one thread: the version of the trace and the widths, the far
-/// beats, and the five report lines. Refused with `OutOfMemory` alone.
+/// Returns the answer to a script by a run in one thread: the line with the version of the trace
+/// and the widths, the far beats, and the five report lines. Errors: only `OutOfMemory`.
 fn sync_run_of<const C: usize, const M: usize>(
     alloc: Global,
     script: Script<C, M>,
@@ -57,7 +57,7 @@ fn sync_run_of<const C: usize, const M: usize>(
         ≡ list_all is_done (verdicts (near_beats script.entry))) }
     ensures err { IfErr result (λ fault. fault ≡ NoMemory) }
 {
-    crossing_fits::<C, M>();
+    lemma_crossing_fits::<C, M>();
     let mut crossing = match Crossing::<C, M>::new(alloc, version, RING) {
         Ok(crossing) => crossing,
         Err(fault) => {
@@ -66,12 +66,12 @@ fn sync_run_of<const C: usize, const M: usize>(
         }
     };
     let answer = crossing.end(alloc, script);
-    crossing.let_go();
+    crossing.discard();
     answer
 }
 
-/// The answer to a script with both sides in one thread: by a check, or by a run. Refused with
-/// `OutOfMemory` alone.
+/// Returns the answer to a script with both sides in one thread: by a check if `check` is set,
+/// otherwise by a run. Errors: only `OutOfMemory`.
 fn sync_answer_of<const C: usize, const M: usize>(
     alloc: Global,
     script: Script<C, M>,
@@ -96,14 +96,14 @@ fn sync_answer_of<const C: usize, const M: usize>(
     }
 }
 
-/// A script that was read of a text with this header can cross the bridge. Nothing is done.
-fn can_cross<const C: usize, const M: usize>(text: &[u8], version: u8, script: &Script<C, M>)
+/// Lemma: a script that was read from a text with this header can cross the bridge.
+fn lemma_can_cross<const C: usize, const M: usize>(text: &[u8], version: u8, script: &Script<C, M>)
     requires { HasHeader text.now version C M × (length text.now ≤ most_bytes) ×
         TellsScript version text.now script.now }
     ensures { CanCross script.now }
 {}
 
-/// The answer to a text whose header names this version and these widths.
+/// Returns the answer to a text whose header names this version and these widths.
 fn with_widths<const C: usize, const M: usize>(
     alloc: Global,
     text: &[u8],
@@ -118,11 +118,12 @@ fn with_widths<const C: usize, const M: usize>(
         Ok(script) => script,
         Err(fault) => return Err(TextFault::from(fault)),
     };
-    can_cross(text, version, &script);
+    lemma_can_cross(text, version, &script);
     sync_answer_of::<C, M>(alloc, script, version, check)
 }
 
-/// The same, for a client of `C` bytes: the manager's width is one of eight.
+/// Returns the answer to a text, for a client of `C` bytes and a manager whose width is known only
+/// at run time.
 fn with_client<const C: usize>(
     alloc: Global,
     text: &[u8],
@@ -137,11 +138,12 @@ fn with_client<const C: usize>(
     at_width!(manager, with_widths::<C, _>(alloc, text, version, check))
 }
 
-/// The answer to a text that its caller keeps, with both sides of the bridge in one thread: the
-/// version of the trace and the widths, the far beats unless it is a check, and the five report
-/// lines.
+/// Returns the answer to a text in memory. Both sides of the bridge run in one thread. The answer
+/// has the line with the version of the trace and the widths, the far beats unless `check` is set,
+/// and the five report lines.
 ///
-/// Refused with `Trace` and the text's first fault and its line, or with `OutOfMemory`.
+/// Errors: `Trace` with the text's first fault and its line, or `OutOfMemory`. Requires: the text
+/// has at most 67,108,864 bytes.
 pub fn answer_sync(alloc: Global, text: &[u8], check: bool) -> Result<Answer, TextFault>
     requires few { length text.now ≤ most_bytes }
     ensures ok { IfOk result (λ made. IsAnswer text.now check made.text.items made.all_done) }

@@ -1,4 +1,4 @@
-//! From the bytes that come in to the bytes that go out.
+//! The whole way from the input bytes to the output bytes.
 ghost use Rattle.std.specs.Prelude.{◌≡◌, ◌++◌, IfOk, OnOk, IfErr};
 ghost use Rattle.std.specs.Io.KnownBytes.{Appends};
 ghost use Rattle.tl_order.specs.Orders.{IsRunnable};
@@ -15,7 +15,7 @@ use std::thread::Threads;
 use tl_order::Order;
 use tl_stream::{Input, TextFault, write_all, write_bytes};
 
-/// Writes two texts, one after the other. Refused as `write_all` is.
+/// Writes two texts, one after the other. Errors: as `write_all`.
 fn write_both<W: Write>(writer: &mut W, first: &[u8], second: &[u8]) -> Result<(), TextFault>
     ensures all { OnOk result (Appends (W.contents writer.old) (W.contents writer.new)
         (first.now ++ second.now)) }
@@ -27,7 +27,8 @@ fn write_both<W: Write>(writer: &mut W, first: &[u8], second: &[u8]) -> Result<(
     }
 }
 
-/// Writes an answer and flushes: true where all five channels are done. Refused as `write_all` is.
+/// Writes an answer and flushes. Returns whether all five channels are done. Errors: as
+/// `write_all`.
 fn write_answer<W: Write>(writer: &mut W, answer: &AnswerParts) -> Result<bool, TextFault>
     ensures text { OnOk result (Appends (W.contents writer.old) (W.contents writer.new)
         (spelled answer.now)) }
@@ -40,7 +41,7 @@ fn write_answer<W: Write>(writer: &mut W, answer: &AnswerParts) -> Result<bool, 
     Ok(answer.all_done)
 }
 
-/// The answer to the text that a reader gives, which is read to its end.
+/// Reads a text to its end. Returns its answer.
 fn read_answer<T: Threads, R: Read>(
     rt: &T,
     alloc: Global,
@@ -63,22 +64,29 @@ fn read_answer<T: Threads, R: Read>(
     }
 }
 
-/// Reads a trace to the end of the input, and writes the answer to it: true where all five
-/// channels are done.
+/// Reads a trace to the end of the input, and writes its answer, which is the one of the
+/// definitions. The answer has the line with the version of the trace and the widths, the beats
+/// that arrive (unless the order is a check), and how far each channel got. Returns whether all
+/// five channels are done.
 ///
-/// The answer is that of the definitions: the version of the trace and the widths, the beats that
-/// arrive (a check leaves them out), and how far each channel comes. The order is one that
-/// `order_of` gives.
+/// All input is read, and the whole answer is made, before anything is written.
 ///
-/// All of the input is read, and the whole answer made, before anything is written: `Read` where a read
-/// fails or is interrupted, `TooLong` above 67,108,864 bytes, and else `Trace` with the text's first
-/// fault and that fault's line. Both sides of the bridge run over rings of the order's size: each in a
-/// thread of its own, once the whole text is there, where they meet after each round of the order's
-/// turns; or both in one where the order is a check or says `sync`, while the text is read, so that no
-/// beat is kept that they are done with. `OutOfMemory` comes before anything is written; where the text
-/// is answered while it is read, it may come before a later line's fault is seen (this project's
-/// choice). `Stalled` never comes. `Write` where a write fails, is interrupted or takes no byte; after
-/// it, it isn't said how much went out.
+/// Errors:
+/// - `Read`: a read failed or was interrupted.
+/// - `TooLong`: the input has more than 67,108,864 bytes.
+/// - `Trace`: the text's first fault, with its line.
+/// - `OutOfMemory`: comes before anything is written. If the text is answered while it is read, it
+///   may come before the fault of a later line is seen (this project's choice).
+/// - `Write`: a write failed, was interrupted or took no byte. It is not specified how much was
+///   written.
+///
+/// `Stalled` is never returned.
+///
+/// The rings have the order's size. If the order is a check or has `sync`, both sides run in one
+/// thread while the text is read, and beats that are no longer needed are removed from memory.
+/// Otherwise each side runs in its own thread once the whole text is read, and the threads meet
+/// after each round of the order's turns. Requires: an order that can be run, as `order_of` returns
+/// it.
 pub fn run_text<T: Threads, R: Read, W: Write>(
     rt: &T,
     alloc: Global,

@@ -1,7 +1,8 @@
-//! The choice of a width that only a text says.
+//! The choice of a width that is known only at run time.
 
-/// Calls a function that is generic in a width, its last parameter, with the width that a number is:
-/// `at_width!(number, name::<A, B, _>(x, y))`. A number that is none of the first seven stands for 128.
+/// Calls a function that is generic in a width, its last parameter, with a width that is a number:
+/// `at_width!(number, name::<A, B, _>(x, y))`. Any number other than the first seven widths counts
+/// as 128.
 #[macro_export]
 macro_rules! at_width {
     ($width:expr, $name:ident::<$($before:ident,)* _>($($argument:expr),*)) => {

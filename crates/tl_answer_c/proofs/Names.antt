@@ -1,4 +1,4 @@
--- The names that C is told of the faults of a text are those that the program writes.
+-- The names of the faults of a text that C receives are those that the program writes.
 use Rattle.std.proofs.Common.{◌≡◌, refl}
 use Rattle.tl_trace.specs.Faults.{kind_number, kind_name}
 use Rattle.tl_trace.specs.declared.fault.TraceKind.{TraceKind}
@@ -6,9 +6,9 @@ use Rattle.tl_trace.specs.declared.fault.TraceKind.TheVariants as kinds
 use Rattle.tl_stream.specs.Faults.{text_fault_number, text_fault_name}
 use Rattle.tl_stream.specs.declared.fault.TextFault.{TextFault}
 use Rattle.tl_stream.specs.declared.fault.TextFault.TheVariants as faults
-use Rattle.tl_c_beats.specs.Texts.{answer_name}
+use Rattle.tl_c_beats.specs.Texts.{status_name}
 
-kinds_named : (kind : TraceKind) → answer_name (kind_number kind) ≡ kind_name kind
+kinds_named : (kind : TraceKind) → status_name (kind_number kind) ≡ kind_name kind
 kinds_named kinds.Header = refl
 kinds_named kinds.Channel = refl
 kinds_named kinds.Length = refl
@@ -17,7 +17,7 @@ kinds_named kinds.Range = refl
 kinds_named kinds.NoEnd = refl
 kinds_named kinds.OutOfMemory = refl
 
-pub faults_named : (fault : TextFault) → answer_name (text_fault_number fault) ≡ text_fault_name fault
+pub faults_named : (fault : TextFault) → status_name (text_fault_number fault) ≡ text_fault_name fault
 faults_named (faults.Trace fault) = kinds_named fault.kind
 faults_named faults.Stalled = refl
 faults_named faults.Read = refl

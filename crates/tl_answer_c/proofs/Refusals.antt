@@ -1,4 +1,4 @@
--- C is told each fault by a number that is not 0.
+-- The number of each fault that C receives is not 0.
 use Rattle.std.proofs.Common.{◌≡◌, ◌<◌, ℕ, List, Option, lit<, arith}
 use Rattle.tl_trace.specs.Faults.{kind_number}
 use Rattle.tl_trace.specs.declared.fault.TraceKind.{TraceKind}

@@ -1,4 +1,4 @@
--- What C is told of the answer to a text (this project's choice).
+-- The results that C receives for the answer to a text (this project's choice).
 use Rattle.std.specs.Prelude.{◌≡◌, ◌<◌, ◌==◌, ℕ, Bool, not, List, length}
 use Rattle.tl_stream.specs.Faults.{text_fault_number, text_fault_line}
 use Rattle.tl_answer.specs.Texts.{IsAnswer, IsOfText}
@@ -9,11 +9,11 @@ use Rattle.tl_stream.specs.declared.fault.TextFault.TheVariants as faults
 use Rattle.tl_c_beats.specs.Blocks.{IsBlockOf, IsNoBlock}
 use Rattle.tl_c_beats.specs.declared.answer_block.AnswerBlock.{AnswerBlock}
 
--- a flag is set where it is not 0
+-- a flag is set if it is not 0
 abbrev pub is_set : ℕ → Bool
 is_set n = not (n == 0)
 
--- what a call refuses a text for: it is too long, or what any run refuses it for
+-- the errors of a call for a text: it is too long, or an error of any run over it
 abbrev pub IsOfCall : (text : List ℕ) → TextFault → Type 0
 IsOfCall text faults.TooLong = most_bytes < length text
 IsOfCall text (faults.Trace fault) = IsOfText text (faults.Trace fault)
@@ -22,13 +22,13 @@ IsOfCall text faults.Read = ⊥
 IsOfCall text faults.Write = ⊥
 IsOfCall text faults.OutOfMemory = Unit {0}
 
--- C was given the block of the answer to the text
+-- C received the block of the answer to the text
 pub record IsGiven (text : List ℕ) (check : Bool) (block : AnswerBlock) : Type 0 where
   pub made : Answer
   pub given : IsBlockOf (record { text = made.text }) made.all_done block
   pub answers : IsAnswer text check made.text.items made.all_done
 
--- C was told the number and the line of the text's fault, and given no block
+-- C received the number and the line of the text's fault, and no block
 pub record IsRefusal (text : List ℕ) (number : ℕ) (block : AnswerBlock) : Type 0 where
   pub fault : TextFault
   pub of_call : IsOfCall text fault

@@ -1,6 +1,6 @@
-//! The answer to a whole trace for C: its text in, the text of the answer out, for every pair of
-//! widths. Both sides of the bridge run in one thread. `include/tlbridge.h` says what a caller that
-//! is not proved owes.
+//! The answer to a whole trace for C: from its text to the text of the answer, for every pair of
+//! widths. Both sides of the bridge run in one thread. `include/tlbridge.h` lists the duties of a
+//! caller that is not proved.
 #![tactic(auto)]
 
 mod sync_answer;
@@ -8,21 +8,23 @@ mod sync_answer;
 ghost use Rattle.std.specs.Prelude.{◌≡◌, ◌≢◌, List, None, ℕ};
 ghost use Rattle.tl_stream.specs.Faults.{text_fault_name, text_fault_number};
 ghost use Rattle.tl_stream.specs.declared.fault.TextFault.{TextFault};
-ghost use Rattle.tl_c_beats.specs.Texts.{answer_name, answer_text};
+ghost use Rattle.tl_c_beats.specs.Texts.{status_name, status_text};
 ghost use Rattle.tl_c_beats.specs.Blocks.{IsNoBlock};
 ghost use Rattle.tl_answer_c.specs.Calls.{IsGiven, IsRefusal, is_set};
 
 use crate::sync_answer::block_of;
 use std::alloc::Global;
-use tl_c_beats::{AnswerBlock, AnswerText, answer_text};
+use tl_c_beats::{AnswerBlock, StatusText, status_text};
 
-/// The answer to the text of a trace, without its far beats where `check` is not 0. An answer that
-/// was there before is let go first.
+/// Makes the answer to the text of a trace, without its far beats if `check` is not 0. Frees an
+/// answer that was there before.
 ///
-/// 0 where there is one: `answer` holds its text then, which stays where it is until it is given
-/// back by `tl_answer_free`. Else `answer` has no text, and this is the number of the fault: 14 to
-/// 19, and its line, where the text is no trace; 23 where it has more than 67,108,864 bytes; 13 where
-/// there is no memory.
+/// Returns 0 if there is an answer. `answer` then points to its text, which stays at the same
+/// address until `tl_answer_free` frees it.
+///
+/// Errors: the number of the fault. It is 14 to 19, with its line, if the text is not a valid
+/// trace, 23 if it has more than 67,108,864 bytes, and 13 if memory ran out. `answer` then has no
+/// text.
 #[unsafe(no_mangle)]
 pub extern "C" fn tl_answer_trace(
     alloc: Global,
@@ -43,7 +45,7 @@ pub extern "C" fn tl_answer_trace(
     }
 }
 
-/// Gives the text of an answer back, if there is one: there is none then.
+/// Frees the text of an answer, if there is one. Afterwards there is none.
 #[unsafe(no_mangle)]
 pub extern "C" fn tl_answer_free(alloc: Global, answer: &mut AnswerBlock)
     ensures { IsNoBlock None answer.new }
@@ -51,15 +53,15 @@ pub extern "C" fn tl_answer_free(alloc: Global, answer: &mut AnswerBlock)
     answer.free(alloc);
 }
 
-/// Writes the name and the sentence of an answer, each ended by zeros: of 0, of each fault by its
-/// number, 1 to 23, and of the answers of the library for a pair of widths. For a number that is no
-/// answer it writes zeros alone.
+/// Writes the name and the sentence for a returned number, each padded with zeros. The numbers are
+/// 0, each fault from 1 to 23, and the numbers that the library for a pair of widths returns. For
+/// any other number it writes only zeros.
 #[unsafe(no_mangle)]
-pub extern "C" fn tl_answer_text(answer: u8, text: &mut AnswerText)
-    ensures text { text.new ≡ answer_text answer }
-    // which are the names of the faults of a text
+pub extern "C" fn tl_status_text(answer: u8, text: &mut StatusText)
+    ensures text { text.new ≡ status_text answer }
+    // the names are those of the faults of a text
     ensures names { (fault : TextFault) →
-        answer_name (text_fault_number fault) ≡ text_fault_name fault }
+        status_name (text_fault_number fault) ≡ text_fault_name fault }
 {
-    *text = answer_text(answer);
+    *text = status_text(answer);
 }

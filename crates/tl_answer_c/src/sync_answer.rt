@@ -1,4 +1,4 @@
-//! The answer to a text that may be too long, and the block that C is given of it.
+//! The answer to a text that may be too long, and the block with it that C receives.
 ghost use Rattle.std.specs.Prelude.{IfOk, IfErr};
 ghost use Rattle.tl_answer.specs.Texts.{IsAnswer};
 ghost use Rattle.tl_answer_c.specs.Calls.{IsGiven, IsOfCall};
@@ -7,10 +7,10 @@ use std::alloc::Global;
 use tl_answer::{Answer, MAX_BYTES, TextFault, answer_sync};
 use tl_c_beats::AnswerBlock;
 
-/// The answer to a text: the widths, the far beats unless it is a check, and the five report lines.
+/// Returns the answer to a text: the line with the widths, the far beats unless `check` is set, and
+/// the five report lines.
 ///
-/// Refused with `TooLong`, with `Trace` and the text's first fault and its line, or with
-/// `OutOfMemory`.
+/// Errors: `TooLong`, `Trace` with the text's first fault and its line, or `OutOfMemory`.
 fn answer_of(alloc: Global, text: &[u8], check: bool) -> Result<Answer, TextFault>
     ensures ok { IfOk result (λ made. IsAnswer text.now check made.text.items made.all_done) }
     ensures err { IfErr result (IsOfCall text.now) }
@@ -21,7 +21,7 @@ fn answer_of(alloc: Global, text: &[u8], check: bool) -> Result<Answer, TextFaul
     answer_sync(alloc, text, check)
 }
 
-/// The block of that answer. Refused as the answer is.
+/// Returns the block of that answer. Errors: as `answer_of`.
 pub(crate) fn block_of(alloc: Global, text: &[u8], check: bool) -> Result<AnswerBlock, TextFault>
     ensures ok { IfOk result (IsGiven text.now check) }
     ensures err { IfErr result (IsOfCall text.now) }

@@ -42,7 +42,7 @@ module _ {K A H : Type 0} (r : Rules H) {w v : ℕ} (s : Sending K A H v) (t : T
     crosses = m.crosses;
   }
 
-  -- how far the channel has come
+  -- the progress of the channel
   met-progress : (n : ℕ) → received t ++ known_items t ≡ sent s → progress n (seen_by r t x taken) ≡ n + length (sent s) + length (received t)
   met-progress n ring =
       let out : length (received t) ≡ length taken + length t.inbox = ap length m.takes ∙ length-append taken t.inbox in
@@ -60,7 +60,7 @@ module _ {K A H : Type 0} (r : Rules H) {w v : ℕ} (s : Sending K A H v) (t : T
       sums : {p q u p' q' u' p'' : ℕ} → p ≡ p' → q ≡ q' → u ≡ u' → p' ≡ p'' → p + q + u ≡ p'' + q' + u'
       sums e f g h = omega arith
 
--- an end that has met has come as far as before
+-- an end that has met has the same progress as before
 met-sent : {K A H : Type 0} {v : ℕ} (s : Sending K A H v) (t : Taking K A H v) (s' : Sending K A H v) (t' : Taking K A H v) → Met s t s' t' →
     length (sent s') ≡ length (sent s)
 met-sent s t s' t' m = ap length m.same_sent
@@ -82,7 +82,7 @@ module _ {A : Type 0} {C M : ℕ} (near : Beats C M) (n : PerChannel ℕ) (far :
       (subst (λ bs. IsHandedWith rules_d bs (manager_homes h.manager.history)) (sym h.meet.manager.accepted)
       (subst (λ hs. IsHandedWith rules_d h.manager.d.accepted hs) (sym h.meet.manager.homes) h.meet.d.outbox.converter.handed))
 
-  -- the bridge that both are stands for what has happened
+  -- the bridge that both sides form represents their past
   pub met-stands : StandsFor (bridge_of s t) (past_of s t h.client h.manager)
   met-stands = record {
     a = met-pipe rules_a s.a t.a h.client.a (asked h.manager.history) h.meet.a;
@@ -101,7 +101,7 @@ module _ {A : Type 0} {C M : ℕ} (near : Beats C M) (n : PerChannel ℕ) (far :
     manager_obeys = met-legal.1;
   }
 
-  -- the run has come as far as both sides say
+  -- the progress of the run is the sum of those of both sides
   pub met-way : met_progress n s t ≡ all_progress n (past_of s t h.client h.manager)
   met-way =
       sums _ _ _ _ _ _ _ _ _ _ _ _ _ _ _ _ _ _ _ _
@@ -116,7 +116,7 @@ module _ {A : Type 0} {C M : ℕ} (near : Beats C M) (n : PerChannel ℕ) (far :
           (ka + kc + ke + ia + ic + ie + ob + od) + (kb + kd + ib + id + oa + oc + oe) ≡ a + b + c + d + e
       sums a b c d e ka ia oa kb ib ob kc ic oc kd id od ke ie oe p q r s t = omega arith
 
-  -- where it has ended
+  -- the state in which it has ended
   pub met-ended : (stops : PerChannel Stop) (count : ℕ) → AllStop near n (past_of s t h.client h.manager) (all_stopped stops) →
       all_under_way (past_of s t h.client h.manager) ≡ 0 → count ≤ met_progress n s t + 1 → HasEnded near n far (bridge_of s t) stops count
   met-ended stops count stop rest few = record {
@@ -128,7 +128,7 @@ module _ {A : Type 0} {C M : ℕ} (near : Beats C M) (n : PerChannel ℕ) (far :
     few_rounds = subst (λ k. count ≤ k + 1) met-way few;
   }
 
-  -- it comes no further than this
+  -- its progress is bounded by this
   pub met-most : IsWidth C → IsWidth M → met_progress n s t ≤ run_end near
   met-most cw mw =
       let x = past_of s t h.client h.manager in
@@ -138,7 +138,7 @@ module _ {A : Type 0} {C M : ℕ} (near : Beats C M) (n : PerChannel ℕ) (far :
   -- ---- a round begins
 
   module _ (cw : IsWidth C) (mw : IsWidth M) where
-    -- each side stands at its beginning
+    -- each side is at its beginning
     pub client-begins : ClientIsAt near n.d n.a h.client.history n far.b far.d s none_ready
     client-begins = record {
       past = h.client;
@@ -174,7 +174,7 @@ module _ {A : Type 0} {C M : ℕ} (near : Beats C M) (n : PerChannel ℕ) (far :
       stop_d = tt;
     }
 
-    -- all that stands in its inboxes is due
+    -- all beats in its inboxes are due
     pub client-due : IsPrefix (far.d ++ s.d.inbox) (far_d near.a near.d n.d)
     client-due =
         let x = past_of s t h.client h.manager in
@@ -284,7 +284,7 @@ module _ {C M : ℕ} (cw : IsWidth C) (mw : IsWidth M) (near : Beats C M) (n : P
     (standings : PerChannel Standing) (m : Meeting x'.side y'.side s' t' standings)
     (meets : (p : ClientPast C M) (q : ManagerPast C M) → ClientStandsFor x'.side p → ManagerStandsFor y'.side q → SidesMeet s' t' p q)
     (u : Turn) (which : u.accepted ≡ true → (there.accepted ≡ true) ⊎ (back.accepted ≡ true)) where
-  -- where both rest, no channel offers more, and nothing is under way
+  -- if both rest, no channel offers more beats, and nothing is under way
   both-rest : ClientRests x.side x'.side there.offers → ManagerRests y.side y'.side back.offers →
       AreStopped (of_both there.offers back.offers) ×
       (all_standing standings ≡ 0)
@@ -299,7 +299,7 @@ module _ {C M : ℕ} (cw : IsWidth C) (mw : IsWidth M) (near : Beats C M) (n : P
       none : {a b c d e : ℕ} → a ≡ 0 → b ≡ 0 → c ≡ 0 → d ≡ 0 → e ≡ 0 → a + b + c + d + e ≡ 0
       none f g h i j = omega arith
 
-  -- the round of these turns, where they came to this and these became of the next beats
+  -- the round of these turns, with these results and these outcomes of the next beats
   abbrev Played : PerChannel ℕ → PerChannel Offered → Type 0
   Played at offers = HasPlayed near n x.side y.side (record u { at = at; offers = offers }) standings (beats_of (taken_of x' y')) s' t'
 

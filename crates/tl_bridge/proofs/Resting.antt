@@ -1,8 +1,8 @@
--- A side rests within a round where it moves no beat, and where both rest nothing is under way.
+-- A side rests within a round in which it moves no beat, and if both rest, nothing is under way.
 use Rattle.std.proofs.Common.{◌≡◌, ◌≢◌, ◌+◌, ◌-◌, ◌≤◌, ◌⊎◌, ◌↔◌, inl, inr, ◌++◌, ℕ, zero, suc, Bool, true, Option, List, [], length, take, drop, min}
 use Rattle.std.proofs.Common.{refl, sym, ap, subst, ◌∙◌, arith, append-nil, length-append, ⊎_elim}
 use Rattle.std.proofs.lemmas.List.{nil_from_length}
-use Rattle.tl_bridge.proofs.Words.{Rules, rules_a, rules_b, rules_c, rules_d, rules_e, HeadA, HeadB, HeadC, HeadD, HeadE, BeatOf, SideFault, ROOM}
+use Rattle.tl_bridge.proofs.Words.{Rules, rules_a, rules_b, rules_c, rules_d, rules_e, HeadA, HeadB, HeadC, HeadD, HeadE, BeatOf, SideFault, STAGE_CAPACITY}
 use Rattle.tl_bridge.proofs.Words.{World, inbox_room, Sending, Taking, Sends, Takes, Met, sent, received, known_free, known_items, room, Standing}
 use Rattle.tl_bridge.proofs.Words.{Event, client_answer, manager_answer, manager_home, Beats, stops_alone, PerChannel, Pumps, Fetches, AreStanding}
 use Rattle.tl_bridge.proofs.Words.{pump_count, fetch_count, ClientState, ManagerState, Does, IsSent, IsStopped, standing_count, steps, Offered}
@@ -33,7 +33,7 @@ module _ {K A H : Type 0} {v : ℕ} where
         stops = λ e. stops (sym staged ∙ e);
       }
 
-  -- what an end took out of its ring was taken from its inbox, before and after
+  -- the beats that an end took out of its ring were taken from its inbox, before and after
   none-left : (t t' : Taking K A H v) (taken : List (BeatOf H v)) → received t' ≡ received t → received t ≡ taken → Takes t' taken → t'.inbox ≡ []
   none-left t t' taken same all takes =
       let had : length taken ≡ length taken + length t'.inbox = sym (ap length (same ∙ all)) ∙ ap length takes ∙ length-append taken t'.inbox in
@@ -59,10 +59,10 @@ module _ {K A H : Type 0} {v : ℕ} where
         none_left = left;
       }
     where
-      no-more : (known inbox moved : ℕ) → 0 ≡ inbox + moved → min known (ROOM - inbox) ≤ 0 → known ≡ 0
+      no-more : (known inbox moved : ℕ) → 0 ≡ inbox + moved → min known (STAGE_CAPACITY - inbox) ≤ 0 → known ≡ 0
       no-more known inbox moved e least = omega arith
 
-  -- all that stood in an inbox was taken
+  -- all beats of an inbox were taken
   pub none-behind : (t t' : Taking K A H v) (taken : List (BeatOf H v)) → t'.consumer ≡ t.consumer → Takes t taken →
       Takes t' (taken ++ t.inbox) → t'.inbox ≡ []
   none-behind t t' taken same before after =
@@ -119,7 +119,7 @@ some-free r s s' t t' x sends m = bounds (room s) x.room _ sends.pipe.room sends
     bounds : (room size all : ℕ) → room ≡ size → 1 ≤ size → room ≤ all → 1 ≤ all
     bounds room size all e some most = omega arith
 
--- no beat was accepted: where nothing is staged, the channel offers no more
+-- no beat was accepted: if nothing is staged, the channel offers no more
 offer-stops : {H : Type 0} (r : Rules H) {w v : ℕ} (bs : List (BeatOf H w)) (n : ℕ) (answer : BeatOf H w → Option SideFault) (home : BeatOf H w → ℕ)
     (x : World H w v) (o : Offered)
     (accepted : List (BeatOf H w)) (y : World H w v) → IsSent r bs n x.taken x → Does r bs n answer home x o accepted y →
@@ -131,7 +131,7 @@ offer-stops r bs n answer home x (Stopped stop) accepted y s does none empty = t
 
 -- ---- a turn of a side
 
--- a turn accepted so many beats and moved so many others: it moved one, or there was none of either
+-- a turn accepted some beats and moved some others: it moved one, or there was none of either
 pub moves-or : (steps others : ℕ) (moved accepted : Bool) (Rests : Type 0) → ((moved ≡ true) ↔ ((steps ≢ 0) ⊎ (others ≢ 0))) →
     ((accepted ≡ true) ↔ (steps ≢ 0)) →
     (steps ≡ 0 → others ≡ 0 → Rests) → (moved ≡ true) ⊎ ((accepted ≢ true) × Rests)
@@ -196,7 +196,7 @@ module _ {A : Type 0} {C M : ℕ} (near : Beats C M) (n : PerChannel ℕ) where
             (subst (λ q. Takes s.e q) (sym h.e_taken) h.stands.e) takes_e;
       }
 
--- a side that rests did so from before it took what stood in its inboxes
+-- a side that rests has rested since before it took the beats of its inboxes
 module _ {A : Type 0} {C M : ℕ} where
   pub client-rests-since : (s t u : ClientState A C M) (o : PerChannel Offered) → SameClientEnds s t → ClientRests t u o → ClientRests s u o
   client-rests-since s t u o ends h = record {

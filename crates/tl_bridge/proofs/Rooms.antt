@@ -1,10 +1,10 @@
--- The lists of far beats of a run in two threads have room for all that comes.
+-- The lists of far beats of a run in two threads have room for all beats that arrive.
 use Rattle.std.proofs.Common.{◌≡◌, ◌+◌, ◌≤◌, ℕ, List, length, sym, subst}
 use Rattle.tl_bridge.proofs.Words.{IsWidth, Rules, rules_a, rules_b, rules_c, rules_d, rules_e, BeatOf, World, Crosses, Beats, Bridge, Past}
 use Rattle.tl_bridge.proofs.Words.{StandsFor, PerChannel, Taken, HasRoom, HasRoomFor, beats_of, IsSent, IsAt, room-for}
 use Rattle.tl_bridge.specs.Inner.Arriving.{HasRoomForInboxes, KeepsRoom}
 
--- a list of far beats has room for an inbox, where all that is due fits
+-- a list of far beats has room for an inbox, if all due beats fit
 room-in : {H : Type 0} (r : Rules H) {w v : ℕ} (ww : IsWidth w) (vw : IsWidth v) (bs : List (BeatOf H w)) (n : ℕ)
     (far : List (BeatOf H v)) (x : World H w v)
     (inbox : List (BeatOf H v)) (len capacity : ℕ) → len ≡ length far → inbox ≡ x.inbox → IsSent r bs n far x →
@@ -13,7 +13,7 @@ room-in : {H : Type 0} (r : Rules H) {w v : ℕ} (ww : IsWidth w) (vw : IsWidth 
 room-in r ww vw bs n far x inbox len capacity e f s c has = rw (e, f) (room-for r ww vw bs n far x s c capacity has)
 
 module _ {C M : ℕ} (cw : IsWidth C) (mw : IsWidth M) (near : Beats C M) (n : PerChannel ℕ) where
-  -- all that stands in the inboxes may be taken
+  -- all beats of the inboxes may be taken
   pub inboxes-fit : (far : Taken C M) (s : Bridge C M) (x : Past C M) → StandsFor s x → IsAt near n (beats_of far) x → HasRoomFor near far →
       HasRoomForInboxes s far
   inboxes-fit far s x stands i has = record {

@@ -1,4 +1,4 @@
--- What no call but a pump and a fetch changes of a side's ends, and how far a side comes.
+-- The parts of a side's ends that only a pump and a fetch change, and the progress of a side.
 use Rattle.std.proofs.Common.{◌≡◌, ◌+◌, ℕ, length, take, sym, ap, subst, ◌∙◌, arith, length-append}
 use Rattle.std.proofs.lemmas.List.{length-take}
 use Rattle.tl_bridge.proofs.Words.{Sending, Taking, SameSend, SameTake, sent, received, same_send, same_take, PerChannel, Pumps, Fetches, pump_count}
@@ -21,7 +21,7 @@ module _ {A : Type 0} where
   take-count : {K H : Type 0} {v : ℕ} (t t' : Taking K A H v) → t'.consumer ≡ t.consumer → length (received t') ≡ length (received t)
   take-count t t' e = ap (λ (p : _). length (received (record t { consumer = p }))) e
 
-  -- a pump sends as many beats as it says, and a fetch receives so many
+  -- a pump sends as many beats as its result says, and a fetch receives as many
   pumped-count : {K H : Type 0} {v : ℕ} (s s' : Sending K A H v) → Pumps s s' → length (sent s') ≡ length (sent s) + pump_count s s'
   pumped-count s s' h =
       let n : length (take (pump_count s s') s.stage) ≡ _ = length-take (pump_count s s') s.stage in

@@ -1,4 +1,4 @@
--- What a side's thread does in a round, told of all that it holds.
+-- The part of a side's thread in a round, stated for all that the thread holds.
 use Rattle.std.proofs.Common.{◌≡◌, ◌≢◌, ◌⊎◌, ◌↔◌, ◌+◌, ◌<◌, ◌≤◌, ◌^◌, ◌++◌, inl, inr, ℕ, true, sym, subst, ap, ◌∙◌, arith, vec_capacity, ⊎_elim}
 use Rattle.tl_bridge.proofs.Words.{Takes, answered, asked, Beats, PerChannel, ClientPast, ManagerPast, ClientStandsFor, ManagerStandsFor}
 use Rattle.tl_bridge.proofs.Words.{HaveRoomToCount, Offered, NotReady, steps, counted, none-more, answered-all, asked-all, client_takes_b}
@@ -12,7 +12,7 @@ use Rattle.tl_bridge.proofs.SideEnds.{client-same, client-stays, manager-same, m
 use Rattle.tl_bridge.proofs.SideRound.{client-took, manager-took}
 
 module _ {S : Type 0} {C M : ℕ} (k : Playing S C M) (near : Beats C M) (n : PerChannel ℕ) where
-  -- it has made one turn, in which these were its offers, and so many beats were pumped and fetched
+  -- it has made one turn, with these outcomes of its offers, and pumped and fetched `others` beats
   pub turned : (s t : S) (o : PerChannel Offered) (others : ℕ) (u : Turn) → u.at ≡ counted n o → u.offers ≡ o →
       ((u.accepted ≡ true) ↔ (all_steps o ≢ 0)) →
       ((u.moved ≡ true) ↔ ((all_steps o ≢ 0) ⊎ (others ≢ 0))) → k.Same s t → k.progress (counted n o) t ≡ k.progress n s + all_steps o + others →
@@ -40,7 +40,7 @@ module _ {S : Type 0} {C M : ℕ} (k : Playing S C M) (near : Beats C M) (n : Pe
       second i j l whole e some = omega arith
 
   module _ (s t u : S) where
-    -- it has taken all that stood in its inboxes, and made one turn
+    -- it has taken all beats of its inboxes, and made one turn
     pub played-first : (one : Turn) → HasTaken k s t → HasTurned k near n t u one → HasPlayedTurns k near n s u one
     played-first one took turn = record {
       same = k.same_then s t u took.same turn.same;
@@ -73,7 +73,7 @@ pub still-few : {n : ℕ} {o : Offered} → o ≡ NotReady → n < 2 ^ 41 → n 
 still-few {n} e few = subst (λ k. k < 2 ^ 41) (none-more n ∙ ap (λ q. n + steps q) (sym e)) few
 
 module _ {C M : ℕ} where
-  -- all that stood in the inboxes of a side is behind what its lists had
+  -- all beats of a side's inboxes come after those in its lists
   pub client-taken : (x x' : ClientRun C M) →
       ((p : ClientPast C M) → ClientStandsFor x.side p → ClientStandsFor x'.side (client_takes_d x.side.d.inbox (client_takes_b x.side.b.inbox p))) →
       SameClientEnds x.side x'.side → x'.far_b.items ≡ x.far_b.items ++ x.side.b.inbox → x'.far_d.items ≡ x.far_d.items ++ x.side.d.inbox →

@@ -1,4 +1,4 @@
--- What a side does in a round, one step after another.
+-- The part of a side in a round, one step after another.
 use Rattle.std.proofs.Common.{◌≡◌, ◌+◌, ◌++◌, ℕ, None, List, map, refl, sym, ap, subst, ◌∙◌, append-nil}
 use mathlib.Core.List.{IsPrefix}
 use Rattle.tl_bridge.proofs.Words.{rules_a, rules_b, rules_c, rules_d, rules_e, HeadA, HeadB, HeadC, HeadD, HeadE, BeatOf, fault_after, Event, Ask}
@@ -11,7 +11,7 @@ use Rattle.tl_bridge.proofs.Words.{client-offers, manager-offers}
 use Rattle.tl_bridge.specs.Inner.Sides.{ClientIsAt, ManagerIsAt, ClientHasOffered, ManagerHasOffered, none_ready}
 
 module _ {A : Type 0} {C M : ℕ} (near : Beats C M) where
-  -- all that stood in the inboxes is taken
+  -- all beats of the inboxes are taken
   pub client-took : (j m : ℕ) (es : List (Event C)) (n : PerChannel ℕ) (far_b far_b' : List (BeatOf HeadB C))
       (far_of_d far_of_d' : List (BeatOf HeadD C))
       (s s' : ClientState A C M) (o : PerChannel Offered) → (h : ClientIsAt near j m es n far_b far_of_d s o) →

@@ -1,4 +1,4 @@
--- What the thread of a side holds takes little memory, whatever the two widths are.
+-- The state of a side's thread fits in memory, whatever the two widths are.
 use Rattle.std.proofs.Common.{◌<◌, ◌^◌, ℕ, refl}
 use Rattle.tl_bridge.proofs.Words.{IsWidth, small_at_widths}
 use Rattle.tl_bridge.specs.Inner.Sizes.{client_run_size, manager_run_size}

@@ -16,7 +16,7 @@ pub use Rattle.tl_ring.specs.Crossing.{World, inbox_room}
 pub use Rattle.tl_ring.specs.Ends.{Meets, Met, SameSend, SameTake, Sending, Sends, Takes, Taking, known_free, known_items, received, room, seen_by}
 pub use Rattle.tl_ring.specs.Ends.{sent}
 pub use Rattle.tl_ring.specs.Laws.{Crosses}
-pub use Rattle.tl_ring.specs.declared.queue.TheConstants.{ROOM}
+pub use Rattle.tl_ring.specs.declared.queue.TheConstants.{STAGE_CAPACITY}
 pub use Rattle.tl_ring.specs.declared.standing.Standing.{Standing}
 pub use Rattle.tl_run.proofs.ChannelEnd.{inbox-due, room-for}
 pub use Rattle.tl_run.proofs.ChannelOffer.{answered-all, asked-all, homed-offer, sent-offer, sent-passed, stops-offer}

@@ -1,4 +1,4 @@
--- The words of the crates below that the definitions of this crate speak in.
+-- Definitions of the crates below that those of this crate use.
 pub use Rattle.tl_msg.specs.Tables.{rules_a, rules_b, rules_c, rules_d, rules_e}
 pub use Rattle.tl_msg.specs.declared.beat.BeatOf.{BeatOf}
 pub use Rattle.tl_msg.specs.declared.head.HeadA.{HeadA}

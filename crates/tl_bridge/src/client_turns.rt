@@ -1,4 +1,4 @@
-//! What the client's side does in a round of a run in two threads.
+//! The part of the client's side in a round of a run in two threads.
 ghost use Rattle.std.specs.Prelude.{◌≡◌};
 ghost use Rattle.tl_sides.specs.Sides.{ClientPast, ClientStandsFor};
 ghost use Rattle.tl_run.specs.Scripts.{near_beats};
@@ -14,8 +14,8 @@ use tl_run::{Offered, Offers, Turn};
 use tl_sides::{ClientSide, PerChannel};
 use tl_trace::Script;
 
-/// What the client's thread holds for a whole run: its side, and the far beats that it has taken, in
-/// lists that grow no more.
+/// The state of the client's thread for a whole run: its side, and the far beats that it has taken,
+/// in lists that never grow.
 #[derive(Drop)]
 pub(crate) struct ClientRun<const C: usize, const M: usize> {
     pub side: ClientSide<C, M>,
@@ -23,7 +23,8 @@ pub(crate) struct ClientRun<const C: usize, const M: usize> {
     pub far_d: Vec<Beat<ChD, C>>,
 }
 
-// The client's side offers the next beat of each of its channels, in the order of letters.
+// Offers the next beat of each channel of the client's side, in alphabetical order. Returns the
+// outcomes.
 fn offer_each<const C: usize, const M: usize>(
     side: &mut ClientSide<C, M>,
     script: &Script<C, M>,

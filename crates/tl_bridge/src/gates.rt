@@ -1,10 +1,10 @@
-//! What a side of a run does at the beginning of each round.
+//! The hook that a side of a run calls at the beginning of each round.
 ghost use Rattle.std.specs.Prelude.{◌+◌, ℕ};
 
-/// What a side of a run in two threads passes at the beginning of each round, in its own thread (this project's choice). A run knows
-/// nothing of what a gate does.
+/// A hook that a side of a run in two threads calls at the beginning of each round, in its own
+/// thread (this project's choice). A run does not depend on what it does.
 pub trait Gate {
-    // it was passed this number of times, as far as the gate counts that
+    // it was called this number of times, as far as the gate counts that
     ghost HasPassed: { ℕ → Self → Type 0 } = { λ _ _. Unit {0} };
 
     /// Called once in each round, before the side takes or offers a beat.

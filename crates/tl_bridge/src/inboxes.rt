@@ -1,7 +1,7 @@
-//! Where the far beats go that a side of a run in two threads takes.
+//! The destination of the far beats that a side of a run in two threads takes.
 ghost use Rattle.std.specs.Prelude.{◌≡◌, ◌+◌, ◌++◌, ◌≤◌, length, vec_len, vec_capacity};
 
-// The beats of an inbox come behind those of a list that has room for them.
+// Appends the beats of an inbox to a list. Requires: the list has room for them.
 pub(crate) fn append<B: Copy>(far: &mut Vec<B>, beats: &[B])
     requires { vec_len far.old + length beats.now ≤ vec_capacity far.old }
     ensures items { far.new.items ≡ far.old.items ++ beats.now }

@@ -1,10 +1,12 @@
 //! The run of a whole script over a bridge whose two sides are each in a thread of their own
-//! (`run_threads`). Beside it, this crate gives callers of a bridge all names that they need of the
-//! crates below: `SyncBridge`, the two sides, the laws of what a script settles to, and of `tl_run` the
-//! run in one thread (`run_sync`, `SyncRun`), where far beats go, and what a run ends in.
+//! (`run_threads`). The crate also re-exports all names of the crates below that callers of a
+//! bridge need: `SyncBridge`, the two sides, the laws of the settled state of a script, and from
+//! `tl_run` the run in one thread (`run_sync`, `SyncRun`), the destination of far beats, and the
+//! outcome of a run.
 #![tactic(auto)]
 
-// A private function has one `requires`, since the checker states each clause by itself at each call.
+// A private function has one `requires`, because the checker proves each clause separately at each
+// call.
 
 mod client_turns;
 mod gates;

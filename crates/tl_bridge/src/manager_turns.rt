@@ -1,4 +1,4 @@
-//! What the manager's side does in a round of a run in two threads.
+//! The part of the manager's side in a round of a run in two threads.
 ghost use Rattle.std.specs.Prelude.{◌≡◌};
 ghost use Rattle.tl_sides.specs.Sides.{ManagerPast, ManagerStandsFor};
 ghost use Rattle.tl_run.specs.Scripts.{near_beats};
@@ -14,8 +14,8 @@ use tl_run::{Offered, Offers, Turn};
 use tl_sides::{ManagerSide, PerChannel};
 use tl_trace::Script;
 
-/// What the manager's thread holds for a whole run: its side, and the far beats that it has taken,
-/// in lists that grow no more.
+/// The state of the manager's thread for a whole run: its side, and the far beats that it has
+/// taken, in lists that never grow.
 #[derive(Drop)]
 pub(crate) struct ManagerRun<const C: usize, const M: usize> {
     pub side: ManagerSide<C, M>,
@@ -24,7 +24,8 @@ pub(crate) struct ManagerRun<const C: usize, const M: usize> {
     pub far_e: Vec<Beat<ChE, M>>,
 }
 
-// The manager's side offers the next beat of each of its channels, in the order of letters.
+// Offers the next beat of each channel of the manager's side, in alphabetical order. Returns the
+// outcomes.
 fn offer_each<const C: usize, const M: usize>(
     side: &mut ManagerSide<C, M>,
     script: &Script<C, M>,

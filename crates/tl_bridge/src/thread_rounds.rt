@@ -20,8 +20,8 @@ use tl_run::{End, Turn};
 use tl_sides::{ClientSide, ManagerSide, PerChannel, Standings, meet_sides};
 use tl_trace::Script;
 
-// Both sides of a round, at the same time. It is told of any two that play rounds, since the checker
-// would else lay out the whole types of the two sides at each step of both closures.
+// Runs both sides of a round concurrently. The function is generic in the two sides; otherwise the
+// checker would expand the whole types of the two sides at each step of both closures.
 fn play_both<
     R: Threads,
     X: PlaysRounds<C, M> + Send,
@@ -71,13 +71,15 @@ fn play_both<
     )
 }
 
-// Two sides of one bridge that each went on by itself are sides of one bridge. Nothing is done.
+// Lemma: two sides of one bridge that each advanced by itself are still sides of one bridge. Does
+// nothing at run time.
 fn are_sides<const C: usize, const M: usize>(client: &ClientSide<C, M>, manager: &ManagerSide<C, M>)
     requires { WereSides client.now manager.now }
     ensures { AreSides client.now manager.now }
 {}
 
-// A round, and the meeting after it: what both sides have done, and where the beats stand then.
+// Runs a round and the meeting after it. Returns the result of both sides, and the number of beats
+// at each place afterwards.
 fn round<R: Threads, G: Gate + Send, H: Gate + Send, const C: usize, const M: usize>(
     rt: &R,
     client: &mut ClientRun<C, M>,
@@ -117,8 +119,8 @@ fn round<R: Threads, G: Gate + Send, H: Gate + Send, const C: usize, const M: us
     (there.beside(&back), standings)
 }
 
-// Rounds, up to the first one in which no beat was accepted and after which nothing is under way.
-// It comes at the latest when nothing moves in a round.
+// Runs rounds, up to the first one in which no beat was accepted and after which nothing is under
+// way. That is at the latest the first round in which nothing moves.
 #[inline(never)]
 pub(crate) fn play_rounds<
     R: Threads,

@@ -18,7 +18,7 @@ use tl_ring::MAX_RING;
 use tl_run::{Outcome, RunFault, Taken, outcome_at};
 use tl_trace::Script;
 
-// The lists of far beats, when both sides are done with.
+// Returns the lists of far beats, when both sides are finished.
 fn lists_of<const C: usize, const M: usize>(
     client: ClientRun<C, M>,
     manager: ManagerRun<C, M>,
@@ -35,23 +35,24 @@ fn lists_of<const C: usize, const M: usize>(
     }
 }
 
-/// Runs a script over a bridge whose two sides are each in a thread of their own, to its end: the
-/// far beats and the verdicts are those that the script settles to, whatever the size of the rings,
-/// the number of turns, and the order in which the two threads do what they do; so they are those
-/// of [`run_sync`](crate::run_sync).
+/// Runs a script over a bridge whose two sides are each in a thread of their own, to its end.
+/// Returns the far beats and the verdicts of the script's settled state, whatever the size of the
+/// rings, the number of turns and the interleaving of the two threads. So they are those of
+/// [`run_sync`](crate::run_sync).
 ///
-/// The run is made of rounds. In each, each side passes its gate, takes all that stood in its
-/// inboxes when the two sides met last, and then up to `turns` times, until one in which nothing
-/// moves, offers the next beat of each of its channels that is ready, moves staged beats into its
-/// rings, and beats of the other side's rings into its inboxes. Both sides do so at the same time; then they meet. A refused beat stays next.
-/// A channel whose list is used up between two messages is closed. The run ends after the first
-/// round in which no beat was accepted and after which nothing is under way. The outcome's `rounds` is
-/// the number of rounds: each gate was passed that often.
+/// The run is made of rounds. In each round, each side first calls its gate, and takes all beats
+/// that were in its inboxes at the last meeting. Then it makes up to `turns` turns, until one in
+/// which nothing moves. In a turn it offers the next beat of each of its channels that is ready,
+/// moves staged beats into its rings, and moves beats of the other side's rings into its inboxes.
+/// Both sides do so concurrently; then they meet. A refused beat stays next. A channel whose list
+/// is used up between two messages is closed. The run ends after the first round in which no beat
+/// was accepted and after which nothing is under way. The outcome's `rounds` is the number of
+/// rounds, that is, of calls of each gate.
 ///
-/// The rings hold `ring` beats each. Refused with `RingSize` exactly where that is 0 or above
-/// 4,096, which is tested first, and else with `OutOfMemory` where there is no memory for the bridge
-/// or for the far beats: all of it is asked for before the first round. `Stalled` never comes.
-/// `turns` is 1 at least, and each list has at most `2^40` beats.
+/// Errors: `RingSize` if and only if `ring`, the size of each ring in beats, is 0 or above 4,096;
+/// otherwise `OutOfMemory` if the allocator fails for the bridge or for the far beats. All memory
+/// is allocated before the first round. `Stalled` is never returned. Requires: `C` and `M` are
+/// widths, `turns` is at least 1, and each list has at most `2^40` beats.
 #[inline(never)]
 pub fn run_threads<R: Threads, G: Gate + Send, H: Gate + Send, const C: usize, const M: usize>(
     rt: &R,
@@ -76,11 +77,12 @@ pub fn run_threads<R: Threads, G: Gate + Send, H: Gate + Send, const C: usize, c
         ((ring ≡ 0) ⊎ (MAX_RING < ring))) }
     ensures never_stalled { IfErr result (λ fault. fault ≢ Stalled) }
 {
-    // the lists are asked for first, and then the rings
+    // the lists are allocated first, and then the rings
     if ring == 0 || ring > MAX_RING {
         return Err(RunFault::RingSize);
     }
-    let Ok(Taken { a, b, c, d, e }) = Taken::new(alloc, script) else {
+    let mut far = Taken::new(alloc);
+    let Ok(()) = far.reserve(script) else {
         return Err(RunFault::OutOfMemory);
     };
     sides_fit::<C, M>();
@@ -88,6 +90,7 @@ pub fn run_threads<R: Threads, G: Gate + Send, H: Gate + Send, const C: usize, c
         return Err(RunFault::OutOfMemory);
     };
     runs_fit::<C, M>();
+    let Taken { a, b, c, d, e } = far;
     let mut client = ClientRun {
         side: client,
         far_b: b,

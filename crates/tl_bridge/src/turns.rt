@@ -1,4 +1,4 @@
-//! What a side of a run in two threads does in a round, whichever of the two it is.
+//! The part of a side, of either kind, in a round of a run in two threads.
 ghost use Rattle.std.specs.Prelude.{◌+◌, ℕ};
 ghost use Rattle.tl_run.specs.Scripts.{HasShortLists, near_beats};
 ghost use Rattle.tl_offer.specs.Widths.{AreWidths};
@@ -10,25 +10,27 @@ use tl_run::Turn;
 use tl_sides::PerChannel;
 use tl_trace::Script;
 
-/// A side of a run in its own thread, with the far beats that it has taken, in lists that grow no more.
+/// A side of a run in its own thread, with the far beats that it has taken, in lists that never
+/// grow.
 pub(crate) trait PlaysRounds<const C: usize, const M: usize> {
-    // what it is told by
+    // the description that the contracts use
     ghost playing: { Playing Self C M };
 
-    /// Takes all that stands in its inboxes.
+    /// Takes all beats of its inboxes.
     fn take_each(&mut self)
         requires { AreWidths C M × playing.HasRoom self.old }
         ensures { HasTaken playing self.old self.new };
 
-    /// A turn: offers the next beat of each of its channels, of which so many were accepted, pumps and
-    /// fetches.
+    /// Makes a turn: offers the next beat of each of its channels, of which `at` were accepted,
+    /// pumps and fetches. Returns the result.
     fn turn(&mut self, script: &Script<C, M>, at: &PerChannel<usize>) -> Turn
         requires { AreWidths C M × HasShortLists script.now × HaveRoomToCount at.now }
         ensures { HasTurned playing (near_beats script.now) at.now self.old self.new result };
 }
 
-// What a side does in a round, before which so many beats of each channel were accepted. A turn in
-// which nothing moves is its last: the ones after it would find the same, until the other side moves.
+// Runs a side's part of a round, before which `at` beats of each channel were accepted. Returns the
+// result of its turns. A turn in which nothing moves is its last: later ones would do the same,
+// until the other side moves.
 #[inline(never)]
 pub(crate) fn play<S: PlaysRounds<C, M>, G: Gate, const C: usize, const M: usize>(
     side: &mut S,

@@ -66,7 +66,7 @@ module _ {H : Type 0} (r : Rules H) (w : ℕ) where
         home_is = ap (λ xs. m'.home ∷ xs) o.home_is;
       }
 
-  -- the last of handed beats stands in a lawful message, after what was left of the earlier ones
+  -- the last of handed beats belongs to a lawful message, after the rest of the earlier ones
   record Last (bs : List (BeatOf H w)) (b : BeatOf H w) : Type 0 where
     pub m : Message H
     pub more : List (BeatOf H w)
@@ -107,7 +107,7 @@ module _ {H : Type 0} (r : Rules H) (w : ℕ) (ww : IsWidth w)
     (small : (h : H) → r.fault h ≡ None → r.size h ≤ 12)
     (masked_address : r.masked ≡ true → (h : H) (x y : ℕ) → r.lane_address h x ≡ r.lane_address h y)
     (partial_carries : (h : H) → r.partial h ≡ true → r.carries h ≡ true) where
-  -- where the beats with one more are admitted, a tracker accepts that one
+  -- if the beats with one more are handed, a tracker accepts that one
   pub admitted-accepts : (bs : List (BeatOf H w)) (homes : List ℕ) (b : BeatOf H w) → IsHandedWith r (bs ++ b ∷ []) homes →
       Accepts r (head_of (rest_of r w bs)) b
   admitted-accepts bs homes b (ms, rest, handed) =
@@ -124,7 +124,7 @@ module _ {H : Type 0} (r : Rules H) (w : ℕ) (ww : IsWidth w)
         clean = λ _ reads none_of. fit.clean reads (ap (λ h. r.carries h) (sym fit.head) ∙ none_of);
       }
 
-  -- an accepted beat may stand at each place of a message with its head
+  -- an accepted beat fits each position of a message with its head
   accepts-fitting : (burst : Option H) (x j : ℕ) (h : H) (b : BeatOf H w) → Accepts r burst b → b.head ≡ h → length b.lanes ≡ w →
       All (λ y. y < 256) b.lanes → (burst ≡ None ⊎ (r.carries h ≡ true)) → Fitting r h x w j b
   accepts-fitting burst x j h b a e size bytes opens_or = record {
@@ -225,7 +225,7 @@ module _ {H : Type 0} (r : Rules H) (w : ℕ) (ww : IsWidth w)
   homes-open x [] homes ne = absurd (ne refl)
   homes-open x (a ∷ rest) homes ne = refl
 
-  -- an accepted beat makes the beats with it handed, with its home where it opens a message
+  -- the beats with an accepted one are handed, with its home added if it opens a message
   pub accepts-admitted : (bs : List (BeatOf H w)) (homes : List ℕ) (x : ℕ) (b : BeatOf H w) → IsHandedWith r bs homes →
       length b.lanes ≡ w → All (λ y. y < 256) b.lanes → (rest_of r w bs ≡ [] → r.lane_address b.head x ≡ x) → (rest_of r w bs ≡ [] → x < 2 ^ 64) →
       Accepts r (head_of (rest_of r w bs)) b → IsHandedWith r (bs ++ b ∷ []) (with_home r x (rest_of r w bs) homes)

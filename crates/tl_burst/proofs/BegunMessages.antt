@@ -1,11 +1,11 @@
--- The heads of the messages that handed beats begin, and how many beats the last one lacks.
+-- The heads of the messages that handed beats begin, and the number of beats that are missing from the last one.
 use Rattle.tl_burst.proofs.Names.{◌≡◌, ◌≤◌, ◌<◌, ◌+◌, ◌-◌, ◌≢◌, ◌↔◌, ℕ, zero, suc, List, [], ◌∷◌, ◌++◌, length, map, refl, sym, ap, ◌∙◌, arith}
 use Rattle.tl_burst.proofs.Names.{length-append, Rules, BeatOf, Message, beats_of, Spells, Handed, nothing, begun, whole, rest_of, heads_from, heads}
 use Rattle.tl_burst.proofs.Names.{left_from, left, rest_heads}
 use Rattle.tl_burst.proofs.RestOf.{RestIs}
 
 module _ {H : Type 0} (r : Rules H) (w : ℕ) where
-  -- the beats that are left of a message, and what comes after them
+  -- the remaining beats of a message, and the beats after them
   left-after : (k : ℕ) (xs others : List (BeatOf H w)) → k ≡ length xs → left_from r w k (xs ++ others) ≡ left r w others
   left-after zero [] others e = refl
   left-after (suc k) [] others e = absurd (omega arith)
@@ -68,7 +68,7 @@ module _ {H : Type 0} (r : Rules H) (w : ℕ) where
       ap (λ hs. b.head ∷ hs) (heads-after (beats_of r b.head w - 1) bs others (first-beats m b bs s)) ∙
       ap (λ h. h ∷ heads r w others) (s.each 0 b refl).head
 
-  -- how many beats the message lacks that a rest has begun
+  -- the number of beats that are missing from the message that a rest has begun
   left-begun : (m : Message H) (rest more : List (BeatOf H w)) → Spells r m w (rest ++ more) → rest ≢ [] → left r w rest ≡ length more
   left-begun m [] more s ne = absurd (ne refl)
   left-begun m (b ∷ rest) more s ne =
@@ -83,7 +83,7 @@ module _ {H : Type 0} (r : Rules H) (w : ℕ) where
       let sum : length (rest ++ more) ≡ length rest + length more = length-append rest more in
       ap (λ hs. b.head ∷ hs) (heads-inside (beats_of r b.head w - 1) rest (omega arith))
 
-  -- nothing is left exactly where nothing is unfinished
+  -- no beat is missing if and only if no message is unfinished
   left-rest : {bs : List (BeatOf H w)} {homes : List ℕ} {ms : List (Message H)} {rest : List (BeatOf H w)} → Handed r w bs homes ms rest →
       (left r w bs ≡ 0) ↔ (rest ≡ [])
   left-rest nothing = (λ _. refl, λ _. refl)

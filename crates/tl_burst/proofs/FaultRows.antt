@@ -31,7 +31,7 @@ e sink = record { sink = sink }
 abbrev get : (param size address mask : ℕ) → (corrupt : Bool) → Option BeatFault
 get param size address mask corrupt = fault_after rules_a [] (on (a 4 param size 0 address) mask corrupt)
 
--- each fault alone
+-- each fault by itself
 opcode_8 : fault_after rules_a [] (on (a 8 0 2 0 0) 15 false) ≡ Some Opcode
 opcode_8 = refl
 
@@ -59,7 +59,7 @@ corrupt_get = refl
 fine : get 0 2 0 15 false ≡ None
 fine = refl
 
--- of two faults the first one
+-- the first of two faults
 param_and_size : get 1 13 0 15 false ≡ Some Param
 param_and_size = refl
 

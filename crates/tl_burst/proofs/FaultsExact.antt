@@ -1,4 +1,4 @@
--- A beat has no fault exactly where it is admitted.
+-- A beat has no fault if and only if it is admitted.
 use Rattle.tl_burst.proofs.Names.{◌≡◌, ◌≤◌, ◌<◌, ◌^◌, ◌↔◌, ℕ, Bool, true, false, not, Option, None, Some, List, [], ◌∷◌, ◌++◌, refl, sym, ap, subst}
 use Rattle.tl_burst.proofs.Names.{◌∙◌, ⊎_elim, ◌||◌, option_map_or, IsWidth, Rules, unless, ◌or_else◌, BeatOf, Mask, Corrupt, HeadChanged, first_none}
 use Rattle.tl_burst.proofs.Names.{second_none, both_none, unless_none, unless_true, Message, Handed, IsHanded, IsHandedWith, IsAdmitted, rest_of}
@@ -10,7 +10,7 @@ use Rattle.tl_burst.proofs.MaskTest.{mask-tests}
 use Rattle.tl_burst.proofs.RestOf.{RestIs}
 use Rattle.tl_burst.proofs.Admitted.{Open, open-of, head-is, list-cases, admitted-accepts, accepts-admitted}
 
--- what the corrupt test says
+-- the meaning of the corrupt test
 clean-says : (read carries corrupt : Bool) → (not read || (carries || not corrupt)) ≡ true → read ≡ true → carries ≡ false → corrupt ≡ false
 clean-says false carries corrupt t e f = absurd (cc)
 clean-says true true corrupt t e f = absurd (cc)
@@ -31,7 +31,7 @@ pub record ChannelLaws {H : Type 0} (r : Rules H) : Type 0 where
   pub masked_address : r.masked ≡ true → (h : H) (x y : ℕ) → r.lane_address h x ≡ r.lane_address h y
   pub home_kept : (h : H) (x : ℕ) → r.lane_address h (r.lane_address h x) ≡ r.lane_address h x
 
--- they are those of the trait, where the test of the rules is `==`
+-- they follow from the laws of the trait, if the comparison of the rules is `==`
 pub laws-of : {H : Type 0} {r : Rules H} {eq : H → H → Bool} → ((x y : H) → (eq x y ≡ true) ↔ (x ≡ y)) → ((x y : H) → r.same x y ≡ eq x y) →
     ((h : H) → r.fault h ≡ None → r.size h ≤ 12) → ((h : H) → r.partial h ≡ true → r.carries h ≡ true) →
     (r.masked ≡ true → (h : H) (x y : ℕ) → r.lane_address h x ≡ r.lane_address h y) →
@@ -53,7 +53,7 @@ module _ {H : Type 0} (r : Rules H) (w : ℕ) (ww : IsWidth w) (laws : ChannelLa
   none-same h b e = (laws.same_heads b.head h).0
       (unless_none (r.same b.head h) HeadChanged (first_none (unless (r.same b.head h) HeadChanged) (unless (mask_fits r b) Mask) e))
 
-  -- a beat without a fault may come where a rest has begun
+  -- a beat without a fault is accepted after a rest
   pub none-accepts : (rest : List (BeatOf H w)) (b : BeatOf H w) → ((h : H) → head_of rest ≡ Some h → r.fault h ≡ None) →
       fault_in r (burst_of r rest) b ≡ None → Accepts r (head_of rest) b
   none-accepts [] b lawful e =
@@ -132,7 +132,7 @@ module _ {H : Type 0} (r : Rules H) (w : ℕ) (ww : IsWidth w) (laws : ChannelLa
     λ after. admitted-none bs b before after,
   )
 
-  -- a beat without a fault where a burst may be open
+  -- a beat without a fault, whether or not a burst is open, has a head without a fault
   pub none-lawful : (burst : Option (H × ℕ)) (b : BeatOf H w) → IsOpen r w burst → fault_in r burst b ≡ None → r.fault b.head ≡ None
   none-lawful None b begun e = first_none (r.fault b.head) (unless (mask_fits r b) Mask or_else unless (is_clean r b) Corrupt) e
   none-lawful (Some (h, count)) b begun e = ap (λ g. r.fault g) (none-same h b e) ∙ begun.0

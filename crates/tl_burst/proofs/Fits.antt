@@ -1,4 +1,4 @@
--- What a tracker tests of a beat, as facts over lanes.
+-- The tests of a tracker as facts about lanes.
 use Rattle.tl_burst.proofs.Names.{◌≡◌, ℕ, Bool, true, false, Option, None, Some, List, [], ◌∷◌, bit_at, Rules, BeatOf, IsActive}
 
 -- the head of the burst that a rest has begun
@@ -6,7 +6,7 @@ abbrev pub head_of : {H : Type 0} {W : ℕ} → List (BeatOf H W) → Option H
 head_of [] = None
 head_of (b ∷ bs) = Some b.head
 
--- a mask has no bit outside the active lanes, and all of them where no byte may be off
+-- a mask has no bit outside the active lanes, and has all of them unless bytes may be left out
 pub record MaskFits (address size w : ℕ) (partial : Bool) (mask : ℕ) : Type 0 where
   pub inside : (l : ℕ) → bit_at mask l ≡ 1 → IsActive address size w l
   pub full : partial ≡ false → (l : ℕ) → IsActive address size w l → bit_at mask l ≡ 1
@@ -14,7 +14,7 @@ pub record MaskFits (address size w : ℕ) (partial : Bool) (mask : ℕ) : Type 
 abbrev pub FitsMask : {H : Type 0} {W : ℕ} → Rules H → BeatOf H W → Type 0
 FitsMask {W = W} r b = r.masked ≡ true → MaskFits (r.lane_address b.head 0) (r.size b.head) W (r.partial b.head) b.mask
 
--- a beat may come where this burst is open
+-- a beat is accepted while this burst is open
 pub record Accepts {H : Type 0} {W : ℕ} (r : Rules H) (burst : Option H) (b : BeatOf H W) : Type 0 where
   pub held : (h : H) → burst ≡ Some h → h ≡ b.head
   pub lawful : r.fault b.head ≡ None

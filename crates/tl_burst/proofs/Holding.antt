@@ -1,4 +1,4 @@
--- What a tracker holds through a burst is what the messages of its head have.
+-- The facts that a tracker keeps through a burst are those of the messages with its head.
 use Rattle.std.specs.Bool.{then_some}
 use Rattle.tl_burst.proofs.Names.{◌≡◌, ◌+◌, ◌==◌, ℕ, Bool, true, false, not, refl, if◌then◌else◌, bit_and, Option, None, Some, sym, ap, subst}
 use Rattle.tl_burst.proofs.Names.{◌∙◌, arith}
@@ -8,7 +8,7 @@ use Rattle.tl_msg.specs.declared.fault.BeatFault.{BeatFault}
 use Rattle.tl_burst.specs.Inner.Holding.{fits_held}
 use Rattle.tl_burst.specs.declared.held.Held.{Held}
 
--- a fault that stands where a test fails
+-- the fault of a test that fails
 pub is_unless : (holds : Bool) (fault : BeatFault) → then_some (not holds) fault ≡ unless holds fault
 is_unless true fault = refl
 is_unless false fault = refl

@@ -2,7 +2,7 @@
 use Rattle.tl_burst.proofs.Names.{◌≡◌, ◌≤◌, ◌<◌, ◌+◌, ◌%◌, ◌^◌, ℕ, sym, ap, ◌∙◌, arith, ⊎_elim, leb_tells, mod-add-mod, mod-eq_of_lt, IsWidth}
 use Rattle.tl_burst.proofs.Names.{lane_of, bytes_per_beat, lane-plain}
 
--- byte i and byte i modulo a beat stand on the same lane
+-- byte i and byte i modulo a beat are on the same lane
 pub same-lane : (x i size w : ℕ) → IsWidth w → i < 2 ^ size → lane_of x (i % bytes_per_beat size w) w ≡ lane_of x i w
 same-lane x i size w ww lt =
     ⊎_elim

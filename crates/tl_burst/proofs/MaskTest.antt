@@ -34,7 +34,7 @@ same-bits a b each = same_from_bits a b (λ l.
     (eqb_tells (bit_at b l) 1))
     (eqb_tells (bit_at a l) 1))
 
--- the mask test of the faults is true exactly where the mask fits, on a channel with masks
+-- on a channel with masks, the mask test of the faults is true if and only if the mask fits
 pub mask-tests : (masked partial : Bool) (address size w mask : ℕ) → IsWidth w →
     ((if masked then (if partial then bit_and mask (active_mask address size w) == mask else mask == active_mask address size w) else true) ≡ true) ↔
     (masked ≡ true → MaskFits address size w partial mask)

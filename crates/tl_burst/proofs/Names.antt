@@ -1,4 +1,4 @@
--- What the proofs of this crate name most, of the library and of the definitions, passed on by one module.
+-- The names that the proofs of this crate use most, from the library and from the definitions, re-exported by one module.
 pub use Rattle.std.proofs.Common.{◌≡◌, ◌≤◌, ◌<◌, ◌+◌, ◌^◌, ◌≢◌, ◌⊎◌, ℕ, true, Option, None, Some, List, [], ◌∷◌, ◌++◌, length, slice_get, refl, sym}
 pub use Rattle.std.proofs.Common.{ap, subst, ◌∙◌, arith, inl, inr, ⊎_elim, append_assoc, append-nil, length-append, ◌-◌, ◌↔◌, zero, suc, map, ◌/◌}
 pub use Rattle.std.proofs.Common.{Bool, false, cond, rules, replicate, take, not, if◌then◌else◌, ◌%◌, ◌==◌, min, eq-eqb, bit_and, ◌*◌, get_or, ◌&&◌}

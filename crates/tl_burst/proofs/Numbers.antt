@@ -12,7 +12,7 @@ slice_get-left [] ys t lt = absurd (omega arith)
 slice_get-left (x ∷ xs) ys zero lt = refl
 slice_get-left (x ∷ xs) ys (suc t) lt = slice_get-left xs ys t (omega arith)
 
--- what holds of each element and of the next one holds of each of both
+-- a property of each element and of the next one is a property of each element of the longer list
 pub each-push : {A : Type 0} (P : ℕ → A → Type 0) (xs : List A) (x : A) → ((t : ℕ) (b : A) → slice_get xs t ≡ Some b → P t b) →
     P (length xs) x → (t : ℕ) (b : A) → slice_get (xs ++ x ∷ []) t ≡ Some b → P t b
 each-push {A = A} P xs x old here t b e =

@@ -5,7 +5,7 @@ use Rattle.tl_burst.proofs.Names.{per_beat}
 use Rattle.tl_burst.proofs.Places.{byte_on-some, byte_on-none, per-pos, per-le}
 
 module _ {H : Type 0} (r : Rules H) (m : Message H) (v : ℕ) (vw : IsWidth v) where
-  -- bytes of one beat stand on different lanes
+  -- bytes of one beat are on different lanes
   pub apart-lanes : (j i i' : ℕ) → j * per_beat r m.head v ≤ i → i < i' → i' < j * per_beat r m.head v + per_beat r m.head v →
       lane_of m.home i v ≢ lane_of m.home i' v
   apart-lanes j i i' lo lt hi = let le : per_beat r m.head v ≤ v = per-le r m v vw in lanes_differ m.home i i' v vw lt (omega arith)

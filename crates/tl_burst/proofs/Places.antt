@@ -1,4 +1,4 @@
--- The byte of a message that stands in a beat on a lane.
+-- The byte of a message that is on a lane of a beat.
 use Rattle.tl_burst.proofs.Names.{◌≡◌, ◌≤◌, ◌<◌, ◌+◌, ◌*◌, ◌/◌, ◌%◌, ◌^◌, ◌≢◌, ◌==◌, ◌&&◌, ℕ, zero, suc, Bool, true, false, cond, None, Some, find}
 use Rattle.tl_burst.proofs.Names.{refl, sym, subst, ◌∙◌, arith, rules, ⊎_elim, range_with_len, eqb_tells, mod-add-div, mod-lt, IsWidth, lane_of}
 use Rattle.tl_burst.proofs.Names.{lanes_differ, width_bounds, Rules, Message, byte_on, per_beat}
@@ -51,7 +51,7 @@ module _ {H : Type 0} (r : Rules H) (m : Message H) (w : ℕ) (width : IsWidth w
   pub per-le : per_beat r m.head w ≤ w
   per-le = omega arith
 
-  -- byte i is the one that stands in its beat on its lane
+  -- byte i is the one on its lane of its beat
   pub byte_on-some : (i j l : ℕ) → i < 2 ^ r.size m.head → i / per_beat r m.head w ≡ j → lane_of m.home i w ≡ l →
       byte_on r m w j l ≡ Some i
   byte_on-some i j l lt ej el =
@@ -62,7 +62,7 @@ module _ {H : Type 0} (r : Rules H) (m : Message H) (w : ℕ) (width : IsWidth w
       let le : per_beat r m.head w ≤ w = per-le in
       lanes_differ m.home x i w width hi (omega arith) (fl ∙ sym el)))
 
-  -- no byte of the beat stands there
+  -- the lane has no byte of the beat
   pub byte_on-none : (j l : ℕ) → ((i : ℕ) → i < 2 ^ r.size m.head → i / per_beat r m.head w ≡ j → lane_of m.home i w ≡ l → ⊥) →
       byte_on r m w j l ≡ None
   byte_on-none j l never =

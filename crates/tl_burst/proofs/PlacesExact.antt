@@ -58,7 +58,7 @@ module _ {H : Type 0} (r : Rules H) (w : ℕ) (ww : IsWidth w) (laws : ChannelLa
         },
   )
 
-  -- what a check says of a beat without a fault is that it stands at the place
+  -- a check of a beat without a fault returns the beat's place
   pub place-told : {K E : Type 0} (burst : Option (H × ℕ)) (b : BeatOf H w) (answer : Result (Place K H) E) →
       IsOk answer ↔ (fault_in r burst b ≡ None) →
       IfOk answer (λ place. place.head ≡ b.head) → IfOk answer (IsPlace r w burst) → IfOk answer (IsPlaceOf r w burst b)

@@ -1,4 +1,4 @@
--- What handed beats leave unfinished is found by the sizes in their heads.
+-- The sizes in the heads of handed beats determine the unfinished rest.
 use Rattle.tl_burst.proofs.Names.{◌≡◌, ◌<◌, ◌+◌, ◌≢◌, ℕ, suc, true, false, Some, List, [], ◌∷◌, ◌++◌, length, slice_get, refl, sym, ap, ◌∙◌, arith}
 use Rattle.tl_burst.proofs.Names.{⊎_elim, append_assoc, append-nil, length-append, slice_get_within, length_push, eqb_tells, Rules, BeatOf, Message}
 use Rattle.tl_burst.proofs.Names.{beats_of, Spells, Handed, nothing, begun, whole, ends, rest_after, rest_of}
@@ -56,7 +56,7 @@ module _ {H : Type 0} (r : Rules H) (w : ℕ) where
       let c : length (bs ++ y ∷ more) ≡ beats_of r m.head w = s.count in
       rest-stays m.head [] bs (omega arith) (λ j x e. (s.each j x (sym (slice_get-left bs (y ∷ more) j (slice_get_within bs j x e)) ∙ e)).head)
 
-  -- what is left of beats that are handed is what has begun
+  -- the rest of handed beats is the computed one
   pub RestIs : {bs : List (BeatOf H w)} {homes : List ℕ} {ms : List (Message H)} {rest : List (BeatOf H w)} → Handed r w bs homes ms rest →
       rest ≡ rest_of r w bs
   RestIs nothing = refl

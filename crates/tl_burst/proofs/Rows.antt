@@ -39,7 +39,7 @@ goes_on = refl
 begins : fault_after rules_a (first ∷ second ∷ []) (on (a 0 3 2 16) 15 (range_with_len 4 4)) ≡ None
 begins = refl
 
--- the messages that begin in the beats of one message and the first of the next one, and the beats that the last one lacks
+-- the messages that begin in the beats of one message and the first beat of the next, and the number of missing beats
 both_heads : heads rules_a 4 (first ∷ second ∷ on (a 0 3 2 16) 15 (range_with_len 0 4) ∷ []) ≡ a 0 3 1 16 ∷ a 0 3 2 16 ∷ []
 both_heads = refl
 
@@ -62,7 +62,7 @@ put = record { head = a 0 3 1 16; home = 16; cells = cell 0 ∷ cell 1 ∷ cell 
 laid : layout rules_a put 4 ≡ first ∷ second ∷ []
 laid = refl
 
--- a Get of 4 bytes: a lawful message, and one beat that brings it, whatever its lanes hold
+-- a Get of 4 bytes: a lawful message, and one beat that carries it, whatever its lanes hold
 abbrev get : Message HeadA
 get = record { head = a 4 2 1 16; home = 16; cells = [] }
 

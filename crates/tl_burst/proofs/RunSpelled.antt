@@ -1,4 +1,4 @@
--- A run of beats that may stand in a message brings the message that is read back from it.
+-- A run of beats that fit a message carries the message that is read back from it.
 use Rattle.tl_burst.proofs.Names.{◌≡◌, ◌≤◌, ◌<◌, ◌+◌, ◌-◌, ◌*◌, ◌/◌, ◌^◌, ◌≢◌, ◌==◌, ◌⊎◌, ◌++◌, ℕ, zero, suc, Bool, true, false, cond, Option, None}
 use Rattle.tl_burst.proofs.Names.{Some, List, [], ◌∷◌, length, get_or, map, slice_get, slice_index, refl, sym, ap, subst, ◌∙◌, arith, inl, inr}
 use Rattle.tl_burst.proofs.Names.{⊎_elim, length-append, range_with_len, bit_at, slice_get-get_or, get_or_from_slice_get, slice_get_within}
@@ -12,7 +12,7 @@ use Rattle.tl_burst.proofs.RestOf.{some-first}
 use Rattle.tl_burst.proofs.Runs.{of_cells, run_cells, cell_at, run-is, run-length, run-cell}
 use Rattle.tl_burst.proofs.SpelledRun.{Fitting, room-of, mask-is}
 
--- an element of a join stands in one of its parts
+-- an element of a joined list belongs to one of its parts
 parts-get : {A : Type 0} (xs ys : List A) (j : ℕ) (b : A) → slice_get (xs ++ ys) j ≡ Some b →
     (slice_get xs j ≡ Some b) ⊎ ((k : ℕ) × (j ≡ length xs + k) × (slice_get ys k ≡ Some b))
 parts-get [] ys j b e = inr (j, omega arith, e)
@@ -183,11 +183,11 @@ module _ {H : Type 0} (r : Rules H) (h : H) (x w : ℕ) (ww : IsWidth w)
       clean = λ _ none_of. let t : r.carries h ≡ false = none_of in absurd (cc);
     }
 
-  -- the beats that a run still wants
+  -- the beats that are still missing from a run
   abbrev pub wanted : List (BeatOf H w) → List (BeatOf H w)
   wanted bs = map (beat_at r (message_of r h w x bs) w) (range_with_len (length bs) (beats_of r h w - length bs))
 
-  -- a run and the beats that it wants spell its message
+  -- a run and its missing beats spell its message
   pub run-spells : (bs : List (BeatOf H w)) → bs ≢ [] → length bs ≤ beats_of r h w →
       ((j : ℕ) (b : BeatOf H w) → slice_get bs j ≡ Some b → Fitting r h x w j b) → Spells r (message_of r h w x bs) w (bs ++ wanted bs)
   run-spells bs ne le fits =

@@ -1,4 +1,4 @@
--- The message that a run of beats brings, read back, and its cells.
+-- The message that a run of beats carries, read back, and its cells.
 use Rattle.tl_burst.proofs.Names.{◌≡◌, ◌≤◌, ◌<◌, ◌+◌, ◌*◌, ◌/◌, ◌%◌, ◌^◌, ◌&&◌, ◌||◌, ◌++◌, ℕ, zero, suc, Bool, true, false, cond, Some, List, []}
 use Rattle.tl_burst.proofs.Names.{◌∷◌, length, map, slice_get, refl, sym, ap, ◌∙◌, arith, ⊎_elim, range_with_len, option_map_or, slice_get-get_or}
 use Rattle.tl_burst.proofs.Names.{mul-le-mul_right, div-mul-le_self, Rules, BeatOf, IsWidth, lane_of, Message, Cell, per_beat, beats_of, lane_value}

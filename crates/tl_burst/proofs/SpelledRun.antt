@@ -1,4 +1,4 @@
--- A beat that brings a part of a lawful message: its mask fits, and a mask that fits is the message's.
+-- A beat that carries a part of a lawful message: its mask fits, and a mask that fits is the message's.
 use Rattle.tl_burst.proofs.Names.{◌≡◌, ◌≤◌, ◌<◌, ◌+◌, ◌-◌, ◌*◌, ◌/◌, ◌%◌, ◌^◌, ◌≢◌, ◌==◌, ◌&&◌, ℕ, zero, suc, Bool, true, false, cond, not, Some}
 use Rattle.tl_burst.proofs.Names.{List, [], ◌∷◌, length, get_or, slice_get, slice_index, refl, sym, ap, subst, ◌∙◌, arith, ⊎_elim, All, option_map_or}
 use Rattle.tl_burst.proofs.Names.{bit_at, eqb_tells, leb_tells, slice_get-get_or, get_or_from_slice_get, slice_get_within, All-get_or, true≢false}
@@ -13,7 +13,7 @@ use Rattle.tl_lanes.proofs.Masks.{mask_of-lt, bit_at-mask_of}
 use Rattle.tl_burst.proofs.Numbers.{per-power, powers-divide}
 use Rattle.tl_burst.proofs.LaneShift.{same-lane}
 
--- a beat that may stand at place j of a message with this head and home
+-- a beat that fits position j of a message with this head and home
 pub record Fitting {H : Type 0} (r : Rules H) (h : H) (x w j : ℕ) (b : BeatOf H w) : Type 0 where
   pub head : b.head ≡ h
   pub lanes : r.carries h ≡ true → (i : ℕ) → i < 2 ^ r.size h → i / per_beat r h w ≡ j → lane_of x i w < length b.lanes
@@ -156,7 +156,7 @@ module _ {H : Type 0} (r : Rules H) (m : Message H) (w j : ℕ) (ww : IsWidth w)
 module _ {H : Type 0} (r : Rules H) (w : ℕ) (ww : IsWidth w)
     (masked_address : r.masked ≡ true → (h : H) (x y : ℕ) → r.lane_address h x ≡ r.lane_address h y)
     (partial_carries : (h : H) → r.partial h ≡ true → r.carries h ≡ true) where
-  -- a beat of a lawful message may stand at its place
+  -- a beat of a lawful message fits its position
   pub fitting-of : (m : Message H) (j : ℕ) (b : BeatOf H w) → IsLawful r m → j < beats_of r m.head w → SpellsBeat r m w j b →
       Fitting r m.head m.home w j b
   fitting-of m j b lawful lt spells = record {

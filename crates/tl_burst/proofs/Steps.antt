@@ -44,7 +44,7 @@ module _ {H : Type 0} (r : Rules H) (w : ℕ) where
         let b : (0 < beats_of r place.head w) × (beats_of r place.head w ≤ 4096) = beats-bounds r place.head w ww small in
         omega (arith, is.within)
 
-    -- what its last field tells of a beat with its head
+    -- the field `last` of the place of a beat with this head
     pub last-tells : (head : H) → place.head ≡ head → (place.last ≡ true) ↔ (place.index + 1 ≡ beats_of r head w)
     last-tells head same = (
       λ last. eqb-true (place.index + 1) (beats_of r place.head w) (sym is.last ∙ last) ∙ ap (λ h. beats_of r h w) same,

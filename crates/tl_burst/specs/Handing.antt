@@ -8,9 +8,8 @@ use Rattle.tl_burst.specs.Messages.{Message, IsLawful, beats_of}
 use Rattle.tl_burst.specs.Spelling.{Spells}
 
 module _ {H : Type 0} (r : Rules H) where
-  -- the beats bs bring the lawful messages ms, one after the other, and then rest: nothing, or the first beats of one more message, but not all of
-  -- it.
-  -- homes has the home of each message that has begun, in order
+  -- the beats bs carry the lawful messages ms, one after the other, and then `rest`: nothing, or the first beats of one
+  -- more message, but not all of them. `homes` has the home of each message that has begun, in order
   pub data Handed (w : ℕ) : (bs : List (BeatOf H w)) → (homes : List ℕ) → (ms : List (Message H)) → (rest : List (BeatOf H w)) → Type 0 where
     nothing : Handed w [] [] [] []
     begun : (m : Message H) (rest more : List (BeatOf H w)) → IsLawful r m → Spells r m w (rest ++ more) → rest ≢ [] → more ≢ [] →
@@ -29,13 +28,13 @@ module _ {H : Type 0} (r : Rules H) where
     pub rest : List (BeatOf H w)
     pub handed : Handed w bs homes messages rest
 
-  -- a beat is admitted after beats that were accepted: the list with it is handed too
+  -- a beat is admitted after beats that were accepted: the list with this beat is also handed
   abbrev pub IsAdmitted : {w : ℕ} → (bs : List (BeatOf H w)) → BeatOf H w → Type 0
   IsAdmitted bs b = IsHanded (bs ++ b ∷ [])
 
-  -- ---- the rest, found by the sizes in the heads alone
+  -- ---- the rest, computed from the sizes in the heads
 
-  -- whether a beat is the last one of the message that the beats of `seen` have begun
+  -- whether b is the last beat of the message that the beats of `seen` have begun
   abbrev pub ends : (w : ℕ) → (seen : List (BeatOf H w)) → BeatOf H w → Bool
   ends w seen b = length seen + 1 == beats_of r b.head w
 
@@ -47,7 +46,7 @@ module _ {H : Type 0} (r : Rules H) where
   abbrev pub rest_of : (w : ℕ) → List (BeatOf H w) → List (BeatOf H w)
   rest_of w bs = rest_after w [] bs
 
-  -- the homes after one more beat: a beat that opens a message adds its home, which is free on D alone
+  -- the homes after one more beat: a beat that opens a message adds its home, which only D leaves free
   abbrev pub with_home : {w : ℕ} → (home : ℕ) → (rest : List (BeatOf H w)) → (homes : List ℕ) → List ℕ
   with_home home [] homes = homes ++ home ∷ []
   with_home home (b ∷ bs) homes = homes
@@ -55,7 +54,7 @@ module _ {H : Type 0} (r : Rules H) where
   abbrev pub homes_with : {w : ℕ} → (bs : List (BeatOf H w)) → (homes : List ℕ) → BeatOf H w → (home : ℕ) → List ℕ
   homes_with {w} bs homes b home = with_home (r.lane_address b.head home) (rest_of w bs) homes
 
-  -- the burst that a rest has begun: its head, and how many beats of it were accepted
+  -- the burst that a rest has begun: its head, and the number of its accepted beats
   abbrev pub burst_of : {w : ℕ} → (rest : List (BeatOf H w)) → Option (H × ℕ)
   burst_of [] = None
   burst_of (b ∷ bs) = Some (b.head, length (b ∷ bs))
@@ -64,7 +63,7 @@ module _ {H : Type 0} (r : Rules H) where
   abbrev pub burst_after : {w : ℕ} → (bs : List (BeatOf H w)) → Option (H × ℕ)
   burst_after {w} bs = burst_of (rest_of w bs)
 
-  -- the first fault of a beat where this burst is open, or none is: outside a burst, and inside one (order: this project's choice)
+  -- the first fault of a beat while this burst is open, or outside a burst for None (order: this project's choice)
   abbrev pub fault_in : {w : ℕ} → (burst : Option (H × ℕ)) → BeatOf H w → Option BeatFault
   fault_in None b = opening_fault r b
   fault_in (Some burst) b = continuing_fault r burst.0 b

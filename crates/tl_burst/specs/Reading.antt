@@ -1,4 +1,4 @@
--- The message that beats bring, read back from them.
+-- The message that beats carry, read back from them.
 use Rattle.std.specs.Prelude.{◌/◌, ◌^◌, ◌==◌, ℕ, true, false, cond, not, Option, None, Some, List, [], map, slice_get, slice_index}
 use Rattle.std.specs.List.{range_with_len}
 use Rattle.std.specs.Int.{bit_at}
@@ -8,7 +8,8 @@ use Rattle.tl_msg.specs.declared.beat.BeatOf.{BeatOf}
 use Rattle.tl_burst.specs.Messages.{Cell, Message, per_beat}
 
 module _ {H : Type 0} (r : Rules H) where
-  -- a byte, read from its lane of its beat; one whose beat has not come is 0, on unless the message is PutPartialData, and not corrupt
+  -- a byte, read from its lane of its beat. If the beat is not there yet, the byte is 0, not corrupt, and enabled
+  -- unless the message is PutPartialData
   abbrev pub cell_of : H → (w lane : ℕ) → Option (BeatOf H w) → Cell
   cell_of h w lane None = record { byte = 0; on = not (r.partial h); bad = false }
   cell_of h w lane (Some b) = record {
@@ -17,7 +18,7 @@ module _ {H : Type 0} (r : Rules H) where
     bad = b.corrupt;
   }
 
-  -- the message of this head and home whose beats these are, or begin with these
+  -- the message with this head and home of which bs are all beats, or the first ones
   abbrev pub message_of : H → (w home : ℕ) → List (BeatOf H w) → Message H
   message_of h w home bs = record {
     head = h;

@@ -7,13 +7,13 @@ use std::marker::{Model, PhantomData};
 use tl_lanes::beats;
 use tl_msg::Channel;
 
-/// A counter of the beats of one channel, `W` bytes wide: it knows where messages begin.
+/// A counter of the beats of one channel, `W` bytes wide, which finds where messages begin.
 ///
-/// It is for the taking end of a channel, whose beats are checked already: it reads heads and tests
-/// nothing. In contracts it is the number of beats that the last message still lacks, by the sizes in
-/// the heads. It stands for a list of beats where that number is `left` of the list. A new counter
-/// stands for no beats, and after `pass` it stands for the list with one beat more (TileLink: burst
-/// rules).
+/// It is for the receiving end of a channel, whose beats are already checked: it reads heads and
+/// tests nothing. In contracts its value is the number of beats that are still missing from the
+/// last message, by the sizes in the heads. It stands for a list of beats if that number is `left`
+/// of the list. A new counter stands for no beats, and `pass` adds one beat to the list (TileLink:
+/// burst rules).
 #[derive(Drop)]
 pub struct BurstCounter<K: Channel, const W: usize> {
     left: usize,
@@ -29,7 +29,7 @@ impl<K: Channel, const W: usize> Model for BurstCounter<K, W> {
 }
 
 impl<K: Channel, const W: usize> BurstCounter<K, W> {
-    /// A counter that no beat has passed.
+    /// Creates a counter that no beat has passed.
     pub fn new() -> Self
         ensures { result ≡ 0 }
     {
@@ -39,14 +39,14 @@ impl<K: Channel, const W: usize> BurstCounter<K, W> {
         }
     }
 
-    /// Whether the next beat is the first one of its message.
+    /// Returns whether the next beat is the first one of its message.
     pub fn first(&self) -> bool
         ensures { result ≡ (self.now == 0) }
     {
         self.left == 0
     }
 
-    /// A beat with this head passes. It needs that `W` is a width, and a head without a fault.
+    /// Counts a beat with this head. Requires: `W` is a width, and the head has no fault.
     pub fn pass(&mut self, head: &K::Head)
         requires width { IsWidth W }
         requires lawful { K.rules.fault head.now ≡ None }

@@ -7,7 +7,8 @@ use crate::held::{Held, held_by};
 use tl_lanes::Mask;
 use tl_msg::{Beat, BeatFault, Channel};
 
-/// The first fault of a beat that stands outside a burst: of its head, then `Mask`, then `Corrupt`.
+/// Returns the first fault of a beat outside a burst: a fault of its head, then `Mask`, then
+/// `Corrupt`.
 pub fn opening_fault<K: Channel, const W: usize>(beat: &Beat<K, W>) -> Option<BeatFault>
     requires { IsWidth W }
     ensures { result ≡ faults.opening_fault K.rules beat.now }
@@ -16,13 +17,13 @@ pub fn opening_fault<K: Channel, const W: usize>(beat: &Beat<K, W>) -> Option<Be
         return Some(fault);
     }
     let fits = mask_fits(K::MASKED, beat.mask, &held_by::<K, W>(&beat.head));
-    // clear on a message without data, and not read on E
+    // corrupt is clear on a message without data, and not read on E
     let clean = (K::LETTER == b'E') | K::carries_data(&beat.head) | !beat.corrupt;
     let corrupt = (!clean).then_some(BeatFault::Corrupt);
     (!fits).then_some(BeatFault::Mask).or(corrupt)
 }
 
-/// The first fault of a beat inside a burst with this head: `HeadChanged`, then `Mask`.
+/// Returns the first fault of a beat inside a burst with this head: `HeadChanged`, then `Mask`.
 pub fn continuing_fault<K: Channel, const W: usize>(
     head: &K::Head,
     held: &Held,
@@ -39,8 +40,8 @@ pub fn continuing_fault<K: Channel, const W: usize>(
     (!fits).then_some(BeatFault::Mask)
 }
 
-/// Whether the mask is one that the message may have: any of the active lanes on PutPartialData, else
-/// exactly the active lanes. On C, D and E it is not read.
+/// Returns whether the mask is one that the message may have: on PutPartialData any of the active
+/// lanes, on other messages exactly the active lanes. On C, D and E the mask is not read.
 fn mask_fits(masked: bool, mask: Mask, held: &Held) -> bool
     ensures { result ≡ fits_held masked held.now mask }
 {

@@ -1,4 +1,5 @@
-//! What stays the same through a burst, so that it is not found again at each of its beats.
+//! The facts that stay the same through a burst, kept so that they are not computed again for each
+//! beat.
 ghost use Rattle.std.specs.Prelude.{◌≡◌, None};
 ghost use Rattle.tl_lanes.specs.Lanes.{IsWidth};
 ghost use Rattle.tl_burst.specs.Inner.Holding.{IsHeld};
@@ -6,18 +7,18 @@ ghost use Rattle.tl_burst.specs.Inner.Holding.{IsHeld};
 use tl_lanes::{Mask, active, beats};
 use tl_msg::Channel;
 
-/// What all beats of a message have in common, beside its head.
+/// The facts that all beats of a message share, besides its head.
 #[derive(Clone, Copy, Drop)]
 pub struct Held {
-    /// The active lanes of its beats (TileLink: masks).
+    /// The active lanes of each beat (TileLink: masks).
     pub lanes: Mask,
-    /// How many beats the message has.
+    /// The number of beats of the message.
     pub beats: usize,
-    /// Whether a mask may leave out some of them: on PutPartialData alone.
+    /// Whether a mask may leave out active lanes: true for PutPartialData only.
     pub partial: bool,
 }
 
-/// What the beats of a message with this head have in common.
+/// Returns the facts that the beats of a message with this head share.
 pub fn held_by<K: Channel, const W: usize>(head: &K::Head) -> Held
     requires { IsWidth W × (K.rules.fault head.now ≡ None) }
     ensures { IsHeld K.rules W head.now result }

@@ -1,4 +1,4 @@
-//! Laws over the definitions of handed lists, for callers' proofs. Each function does nothing: its
+//! Laws over the definitions of handed lists, for callers' proofs. Each function does nothing; its
 //! contract is the law, for every channel and every width.
 ghost use Rattle.std.specs.Prelude.{◌≡◌, ◌<◌, ◌↔◌, ◌^◌, ◌++◌, ◌∷◌, [], ℕ, Option, None, List, map};
 ghost use Rattle.tl_lanes.specs.Lanes.{IsWidth};
@@ -14,8 +14,8 @@ ghost use Rattle.tl_burst.specs.Begun.{heads, left, rest_heads};
 
 use tl_msg::Channel;
 
-/// After beats that are handed, a beat has no fault exactly where it is admitted, which means that the
-/// beats with it are handed too.
+/// Lemma: after beats that are handed, a beat has no fault if and only if it is admitted, that is,
+/// if the list with this beat is also handed.
 pub fn faults_are_exact<K: Channel, const W: usize>()
     requires { IsWidth W }
     ensures { (bs : List (BeatOf K.Head W)) (b : BeatOf K.Head W) →
@@ -23,8 +23,8 @@ pub fn faults_are_exact<K: Channel, const W: usize>()
         (fault_after K.rules bs b ≡ None) ↔ IsAdmitted K.rules bs b }
 {}
 
-/// After beats that are handed with some homes, a beat without a fault is handed with them and its own
-/// home, which joins the homes where the beat opens a message.
+/// Lemma: if beats are handed with some homes, and the next beat has no fault, then the longer list
+/// is handed with these homes. If the beat opens a message, its own home is added to them.
 pub fn homes_are_kept<K: Channel, const W: usize>()
     requires { IsWidth W }
     ensures { (bs : List (BeatOf K.Head W)) (homes : List ℕ) (b : BeatOf K.Head W) (home : ℕ) →
@@ -33,22 +33,22 @@ pub fn homes_are_kept<K: Channel, const W: usize>()
         IsHandedWith K.rules (bs ++ b ∷ []) (homes_with K.rules bs homes b home) }
 {}
 
-/// The first beats of a list that is handed are handed too. So, by `faults_are_exact`, a list of beats
-/// in the ranges of their types is handed exactly where none has a fault after those before it.
+/// Lemma: the first beats of a handed list are handed. So, with `faults_are_exact`, a list of beats
+/// in the ranges of their types is handed if and only if no beat has a fault after those before it.
 pub fn fronts_are_handed<K: Channel, const W: usize>()
     ensures { (bs cs : List (BeatOf K.Head W)) → IsHanded K.rules (bs ++ cs) → IsHanded K.rules bs }
 {}
 
-/// What beats that are handed leave unfinished is found by the sizes in their heads alone. So there is
-/// only one such rest, however the beats are read.
+/// Lemma: the unfinished rest of handed beats is determined by the sizes in their heads. So there
+/// is only one rest, however the beats are read.
 pub fn rest_is_computed<K: Channel, const W: usize>()
     ensures { (bs : List (BeatOf K.Head W)) (homes : List ℕ)
         (ms : List (Message K.Head)) (rest : List (BeatOf K.Head W)) →
         Handed K.rules W bs homes ms rest → rest ≡ rest_of K.rules W bs }
 {}
 
-/// Where messages begin in beats that are handed, and whether the last one is unfinished, is found by
-/// the sizes in their heads alone.
+/// Lemma: the sizes in the heads of handed beats determine the beats that begin a message, and
+/// whether the last message is unfinished.
 pub fn beginnings_are_computed<K: Channel, const W: usize>()
     requires { IsWidth W }
     ensures heads { (bs : List (BeatOf K.Head W)) (homes : List ℕ)
@@ -59,15 +59,15 @@ pub fn beginnings_are_computed<K: Channel, const W: usize>()
         IsHanded K.rules bs → (left K.rules W bs ≡ 0) ↔ (rest_of K.rules W bs ≡ []) }
 {}
 
-/// The condition of `Tracker::advance` is met by the places of beats without a fault, and by no others,
-/// while this burst is open, or none is.
+/// Lemma: for a given state of the burst, a place meets the precondition of `Tracker::advance` if
+/// and only if it is the place of a beat that has no fault in this state.
 pub fn places_are_exact<K: Channel, const W: usize>()
     requires { IsWidth W }
     ensures { (burst : Option (K.Head × ℕ)) (place : Place K K.Head) → IsOpen K.rules W burst →
         IsPlace K.rules W burst place ↔ (b : BeatOf K.Head W) × IsPlaceOf K.rules W burst b place }
 {}
 
-/// A beat of E has no fault, after any beats of E.
+/// Lemma: a beat of E has no fault, after any beats of E.
 pub fn e_is_never_refused<const W: usize>()
     ensures { (bs : List (BeatOf HeadE W)) (b : BeatOf HeadE W) → fault_after rules_e bs b ≡ None }
 {}

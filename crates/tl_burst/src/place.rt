@@ -1,10 +1,10 @@
 use tl_msg::Channel;
 
-/// Where a beat stands in its burst.
+/// The position of a beat in its burst.
 ///
-/// `head` is the beat's head, `index` how many beats of its message came before it, so 0 at the first
-/// beat, and `last` whether it is the message's last beat. A message without data has one beat, whose
-/// index is 0 and which is the last (TileLink: burst rules).
+/// `head` is the head of the beat. `index` is the number of beats of the message before it, so it
+/// is 0 for the first beat. `last` is whether it is the message's last beat. A message without data
+/// has one beat, with index 0, and that beat is the last (TileLink: burst rules).
 #[derive(Drop)]
 pub struct Place<K: Channel> {
     pub head: K::Head,

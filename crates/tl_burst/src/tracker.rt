@@ -13,15 +13,15 @@ use tl_msg::{Beat, BeatFault, Channel, ranges_of_beat};
 
 /// A checker of the bursts of one channel, `W` bytes wide.
 ///
-/// It keeps no beats: only the head of the burst that is open, how many of its beats were accepted,
-/// and what the head says of all of them. In contracts it is the first two as a pair, or `None` where
-/// no burst is open. It stands for a list of accepted beats where that pair is `burst_after` of the
-/// list. A new tracker stands for no beats, and after `advance` it stands for the list with one beat
-/// more.
+/// It keeps no beats. It keeps only the head of the open burst, the number of its accepted beats,
+/// and the facts that follow from the head for all beats. In contracts its value is the pair of
+/// head and number, or `None` if no burst is open. It stands for a list of accepted beats if this
+/// value is `burst_after` of the list. A new tracker stands for no beats, and `advance` adds one
+/// beat to the list.
 #[derive(Drop)]
 pub struct Tracker<K: Channel, const W: usize> {
     burst: Option<(K::Head, u32)>,
-    // of the open burst; else nothing reads it
+    // of the open burst; not read if no burst is open
     held: Held,
 }
 
@@ -38,7 +38,7 @@ impl<K: Channel, const W: usize> Model for Tracker<K, W> {
 }
 
 impl<K: Channel, const W: usize> Tracker<K, W> {
-    /// A tracker that has seen no beat: no burst is open.
+    /// Creates a tracker that has seen no beat, so no burst is open.
     pub fn new() -> Self
         ensures { result ≡ None }
     {
@@ -52,22 +52,24 @@ impl<K: Channel, const W: usize> Tracker<K, W> {
         }
     }
 
-    /// Whether the link admits `beat` as the next one.
+    /// Checks whether the link admits `beat` next. Changes nothing.
     ///
-    /// `Ok` has the beat's place: its head, how many beats of its message came before it, and whether
-    /// it is the last. `advance` takes it. `Err` has the beat's first fault: outside a burst `Opcode`,
-    /// `Param`, `Size`, `Unaligned`, `Mask`, `Corrupt`, in this order; inside a burst `HeadChanged`,
-    /// then `Mask`. On C, D and E the mask is not read, and E is never refused. Nothing changes.
+    /// Returns the beat's place if it is admitted: its head, the number of beats of its message
+    /// before it, and whether it is the last. `advance` takes this place.
     ///
-    /// It needs that `W` is a width: 1, 2, 4, 8, 16, 32, 64 or 128 bytes. TileLink: burst rules, byte lanes,
-    /// masks, signal descriptions, opcode and param tables. This project's choice: the order of the
-    /// faults, and that the mask is exactly the active lanes but on PutPartialData.
-    // inlined, so that its wide answer does not pass through memory
+    /// Errors: the beat's first fault. Outside a burst the order is `Opcode`, `Param`, `Size`,
+    /// `Unaligned`, `Mask`, `Corrupt`; inside a burst it is `HeadChanged`, `Mask`. On C, D and E
+    /// the mask is not read. A beat of E is never refused.
+    ///
+    /// Requires: `W` is a width (1, 2, 4, 8, 16, 32, 64 or 128 bytes). TileLink: burst rules, byte
+    /// lanes, masks, signal descriptions, opcode and param tables. This project's choice: the order
+    /// of the faults, and that the mask has all active lanes except on PutPartialData.
+    // inlined, so that its large result does not pass through memory
     #[inline(always)]
     pub fn check(&self, beat: &Beat<K, W>) -> Result<Place<K>, BeatFault>
         requires { IsWidth W }
 
-        // by the open burst alone
+        // in terms of the open burst
         ensures accepts { IsOk result ↔ (fault_in K.rules self.now beat.now ≡ None) }
         ensures fault { IfErr result (λ fault. fault_in K.rules self.now beat.now ≡ Some fault) }
         ensures head { IfOk result (λ place. place.head ≡ beat.now.head) }
@@ -91,11 +93,11 @@ impl<K: Channel, const W: usize> Tracker<K, W> {
         }
     }
 
-    /// Goes on by an accepted beat, of which `place` is the place.
+    /// Moves the tracker past an accepted beat, whose place is `place`.
     ///
-    /// It needs that `W` is a width, and a place that a beat has which is admitted in this state, as
-    /// `check` gives it. Then the burst of the place's head is open, with one beat more than before, or
-    /// none is open after the last beat. TileLink: burst rules.
+    /// Afterwards the burst of the place's head is open, with one accepted beat more than before.
+    /// After the last beat no burst is open. Requires: `W` is a width, and `place` is the place of
+    /// a beat that is admitted in this state, as `check` returns it. TileLink: burst rules.
     pub fn advance(&mut self, place: Place<K>)
         requires width { IsWidth W }
         requires place { IsPlace K.rules W self.old place }
@@ -117,8 +119,8 @@ impl<K: Channel, const W: usize> Tracker<K, W> {
         }
     }
 
-    /// The head of the open burst and how many of its beats were accepted, from 1 to one less than it
-    /// has; `None` where no burst is open.
+    /// Returns the head of the open burst and the number of its accepted beats, which is at least 1
+    /// and less than the number of beats of the message. Returns `None` if no burst is open.
     pub fn in_burst(&self) -> Option<(K::Head, u32)>
         ensures burst { result ≡ self.now }
         ensures begun { IsOpen K.rules W self.now }
@@ -126,7 +128,7 @@ impl<K: Channel, const W: usize> Tracker<K, W> {
         self.burst
     }
 
-    /// The first fault of a beat in this state.
+    /// Returns the first fault of a beat in this state.
     fn first_fault(&self, beat: &Beat<K, W>) -> Option<BeatFault>
         requires { IsWidth W }
         ensures fault { result ≡ fault_in K.rules self.now beat.now }
@@ -138,7 +140,7 @@ impl<K: Channel, const W: usize> Tracker<K, W> {
         }
     }
 
-    /// The place of a beat with this head, which has no fault in this state.
+    /// Returns the place of a beat with this head that has no fault in this state.
     fn place(&self, head: K::Head) -> Place<K>
         requires width { IsWidth W }
         requires lawful { K.rules.fault head ≡ None }

@@ -1,4 +1,4 @@
--- What each handle of this crate owns, as one of the owners for C.
+-- The memory that each handle of this crate owns, as one of the owners for C.
 use Rattle.std.proofs.Common.{refl}
 use Rattle.tl_c_beats.proofs.Owners.{Owner}
 use Rattle.tl_c.proofs.held.ClientHeld.TheLaws as client_laws

@@ -1,4 +1,4 @@
--- How many beats wait on each channel, where both sides have met.
+-- The number of waiting beats on each channel, after both sides have met.
 use Rattle.std.specs.Prelude.{ℕ, Option, Some}
 use Rattle.std.proofs.Common.{◌≡◌, sym, subst}
 use Rattle.tl_ring.specs.Ends.{Sending, Taking}

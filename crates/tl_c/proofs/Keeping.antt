@@ -1,4 +1,4 @@
--- What a handle keeps through a call.
+-- The parts of a handle that a call keeps.
 use Rattle.std.specs.Prelude.{ℕ, Option, None, Some, Result, Ok, Err, OnOk, OnErr}
 use Rattle.std.proofs.Common.{◌≡◌, refl, sym, ap, ◌∙◌, subst, rules}
 use Rattle.tl_sides.specs.Calls.{SendingChannel}
@@ -26,13 +26,13 @@ by_answer : {E Q Q' X : Type 0} (answer : Result (Unit {0}) E) → OnOk answer Q
 by_answer (Ok done) q r f g = f q
 by_answer (Err fault) q r f g = g r
 
--- what a close leaves is the same side, since it is where nothing changes and where the channel is closed
+-- a close leaves the same side, if nothing changes and also if the channel is closed
 after_close : {R P H : Type 0} {w : ℕ} (k : SendingChannel R P H w) (Same : R → R → Type 0) → ((q : R) → Same q q) →
     ((q : R) → Same q (k.as_closed q)) → {q q' : R} {number : ℕ} → ClosesNumbered k q number q' → Same q q'
 after_close k Same same closed {q = q} told = by_answer told.answer told.closes.closed told.closes.refused
     (λ e. subst (λ r. Same q r) (sym e) (closed q)) (λ e. subst (λ r. Same q r) (sym e) (same q))
 
--- what each call changes of a side, its ends of the rings stay the same
+-- whatever a call changes in a side, its ends of the rings stay the same
 module _ {A : Type 0} {C M : ℕ} where
   pub client_same : (s : ClientState A C M) → SameClient s s
   client_same s = search rules

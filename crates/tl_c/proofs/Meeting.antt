@@ -1,19 +1,19 @@
--- What a meeting of the sides that two handles hold answers.
+-- The status of a meeting of the sides that two handles hold.
 use Rattle.std.specs.Prelude.{◌≢◌, ◌==◌, ℕ, Bool, true, false, Option, None, Some, if◌then◌else◌}
 use Rattle.std.proofs.Common.{◌≡◌, refl, sym, ap, ◌∙◌, subst, rules, arith}
 use Rattle.tl_sides.specs.Sides.{AreSides, SameManager}
-use Rattle.tl_c_beats.specs.declared.answers.TheConstants.{NO_SIDE, OTHER_BRIDGE}
+use Rattle.tl_c_beats.specs.declared.answers.TheConstants.{NOT_OPEN, BRIDGE_MISMATCH}
 use Rattle.tl_c.specs.declared.held.ClientHeld.{ClientHeld}
 use Rattle.tl_c.specs.declared.held.ManagerHeld.{ManagerHeld}
 use Rattle.tl_c.specs.Calls.{Keeps, MayMeet}
 use Rattle.tl_c.specs.Settling.{answer_of_two}
 use Rattle.tl_c.proofs.Keeping.{manager_same}
 
-pub no_side : {X : Type 0} → NO_SIDE ≡ 0 → X
-no_side e = absurd (omega (arith, e))
+pub not_open : {X : Type 0} → NOT_OPEN ≡ 0 → X
+not_open e = absurd (omega (arith, e))
 
-pub other_bridge : {X : Type 0} → OTHER_BRIDGE ≡ 0 → X
-other_bridge e = absurd (omega (arith, e))
+pub bridge_mismatch : {X : Type 0} → BRIDGE_MISMATCH ≡ 0 → X
+bridge_mismatch e = absurd (omega (arith, e))
 
 -- nothing is done with the manager's handle
 pub untouched : (held : Option ManagerHeld) {n : ℕ} → Keeps (λ h k. SameManager h.side k.side) held held × (n ≡ n)
@@ -27,27 +27,27 @@ same_no : (m n : ℕ) → m ≢ n → (m == n) ≡ false
 same_no m n not = search rules
 
 module _ {S T : Type 0} where
-  -- what is so of what both handles hold
+  -- a property of the values that both handles hold
   pub for_both : (Q : Option S → Option T → Type 0) {s : Option S} {t : Option T} {h : S} {k : T} → s ≡ Some h → t ≡ Some k → Q (Some h) (Some k) →
       Q s t
   for_both Q {s = s} {k = k} first second q = subst (λ t. Q s t) (sym second) (subst (λ s. Q s (Some k)) (sym first) q)
 
-  pub answer_no_client : {s : Option S} (t : Option T) (same : Bool) → s ≡ None → NO_SIDE ≡ answer_of_two s t same
-  answer_no_client t same e = subst (λ s. NO_SIDE ≡ answer_of_two s t same) (sym e) refl
+  pub answer_no_client : {s : Option S} (t : Option T) (same : Bool) → s ≡ None → NOT_OPEN ≡ answer_of_two s t same
+  answer_no_client t same e = subst (λ s. NOT_OPEN ≡ answer_of_two s t same) (sym e) refl
 
-  pub answer_no_manager : (s : Option S) {t : Option T} (same : Bool) → t ≡ None → NO_SIDE ≡ answer_of_two s t same
+  pub answer_no_manager : (s : Option S) {t : Option T} (same : Bool) → t ≡ None → NOT_OPEN ≡ answer_of_two s t same
   answer_no_manager None same e = refl
-  answer_no_manager (Some h) same e = subst (λ t. NO_SIDE ≡ answer_of_two (Some h) t same) (sym e) refl
+  answer_no_manager (Some h) same e = subst (λ t. NOT_OPEN ≡ answer_of_two (Some h) t same) (sym e) refl
 
   -- by the numbers of the two handles, which a take keeps
   module _ {s : Option S} {t : Option T} {h : S} {k : T} {m n m' n' : ℕ} (first : s ≡ Some h) (second : t ≡ Some k) (e : m' ≡ m) (f : n' ≡ n) where
-    pub answer_others : m' ≢ n' → OTHER_BRIDGE ≡ answer_of_two s t (m == n)
-    answer_others differ = for_both (λ s t. OTHER_BRIDGE ≡ answer_of_two s t (m == n)) first second
-        (ap (λ same. if same then 0 else OTHER_BRIDGE) (sym (same_no m n (λ is. differ (e ∙ is ∙ sym f)))))
+    pub answer_others : m' ≢ n' → BRIDGE_MISMATCH ≡ answer_of_two s t (m == n)
+    answer_others differ = for_both (λ s t. BRIDGE_MISMATCH ≡ answer_of_two s t (m == n)) first second
+        (ap (λ same. if same then 0 else BRIDGE_MISMATCH) (sym (same_no m n (λ is. differ (e ∙ is ∙ sym f)))))
 
     pub answer_met : m' ≡ n' → 0 ≡ answer_of_two s t (m == n)
     answer_met is = for_both (λ s t. 0 ≡ answer_of_two s t (m == n)) first second
-        (ap (λ same. if same then 0 else OTHER_BRIDGE) (sym (same_yes m n (sym e ∙ is ∙ f))))
+        (ap (λ same. if same then 0 else BRIDGE_MISMATCH) (sym (same_yes m n (sym e ∙ is ∙ f))))
 
 pub sides_held : {s : Option ClientHeld} {t : Option ManagerHeld} {h : ClientHeld} {k : ManagerHeld} → s ≡ Some h → t ≡ Some k → MayMeet s t →
     AreSides h.side k.side

@@ -1,4 +1,4 @@
--- What the making of a bridge answers C.
+-- The status of making a bridge.
 use Rattle.std.proofs.Common.{◌≡◌, ◌≤◌, ◌<◌, ◌⊎◌, ◌↔◌, ℕ, Option, Some, inl, inr, refl, sym, subst, arith}
 use Rattle.tl_ring.specs.declared.fault.BuildFault.{BuildFault}
 use Rattle.tl_ring.specs.declared.fault.BuildFault.TheVariants.{RingSize, OutOfMemory}
@@ -10,7 +10,7 @@ use Rattle.tl_c_beats.specs.Calls.{Stands}
 abbrev IsNoSize : ℕ → Type 0
 IsNoSize ring = (ring ≡ 0) ⊎ (MAX_RING < ring)
 
--- the answer is the number of a fault
+-- the status is the number of a fault
 pub no_success : {X : Type 0} (fault : BuildFault) {n : ℕ} → n ≡ build_fault_number fault → n ≡ 0 → X
 no_success RingSize e zero = absurd (omega (arith, e, zero))
 no_success OutOfMemory e zero = absurd (omega (arith, e, zero))
@@ -23,7 +23,7 @@ pub refused_size : (fault : BuildFault) {n ring : ℕ} → n ≡ build_fault_num
 refused_size RingSize e exact = (λ is. exact.0 refl, λ no. e)
 refused_size OutOfMemory e exact = (λ is. absurd (omega (arith, e, is)), λ no. absurd (let same = exact.1 no in cc))
 
--- the ring has a lawful size: so RingSize is not answered
+-- the ring has a valid size: so RingSize is not returned
 lawful_size : {n ring : ℕ} → (1 ≤ ring) × (ring ≤ MAX_RING) → (n ≡ 12 → ⊥) → (n ≡ 12) ↔ IsNoSize ring
 lawful_size {ring = ring} size not = (λ is. absurd (not is), λ no. absurd (ring_size_only ring size no))
 
@@ -33,6 +33,6 @@ made_size zero size = lawful_size size (λ is. omega (arith, zero, is))
 pub memory_size : {n ring : ℕ} → n ≡ 13 → (1 ≤ ring) × (ring ≤ MAX_RING) → (n ≡ 12) ↔ IsNoSize ring
 memory_size none size = lawful_size size (λ is. omega (arith, none, is))
 
--- what is put into a handle stands for a past
+-- the side that is put into a handle represents a past
 pub stands : {S P : Type 0} (StandsFor : S → P → Type 0) {held : Option S} {h : S} {x : P} → held ≡ Some h → StandsFor h x → Stands StandsFor held x
 stands StandsFor {x = x} is h = subst (λ s. Stands StandsFor s x) (sym is) h

@@ -1,4 +1,4 @@
--- What a take leaves and tells, by the take from the side that the handle holds.
+-- The effect and the output of a take, from the take of the side that the handle holds.
 use Rattle.std.specs.Prelude.{ℕ, Bool, false, Option, None, Some, List, slice_get, take, IfSome}
 use Rattle.std.proofs.Common.{◌≡◌, refl, sym, subst}
 use Rattle.std.proofs.lemmas.Option.{none-some}

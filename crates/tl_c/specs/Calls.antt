@@ -1,4 +1,4 @@
--- What the calls of a side's handle do, by the past of the side that it holds (this project's choice).
+-- The effect of the calls of a side's handle, given the past of the side that it holds (this project's choice).
 use Rattle.std.specs.Prelude.{◌≡◌, ◌+◌, ℕ, Bool, true, false, Option, Some, None, List, [], length, slice_get, take, IfSome}
 use Rattle.tl_msg.specs.Faults.{IsLawfulBeat}
 use Rattle.tl_msg.specs.Rules.{Rules}
@@ -29,7 +29,7 @@ use Rattle.tl_c.specs.declared.held.ClientHeld.{ClientHeld}
 use Rattle.tl_c.specs.declared.held.ManagerHeld.{ManagerHeld}
 use Rattle.tl_c.specs.declared.widths.TheConstants.{CLIENT, MANAGER}
 
--- a side is held, and it stands for a past
+-- a side is held, and it represents a past
 abbrev pub HoldsClient : Option ClientHeld → ClientPast CLIENT MANAGER → Type 0
 HoldsClient = Stands (λ h x. ClientStandsFor h.side x)
 
@@ -42,7 +42,7 @@ HoldSides None t = ⊥
 HoldSides (Some s) None = ⊥
 HoldSides (Some s) (Some t) = AreSides s.side t.side
 
--- the same side of the same bridge is held, or none as before
+-- the same side of the same bridge is held, or none, as before
 abbrev pub Keeps : {S : Type 0} → (IsSame : S → S → Type 0) → (before now : Option S) → Type 0
 Keeps IsSame None s = s ≡ None
 Keeps IsSame (Some h) None = ⊥
@@ -55,7 +55,7 @@ KeepsClient before now = Keeps (λ h k. SameClient h.side k.side) before.owned.h
 abbrev pub KeepsManager : (before now : ManagerHandle) → Type 0
 KeepsManager before now = Keeps (λ h k. SameManager h.side k.side) before.owned.held now.owned.held × (now.bridge ≡ before.bridge)
 
--- the channels that the sides send which the handles hold
+-- the channels that the held sides send
 abbrev pub sends_a : SendingChannel (ClientState Global CLIENT MANAGER) (ClientPast CLIENT MANAGER) HeadA CLIENT
 sends_a = side_sends_a
 
@@ -91,8 +91,8 @@ inbox_d = waiting (λ h. h.side.d.inbox)
 abbrev pub inbox_e : Option ManagerHeld → List (BeatOf HeadE MANAGER)
 inbox_e = waiting (λ h. h.side.e.inbox)
 
--- a take of the first beat of an inbox, which C is told: whether there was one. The past goes on by the beats that are taken. Where there was none,
--- nothing is written
+-- a take of the first beat of an inbox, which C receives, with the result whether there was one. The past is extended
+-- by the beat taken. If there was none, nothing is written
 pub record Takes {S P : Type 0} (Holds : Option S → P → Type 0) {H : Type 0} {w : ℕ} (r : Rules H) (fields_of : BeatOf H w → BeatFields)
     (inbox : Option S → List (BeatOf H w)) (after : List (BeatOf H w) → P → P) (before now : Option S)
     (unwritten written : BeatFields) (old_bytes bytes : List ℕ) (answer : Bool) : Type 0 where
@@ -102,13 +102,13 @@ pub record Takes {S P : Type 0} (Holds : Option S → P → Type 0) {H : Type 0}
   pub lawful : answer ≡ true → IfSome (slice_get (inbox before) 0) (λ beat. IsLawfulBeat r beat)
   pub none : answer ≡ false → (written ≡ unwritten) × (bytes ≡ old_bytes)
 
--- what a call does with the side that is held, which moves so many beats: none where none is held
+-- the effect of a call on the held side that moves `count` beats; 0 if none is held
 abbrev pub Does : {S : Type 0} → (How : S → S → ℕ → Type 0) → (before now : Option S) (count : ℕ) → Type 0
 Does How None s count = (s ≡ None) × (count ≡ 0)
 Does How (Some h) None count = ⊥
 Does How (Some h) (Some k) count = How h k count
 
--- a call that moves beats, so many of them, in this way, and what the past is after it
+-- a call that moves `count` beats in this way, and the past after it
 pub record Moves {S P : Type 0} (Holds : Option S → P → Type 0) (How : S → S → ℕ → Type 0) (after : Option S → Option S → P → P)
     (before now : Option S) (count : ℕ) : Type 0 where
   pub moves : Does How before now count
@@ -135,7 +135,7 @@ ManagerFetches h k count =
     Fetches h.side.a k.side.a × Fetches h.side.c k.side.c × Fetches h.side.e k.side.e
     × (count ≡ fetch_count h.side.a k.side.a + fetch_count h.side.c k.side.c + fetch_count h.side.e k.side.e)
 
--- the past after a pump, by the side before and after it
+-- the past after a pump, given the side before and after it
 abbrev pub pumped : {S P : Type 0} → (pumps : S → S → P → P) → (before now : Option S) → P → P
 pumped pumps None s x = x
 pumped pumps (Some h) None x = x
@@ -147,23 +147,23 @@ client_pumped = pumped (λ h k x. client_pumps h.side k.side x)
 abbrev pub manager_pumped : (before now : Option ManagerHeld) → ManagerPast CLIENT MANAGER → ManagerPast CLIENT MANAGER
 manager_pumped = pumped (λ h k x. manager_pumps h.side k.side x)
 
--- two sides may meet: those that are held are of one bridge
+-- two sides may meet: if both are held, they are of one bridge
 abbrev pub MayMeet : Option ClientHeld → Option ManagerHeld → Type 0
 MayMeet None t = Unit
 MayMeet (Some s) None = Unit
 MayMeet (Some s) (Some t) = AreSides s.side t.side
 
--- two sides have met: each channel is one crossing, to which a list of events leads. And both links obey the protocol's rules, each at its own width:
--- what came out is held to the rules that an offer is held to
+-- two sides have met: each channel is one crossing, to which a list of events leads. Both links obey the protocol's
+-- rules, each at its own width: the beats that came out obey the rules that an offer is held to
 pub record MeetLegally (s : ClientState Global CLIENT MANAGER) (t : ManagerState Global CLIENT MANAGER) (x : ClientPast CLIENT MANAGER)
     (y : ManagerPast CLIENT MANAGER) : Type 0 where
   pub meets : SidesMeet s t x y
-  -- no beat of B, C or E that was taken has a fault after those before it
+  -- no beat of B, C or E that was taken has a fault after the beats before it
   pub b : HasNoFaults rules_b x.b
   pub c : HasNoFaults rules_c y.c
   pub e : HasNoFaults rules_e y.e
-  -- on A and D new links obey, and those that obeyed up to here do so later, whatever calls each side makes, if these take no more of A and D than
-  -- had come to that side by now
+  -- on A and D, new links obey the rules, and links that have obeyed them so far still do after later calls of each
+  -- side, if these take no more of A and D than had arrived at that side by now
   pub begins : ObeysRules {w = CLIENT} [] × ObeysRules {w = MANAGER} []
   pub goes_on : ObeysRules x.history × ObeysRules y.history → (s' : ClientState Global CLIENT MANAGER) (t' : ManagerState Global CLIENT MANAGER)
       (x' : ClientPast CLIENT MANAGER) (y' : ManagerPast CLIENT MANAGER) → WentOn s s' t t' x x' y y' →
@@ -174,7 +174,7 @@ HaveMet None t x y = ⊥
 HaveMet (Some s) None x y = ⊥
 HaveMet (Some s) (Some t) x y = MeetLegally s.side t.side x y
 
--- how many far beats wait on a channel whose sides have met, and on all five
+-- the number of waiting far beats on a channel whose sides have met, and on all five
 abbrev pub beat_counts : {K A H : Type 0} {v : ℕ} → Sending K A H v → Taking K A H v → BeatCounts
 beat_counts s t = record { staged = length s.stage; in_ring = length (known_items t); inbox = length t.inbox }
 

@@ -1,4 +1,4 @@
--- What a handle owns: a boxed side, or nothing.
+-- The memory that a handle owns: a boxed side, or nothing.
 use Rattle.std.specs.Prelude.{Option}
 use base.Fml.{Fml}
 use base.Stored.{Coded}

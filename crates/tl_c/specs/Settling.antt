@@ -1,24 +1,25 @@
--- Both sides of one bridge behind two handles, in one thread: what their meeting answers, and how they settle (this project's choice).
+-- Both sides of one bridge behind two handles, in one thread: the status of their meeting, and how they settle (this
+-- project's choice).
 use Rattle.std.specs.Prelude.{◌==◌, ℕ, Bool, Option, None, Some, if◌then◌else◌}
 use Rattle.tl_sides.specs.Sides.{ClientPast, ManagerPast}
 use Rattle.tl_c_beats.specs.Settling.{SidesSettle, StillSides}
-use Rattle.tl_c_beats.specs.declared.answers.TheConstants.{NO_SIDE, OTHER_BRIDGE}
+use Rattle.tl_c_beats.specs.declared.answers.TheConstants.{NOT_OPEN, BRIDGE_MISMATCH}
 use Rattle.tl_c.specs.declared.client_handle.ClientHandle.{ClientHandle}
 use Rattle.tl_c.specs.declared.manager_handle.ManagerHandle.{ManagerHandle}
 use Rattle.tl_c.specs.declared.held.ClientHeld.{ClientHeld}
 use Rattle.tl_c.specs.declared.held.ManagerHeld.{ManagerHeld}
 use Rattle.tl_c.specs.declared.widths.TheConstants.{CLIENT, MANAGER}
 
--- what a meeting answers, where the numbers of the two sides are the same or not
+-- the status of a meeting, if the numbers of the two sides are the same or not
 abbrev pub answer_of_two : {S T : Type 0} → Option S → Option T → (same : Bool) → ℕ
-answer_of_two None t same = NO_SIDE
-answer_of_two (Some s) None same = NO_SIDE
-answer_of_two (Some s) (Some t) same = if same then 0 else OTHER_BRIDGE
+answer_of_two None t same = NOT_OPEN
+answer_of_two (Some s) None same = NOT_OPEN
+answer_of_two (Some s) (Some t) same = if same then 0 else BRIDGE_MISMATCH
 
 abbrev pub meeting_answer : ClientHandle → ManagerHandle → ℕ
 meeting_answer client manager = answer_of_two client.owned.held manager.owned.held (client.bridge == manager.bridge)
 
--- what two handles hold has settled, and can move nothing more
+-- the sides that two handles hold have settled, and nothing more can move
 abbrev pub HaveSettled : Option ClientHeld → Option ManagerHeld → ClientPast CLIENT MANAGER → ManagerPast CLIENT MANAGER → Type 0
 HaveSettled None t x y = ⊥
 HaveSettled (Some s) None x y = ⊥

@@ -10,7 +10,7 @@ use std::mem::replace;
 use std::ptr::null_mut;
 use tl_c_beats::{Live, Parts};
 
-/// The right to a boxed side, or to nothing.
+/// The ownership of a boxed side, or of nothing.
 #[repr(C)]
 #[derive(Drop)]
 pub struct OwnedClient {
@@ -55,8 +55,8 @@ impl OwnedClient {
     }
 }
 
-/// A handle as C keeps it: a pointer, whether a side stands there, and the caller's number of the
-/// side's bridge. With all zero it holds none.
+/// A handle as C stores it: a pointer, whether there is a side, and the caller's number of the
+/// side's bridge. A handle of zeros holds no side.
 #[repr(C)]
 #[derive(Drop)]
 pub struct ClientHandle {
@@ -66,11 +66,11 @@ pub struct ClientHandle {
     ghost tied: { (live.is ≡ true) ↔ (owned.held ≢ None) },
 }
 
-// C has this size from the header alone.
+// C gets this size only from the header.
 const _: () = prove!(size_of::<ClientHandle>() == 24);
 
 impl ClientHandle {
-    /// Puts a side into the handle, which keeps its number.
+    /// Puts a side into the handle. The number is unchanged.
     pub fn put(&mut self, held: Box<ClientHeld>)
         ensures held { self.new.owned.held ≡ Some held.value }
         ensures number { self.new.bridge ≡ self.old.bridge }
@@ -82,7 +82,8 @@ impl ClientHandle {
         };
     }
 
-    /// Takes the side out of the handle, which holds none then, and keeps its number.
+    /// Takes the side out of the handle and returns it, or `None` if the handle holds none. The
+    /// handle then holds none; its number is unchanged.
     pub fn take(&mut self, alloc: Global) -> Option<Box<ClientHeld>>
         ensures some { IfSome result (λ held. self.old.owned.held ≡ Some held.value) }
         ensures none { result ≡ None → self.old.owned.held ≡ None }
@@ -101,7 +102,7 @@ impl ClientHandle {
         Some(owned.into_parts().into_box())
     }
 
-    /// Lets the side go, if the handle holds one: the handle is as one that held none before.
+    /// Frees the side, if the handle holds one. The handle then holds none, and its number is 0.
     pub fn free(&mut self, alloc: Global)
         ensures none { self.new.owned.held ≡ None }
         ensures number { self.new.bridge ≡ 0 }

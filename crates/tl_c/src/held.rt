@@ -1,4 +1,4 @@
-//! What the two handles hold.
+//! The sides that the two handles hold.
 use crate::widths::{CLIENT, MANAGER};
 use tl_sides::{ClientSide, ManagerSide};
 
@@ -7,7 +7,7 @@ pub struct ClientHeld {
     pub side: ClientSide<CLIENT, MANAGER>,
 }
 
-// Written out, since a derived one asks for the side's size with every allocator.
+// Written by hand, because a derived one would require the side's size for every allocator.
 impl Drop for ClientHeld {
     fn drop(self) {
         let ClientHeld { side: _side } = self;
@@ -19,7 +19,7 @@ pub struct ManagerHeld {
     pub side: ManagerSide<CLIENT, MANAGER>,
 }
 
-// As that of the client's side.
+// Written by hand, like that of the client's side.
 impl Drop for ManagerHeld {
     fn drop(self) {
         let ManagerHeld { side: _side } = self;

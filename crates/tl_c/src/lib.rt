@@ -2,9 +2,9 @@
 //! and `ManagerSide`, with numbers and with pointers to bytes, for one pair of widths.
 //!
 //! The client's side offers beats of A, C and E and takes those of B and D; the manager's side
-//! offers beats of B and D and takes those of A, C and E. A call's contract says which event of the
-//! side's past it is, and by that past what it answers. No call waits for the other side.
-//! `include/tlbridge.h` says what a caller that is not proved owes.
+//! offers beats of B and D and takes those of A, C and E. The contract of a call names the event
+//! that it adds to the side's past, and the status that it returns, given that past. No call waits
+//! for the other side. `include/tlbridge.h` lists the obligations of a caller that is not proved.
 #![tactic(auto)]
 
 mod answers;
@@ -15,6 +15,7 @@ mod manager_handle;
 mod meetings;
 mod moves;
 mod offers;
+mod receipts;
 mod takes;
 mod widths;
 
@@ -30,11 +31,11 @@ use crate::widths::{CLIENT, MANAGER};
 use std::alloc::Global;
 use tl_c_beats::boxed;
 
-/// Makes a bridge with five rings of `ring` beats and gives its sides to the two handles, with the
-/// caller's number of it, `bridge`. Sides that the handles held before are let go first.
+/// Creates a bridge with five rings of `ring` beats and puts its sides into the two handles, with
+/// `bridge`, the caller's number of it. Sides that the handles held before are freed first.
 ///
-/// 0 where it is made. Else both handles hold none: 12 exactly where `ring` is 0 or above 4,096, 13
-/// where there is no memory.
+/// Returns 0 if the bridge is made. Otherwise both handles hold no side. Errors: 12 if and only if
+/// `ring` is 0 or above 4,096; 13 if the allocator fails.
 #[unsafe(no_mangle)]
 pub extern "C" fn tl_open(
     alloc: Global,
@@ -79,8 +80,8 @@ pub extern "C" fn tl_open(
     }
 }
 
-/// Lets the client's side go, if the handle holds one: the handle holds none then. The manager's
-/// side goes on by itself.
+/// Frees the client's side, if the handle holds one. The handle then holds none. The manager's side
+/// stays usable.
 #[unsafe(no_mangle)]
 pub extern "C" fn tl_free_client(alloc: Global, client: &mut ClientHandle)
     ensures none { client.new.owned.held ≡ None }
@@ -89,8 +90,8 @@ pub extern "C" fn tl_free_client(alloc: Global, client: &mut ClientHandle)
     client.free(alloc);
 }
 
-/// Lets the manager's side go, if the handle holds one: the handle holds none then. The client's
-/// side goes on by itself.
+/// Frees the manager's side, if the handle holds one. The handle then holds none. The client's side
+/// stays usable.
 #[unsafe(no_mangle)]
 pub extern "C" fn tl_free_manager(alloc: Global, manager: &mut ManagerHandle)
     ensures none { manager.new.owned.held ≡ None }

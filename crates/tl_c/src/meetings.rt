@@ -1,4 +1,4 @@
-//! Where both sides of a bridge meet.
+//! Calls that bring both sides of a bridge together.
 ghost use Rattle.std.specs.Prelude.{◌≡◌, ◌≢◌};
 ghost use Rattle.tl_sides.specs.Sides.{ClientPast, ManagerPast};
 ghost use Rattle.tl_c.specs.Calls.{HoldsClient, HoldsManager, HoldSides, KeepsClient, KeepsManager, MayMeet, HaveMet, AreCounted};
@@ -8,26 +8,26 @@ use crate::client_handle::ClientHandle;
 use crate::manager_handle::ManagerHandle;
 use crate::widths::{CLIENT, MANAGER};
 use std::alloc::Global;
-use tl_c_beats::{ChannelCounts, NO_SIDE, OTHER_BRIDGE, channel_counts, settle};
+use tl_c_beats::{BRIDGE_MISMATCH, ChannelCounts, NOT_OPEN, channel_counts, settle};
 use tl_sides::laws::sides_obey;
 use tl_sides::meet_sides;
 
-// Makes a call on what two handles hold, which is taken out for it and put back, and writes the
-// counts that it answers. Where a handle holds none, or their numbers differ, the function answers
-// so at once.
+// Makes a call on the sides that two handles hold, which are taken out for the call and put back,
+// and writes the counts that it returns. If a handle holds none, or their numbers differ, the
+// calling function returns that status at once.
 macro_rules! on_both {
     ($client:ident, $manager:ident, $alloc:ident, $counts:ident, $call:ident) => {{
         let Some(mut client_held) = $client.take($alloc) else {
-            return NO_SIDE;
+            return NOT_OPEN;
         };
         let Some(mut manager_held) = $manager.take($alloc) else {
             $client.put(client_held);
-            return NO_SIDE;
+            return NOT_OPEN;
         };
         if $client.bridge != $manager.bridge {
             $client.put(client_held);
             $manager.put(manager_held);
-            return OTHER_BRIDGE;
+            return BRIDGE_MISMATCH;
         }
         let standings = $call(&mut client_held.side, &mut manager_held.side);
         $client.put(client_held);
@@ -37,16 +37,16 @@ macro_rules! on_both {
     }};
 }
 
-/// Brings both sides of one bridge together, in one thread, and writes how many far beats stand in
-/// the stage, the ring and the inbox of each channel. No beat moves. Each side then knows all that
-/// is in the rings that it takes from, and each place that is free in those that it sends to. Legal in,
-/// legal out: no beat that was taken on B, C or E has a fault, and A and D obey the rules of both links
-/// from meeting to meeting, where each side takes no more of them than had come to it by the last one.
+/// Inspects both sides of one bridge together, in one thread, and writes the number of far beats in
+/// the stage, the ring and the inbox of each channel. No beat moves. Each side then knows every
+/// beat in the rings that it takes from, and every free position in those that it sends to. Legal
+/// in, legal out: no beat taken on B, C or E has a fault, and A and D obey the rules of both links
+/// from meeting to meeting, if each side takes no more of them than had arrived by the last one.
 ///
-/// 0 where they met. Else nothing changes: `NO_SIDE` where a handle holds none, and else
-/// `OTHER_BRIDGE`, where their numbers differ.
+/// Returns 0 if they met. Otherwise nothing changes. Errors: `NOT_OPEN` if a handle holds none;
+/// otherwise `BRIDGE_MISMATCH` if their numbers differ.
 ///
-/// Two sides that have the same number are of one [`tl_open`](crate::tl_open): the caller owes it.
+/// Requires: two sides with the same number were made by one call of [`tl_open`](crate::tl_open).
 #[unsafe(no_mangle)]
 pub extern "C" fn tl_meet(
     alloc: Global,
@@ -71,15 +71,15 @@ pub extern "C" fn tl_meet(
     on_both!(client, manager, alloc, counts, meet_sides)
 }
 
-/// Brings both sides of one bridge together, in one thread, once both have pumped and fetched until
-/// nothing more can move, and writes how many far beats stand in the stage, the ring and the inbox
-/// of each channel. Then beats are staged only where the ring is full, and are in a ring only where
+/// Pumps and fetches on both sides of one bridge, in one thread, until nothing more can move. Then
+/// brings them together, and writes the number of far beats in the stage, the ring and the inbox of
+/// each channel. Afterwards beats are staged only if the ring is full, and are in a ring only if
 /// the inbox is full.
 ///
-/// 0 where it is so. Else nothing changes: `NO_SIDE` where a handle holds none, and else
-/// `OTHER_BRIDGE`, where their numbers differ.
+/// Returns 0 if they settled. Otherwise nothing changes. Errors: `NOT_OPEN` if a handle holds none;
+/// otherwise `BRIDGE_MISMATCH` if their numbers differ.
 ///
-/// Two sides that have the same number are of one [`tl_open`](crate::tl_open): the caller owes it.
+/// Requires: two sides with the same number were made by one call of [`tl_open`](crate::tl_open).
 #[unsafe(no_mangle)]
 pub extern "C" fn tl_settle(
     alloc: Global,

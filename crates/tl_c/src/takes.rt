@@ -1,4 +1,4 @@
-//! The takes of each channel.
+//! The calls that take a beat from each channel.
 ghost use Rattle.tl_msg.specs.Tables.{rules_a, rules_b, rules_c, rules_d, rules_e};
 ghost use Rattle.tl_sides.specs.Sides.{client_takes_b, client_takes_d, manager_takes_a, manager_takes_c, manager_takes_e};
 ghost use Rattle.tl_c_beats.specs.Fields.{fields_a, fields_b, fields_c, fields_d, fields_e};
@@ -10,8 +10,8 @@ use crate::widths::{CLIENT, MANAGER};
 use std::alloc::Global;
 use tl_c_beats::{BeatFields, on_held, tell_a, tell_b, tell_c, tell_d, tell_e};
 
-/// The manager's side takes the first beat of A's inbox, and writes it: whether there was one.
-/// Where there was none, nothing changes.
+/// Removes the first beat of A's inbox at the manager's side, and writes it. Returns whether there
+/// was one. If there was none, nothing changes.
 #[unsafe(no_mangle)]
 pub extern "C" fn tl_take_a(
     alloc: Global,
@@ -27,8 +27,8 @@ pub extern "C" fn tl_take_a(
     tell_a(far, beat, lanes)
 }
 
-/// The client's side takes the first beat of B's inbox, and writes it: whether there was one.
-/// Where there was none, nothing changes.
+/// Removes the first beat of B's inbox at the client's side, and writes it. Returns whether there
+/// was one. If there was none, nothing changes.
 #[unsafe(no_mangle)]
 pub extern "C" fn tl_take_b(
     alloc: Global,
@@ -44,8 +44,8 @@ pub extern "C" fn tl_take_b(
     tell_b(far, beat, lanes)
 }
 
-/// The manager's side takes the first beat of C's inbox, and writes it: whether there was one.
-/// Where there was none, nothing changes.
+/// Removes the first beat of C's inbox at the manager's side, and writes it. Returns whether there
+/// was one. If there was none, nothing changes.
 #[unsafe(no_mangle)]
 pub extern "C" fn tl_take_c(
     alloc: Global,
@@ -61,8 +61,8 @@ pub extern "C" fn tl_take_c(
     tell_c(far, beat, lanes)
 }
 
-/// The client's side takes the first beat of D's inbox, and writes it: whether there was one.
-/// Where there was none, nothing changes.
+/// Removes the first beat of D's inbox at the client's side, and writes it. Returns whether there
+/// was one. If there was none, nothing changes.
 #[unsafe(no_mangle)]
 pub extern "C" fn tl_take_d(
     alloc: Global,
@@ -78,8 +78,8 @@ pub extern "C" fn tl_take_d(
     tell_d(far, beat, lanes)
 }
 
-/// The manager's side takes the first beat of E's inbox, and writes it: whether there was one.
-/// Where there was none, nothing changes.
+/// Removes the first beat of E's inbox at the manager's side, and writes it. Returns whether there
+/// was one. If there was none, nothing changes.
 #[unsafe(no_mangle)]
 pub extern "C" fn tl_take_e(
     alloc: Global,

@@ -1,4 +1,4 @@
--- What the block of an answer owns, as one of the owners for C.
+-- The memory that the block of an answer owns, as one of the owners for C.
 use Rattle.std.proofs.Common.{refl}
 use Rattle.tl_c_beats.proofs.Owners.{Owner}
 use Rattle.tl_c_beats.proofs.text_held.TextHeld.TheLaws as text_laws

@@ -1,4 +1,4 @@
--- What a close answers and leaves, by the close of what the handle holds.
+-- The status and the effect of a close, from the close of the held value.
 use Rattle.std.specs.Prelude.{◌≢◌, ◌↔◌, ℕ, Option, None, Some, Result, Ok, Err, IsOk, OnOk, OnErr}
 use Rattle.std.proofs.Common.{◌≡◌, List, [], ◌∷◌, refl, sym, ap, ◌∙◌, subst}
 use Rattle.std.proofs.lemmas.Option.{none-some}
@@ -36,7 +36,7 @@ closes_none {StandsFor = StandsFor} was is = record {
   refused = λ e. is ∙ sym was;
 }
 
--- what is held is the side q before the call and q' after it
+-- the held value is the side q before the call and q' after it
 pub closes : {S P R H : Type 0} {w : ℕ} {Holds : Option S → P → Type 0} {none : ℕ} {k : SendingChannel R P H w} {before now : Option S}
     {answer : ℕ} (of : R → S) {q q' : R} →
     before ≡ Some (of q) → now ≡ Some (of q') → ((x : P) → Holds (Some (of q)) x → k.Stands q x) →

@@ -1,4 +1,4 @@
--- What an offer answers and leaves, and the question whether one may be made, by what the handle holds.
+-- The status and the effect of an offer, and of the question whether one may be made, from the held value.
 use Rattle.std.specs.Prelude.{◌≢◌, ◌↔◌, ℕ, Bool, true, false, Option, None, Some, Result, Ok, Err, IsOk, IsTrue, IfErr, OnOk, OnErr, if◌then◌else◌}
 use Rattle.std.proofs.Common.{◌≡◌, List, [], ◌∷◌, refl, sym, ap, ◌∙◌, subst, arith}
 use Rattle.std.proofs.lemmas.Bool.{false≢true}
@@ -74,7 +74,7 @@ module _ {S P : Type 0} {StandsFor : S → P → Type 0} {H : Type 0} {w v : ℕ
     same = is ∙ sym was;
   }
 
-  -- what is held has a part on which the channel is this pipe
+  -- the held value has a part on which the channel is this pipe
   pub asks : (p : Pipe H v) (h : S) → ((x : P) → StandsFor h x → AreAlike p (channel x)) → before ≡ Some h → now ≡ Some h → {answer : Bool} →
       IsTrue answer ↔ IsReady p → Asks (Stands StandsFor) channel before now answer
   asks p h alike was is {answer = answer} asked = record {
@@ -95,7 +95,7 @@ module _ {S P : Type 0} {StandsFor : S → P → Type 0} {R H : Type 0} {w v : �
     refused = λ e. is ∙ sym was;
   }
 
-  -- what is held has a part on which the channel is this pipe
+  -- the held value has a part on which the channel is this pipe
   pub offers_later : (p : Pipe H v) (h : S) → ((x : P) → StandsFor h x → AreAlike p (channel x)) → before ≡ Some h → now ≡ Some h →
       IsTrue false ↔ IsReady p → Offers (Stands StandsFor) none k channel b before now NOT_READY
   offers_later p h alike was is asked = record {
@@ -106,7 +106,7 @@ module _ {S P : Type 0} {StandsFor : S → P → Type 0} {R H : Type 0} {w v : �
     refused = λ e. is ∙ sym was;
   }
 
-  -- what is held is the side q before the offer and q' after it; the beat that is offered is the one that C passes
+  -- the held value is the side q before the offer and q' after it; the offered beat is the one that C passes
   pub offers : (of : R → S) (q q' : R) (p : Pipe H v) → ((x : P) → StandsFor (of q) x → AreAlike p (channel x)) →
       before ≡ Some (of q) → now ≡ Some (of q') →
       ((x : P) → StandsFor (of q) x → k.Stands q x) → ((x : P) → k.Stands q' x → StandsFor (of q') x) →

@@ -1,5 +1,6 @@
--- An owner for C is a struct of a pointer that says no type and of an allocator, which owns a boxed value there or nothing. No struct of C is
--- generic, so each crate declares its own; what its three functions owe is proved here, whatever is owned.
+-- An owner for C is a struct of an untyped pointer and an allocator, which owns a boxed value there or nothing. No
+-- struct of C is generic, so each crate declares its own; the obligations of its three functions are proved here,
+-- whatever is owned.
 use Rattle.std.specs.Prelude.{◌≢◌, Option, None, Some}
 use Rattle.std.proofs.Common.{◌≡◌, List, [], ◌∷◌, ◌++◌, refl, sym, ap, ◌∙◌, subst, lit<, w64}
 use seplogic.Ra.Ura.{Ura}

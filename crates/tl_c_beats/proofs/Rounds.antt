@@ -1,4 +1,4 @@
--- What a round leaves on each channel, and what several leave.
+-- The state of each channel after a round, and after several.
 use Rattle.std.proofs.Common.{◌≡◌, ◌+◌, ◌-◌, ℕ, ◌++◌, length, take, drop, min, sym, ap, subst, ◌∙◌, arith, append_assoc, append-nil, length-append}
 use Rattle.std.proofs.lemmas.List.{length-drop, length-take, drop-drop}
 use Rattle.std.proofs.Math.Seq.{take-add}
@@ -17,8 +17,8 @@ module _ {K A H : Type 0} {v : ℕ} where
       let all_free = m.all_free in
       record { ring = m.ring; free = omega (arith, same_room, all_free) }
 
-  -- what both ends of a channel do before they meet: one pumps while the other does something else, which then fetches while the first does
-  -- something else
+  -- The moves of both ends of a channel before they meet. One pumps, and then the other fetches. In between, each may do
+  -- something else.
   record Moved (s s1 s2 : Sending K A H v) (t t1 t2 : Taking K A H v) : Type 0 where
     pump : Pumps s s1
     alone : s2 ≡ s1
@@ -38,7 +38,7 @@ module _ {K A H : Type 0} {v : ℕ} where
   same_taker : {s s1 s2 s3 : Sending K A H v} {t t1 t2 t3 : Taking K A H v} → Moved s s1 s2 t t1 t2 → Met s2 t2 s3 t3 → SameTake t t3
   same_taker {t} {t1} {t2} {t3} m met = same_take_then t t2 t3 (subst (λ q. SameTake q t2) m.beside m.fetch.fetched.ring) met.take
 
-  -- a round of one channel: so many moves, after which both ends know all again
+  -- a round of one channel: some moves, after which both ends again know everything
   record Turned (s s1 s3 : Sending K A H v) (t t1 t2 t3 : Taking K A H v) : Type 0 where
     pub known : IsKnown s3 t3
     pub fewer : moves_left s3 t3 + (pump_count s s1 + fetch_count t1 t2) ≡ moves_left s t
@@ -129,7 +129,7 @@ module _ {K A H : Type 0} {v : ℕ} where
         };
       }
 
--- what each side does before both meet: it pumps the channels that it sends, and fetches those that it takes
+-- the moves of each side before both meet: it pumps the channels that it sends, and fetches those that it takes
 module _ {A : Type 0} {C M : ℕ} where
   pub record ClientMoves (s s1 s2 : ClientState A C M) : Type 0 where
     pub a : Pumps s.a s1.a
@@ -166,7 +166,7 @@ module _ {A : Type 0} {C M : ℕ} where
     pub d : Met t.d s.d t'.d s'.d
     pub e : Met s.e t.e s'.e t'.e
 
--- what that is on each channel
+-- the same on each channel
 module _ {A : Type 0} {C M : ℕ} {s s1 s2 : ClientState A C M} {t t1 t2 : ManagerState A C M} (x : ClientMoves s s1 s2)
     (y : ManagerMoves t t1 t2) where
   moved_a : Moved s.a s1.a s2.a t.a t1.a t2.a
@@ -282,7 +282,7 @@ module _ {C M : ℕ} where
         g.went ∙ ap more f.went ∙ (λ i. record x { b = passed_then f.b g.b x.b i; d = passed_then f.d g.d x.d i });
   }
 
--- what rounds have left, and one round more
+-- the state after some rounds, and one round more
 pub settles_then : {A : Type 0} {C M : ℕ} {s s' : ClientState A C M} {t t' : ManagerState A C M} {x : ClientPast C M} {y : ManagerPast C M} →
     SidesSettle s t x y → ((p : ClientPast C M) (q : ManagerPast C M) → ClientStandsFor s p → ManagerStandsFor t q →
     SidesSettle s' t' p q) → SidesSettle s' t' x y

@@ -1,4 +1,4 @@
--- What C is told of a beat that was taken, and so of the first beat of an inbox.
+-- The fields of a beat that was taken, and so of the first beat of an inbox, as C receives them.
 use Rattle.std.specs.Prelude.{ℕ, Bool, true, Option, Some, List, slice_get}
 use Rattle.std.proofs.Common.{◌≡◌, sym, ◌∙◌, subst}
 use Rattle.tl_msg.specs.declared.beat.BeatOf.{BeatOf}

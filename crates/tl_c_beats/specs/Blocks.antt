@@ -1,11 +1,11 @@
--- What C has of an answer (this project's choice).
+-- The block of an answer, as C has it (this project's choice).
 use Rattle.std.specs.Prelude.{◌≡◌, ℕ, Bool, if◌then◌else◌, Option, None, Some}
 use denote.RawPtr.{null_ptr}
 use Rattle.std.specs.Vec.{vec_ptr, vec_len}
 use Rattle.tl_c_beats.specs.declared.text_held.TextHeld.{TextHeld}
 use Rattle.tl_c_beats.specs.declared.answer_block.AnswerBlock.{AnswerBlock}
 
--- the block of an answer: it holds the answer's text, whose bytes it names
+-- the block of an answer: it holds the answer's text, and points to its bytes
 pub record IsBlockOf (made : TextHeld) (done : Bool) (block : AnswerBlock) : Type 0 where
   pub held : block.owned.held ≡ Some made
   pub text : block.text ≡ vec_ptr made.text

@@ -1,10 +1,10 @@
--- How many far beats wait, as C is told (this project's choice).
+-- The number of waiting far beats, as C receives it (this project's choice).
 use Rattle.tl_ring.specs.declared.standing.Standing.{Standing}
 use Rattle.tl_sides.specs.declared.per_channel.PerChannel.{PerChannel}
 use Rattle.tl_c_beats.specs.declared.counts.BeatCounts.{BeatCounts}
 use Rattle.tl_c_beats.specs.declared.counts.ChannelCounts.{ChannelCounts}
 
--- the counts of one channel, by how its beats stand, and of all five
+-- the counts of one channel, from the number of beats at each place, and of all five
 abbrev pub beat_counts : Standing → BeatCounts
 beat_counts standing = record { staged = standing.staged; in_ring = standing.in_ring; inbox = standing.inbox }
 

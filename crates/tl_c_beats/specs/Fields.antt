@@ -1,4 +1,5 @@
--- The beat that the fields tell which C passes, on each channel, and the fields that tell a beat to C (this project's choice).
+-- The beat of the fields that C passes, on each channel, and the fields of a beat as C receives them (this project's
+-- choice).
 use Rattle.std.specs.Prelude.{◌==◌, ℕ, Bool, List, not, replicate, if◌then◌else◌}
 use Rattle.tl_msg.specs.declared.head.HeadA.{HeadA}
 use Rattle.tl_msg.specs.declared.head.HeadB.{HeadB}
@@ -10,22 +11,22 @@ use Rattle.tl_c_beats.specs.declared.fields.BeatFields.{BeatFields}
 use Rattle.tl_c_beats.specs.declared.fields.TheConstants.{RESERVED}
 use Rattle.tl_c_beats.specs.Masks.{whole_mask, low_word, high_word}
 
--- a flag is set where it is not 0
+-- a flag is true if it is not 0
 abbrev pub is_set : ℕ → Bool
 is_set n = not (n == 0)
 
 abbrev pub flag : Bool → ℕ
 flag b = if b then 1 else 0
 
--- the bytes that no field has yet
+-- the bytes that are not used yet
 abbrev pub unused : List ℕ
 unused = replicate RESERVED 0
 
--- a beat of any channel, by its head
+-- a beat of any channel, from its head
 abbrev pub beat_with : {H : Type 0} {w : ℕ} → H → BeatFields → List ℕ → BeatOf H w
 beat_with head f lanes = record { head = head; mask = whole_mask f.mask f.mask_high; lanes = lanes; corrupt = is_set f.corrupt }
 
--- the fields that tell a beat, but of its head nothing
+-- the fields of a beat with this mask and corrupt bit, and a head of zeros
 abbrev pub bare_fields : (mask : ℕ) (corrupt : Bool) → BeatFields
 bare_fields mask corrupt = record {
   address = 0;

@@ -4,6 +4,7 @@ pub mod Fields
 pub mod Answers
 pub mod Calls
 pub mod Counts
+pub mod Receipts
 pub mod Owners
 pub mod TextOwners
 pub mod Blocks

@@ -1,4 +1,4 @@
--- What an owner for C owns: a boxed value behind a pointer that says no type, or nothing.
+-- The memory that an owner for C owns: a boxed value behind an untyped pointer, or nothing.
 use Rattle.std.specs.Prelude.{Option, Some, None}
 use base.Fml.{Fml, ftrue}
 use denote.RattleType.{RattleType}

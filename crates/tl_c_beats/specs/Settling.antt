@@ -1,11 +1,11 @@
--- Both sides of one bridge in one thread: what is so once nothing more can move (this project's choice).
+-- Both sides of one bridge in one thread: the state in which nothing more can move (this project's choice).
 use Rattle.std.specs.Prelude.{◌≡◌, ◌≤◌, ◌<◌, ◌+◌, ◌*◌, ◌++◌, ℕ, length}
 use Rattle.tl_ring.specs.Crossing.{inbox_room}
 use Rattle.tl_ring.specs.Ends.{Sending, Taking, sent, received, room, known_free, known_items, passed}
 use Rattle.tl_sides.specs.Sides.{ClientState, ManagerState, ClientPast, ManagerPast, SidesMeet}
 
 module _ {C M : ℕ} where
-  -- so many staged beats of each channel of a side have gone on
+  -- some staged beats of each channel of a side have moved on; the fields have their number
   pub record ClientWent (before after : ClientPast C M) : Type 0 where
     pub a : ℕ
     pub c : ℕ
@@ -18,22 +18,24 @@ module _ {C M : ℕ} where
     pub went : after ≡ record before { b = passed b before.b; d = passed d before.d }
 
 module _ {K A H : Type 0} {v : ℕ} where
-  -- nothing more can move on a channel: its beats are staged only where its ring is full, and are in its ring only where its inbox is full
+  -- nothing more can move on a channel: beats are staged only if its ring is full, and are in its ring only if its
+  -- inbox is full
   pub record IsStill (s : Sending K A H v) (t : Taking K A H v) : Type 0 where
     pub staged : 0 < length s.stage → room s ≤ length (known_items t)
     pub in_ring : 0 < length (known_items t) → inbox_room ≤ length t.inbox
 
-  -- the taking end knows all of the ring, and the sending end each place that is free
+  -- the taking end knows all of the ring, and the sending end each free position
   pub record IsKnown (s : Sending K A H v) (t : Taking K A H v) : Type 0 where
     pub ring : received t ++ known_items t ≡ sent s
     pub free : room s ≤ known_free s + length (known_items t)
 
-  -- how many moves the beats of a channel have before them: two of each that is staged, and one of each in the ring
+  -- the number of moves that the beats of a channel still have to make: two for each staged beat, and one for each beat
+  -- in the ring
   abbrev pub moves_left : Sending K A H v → Taking K A H v → ℕ
   moves_left s t = 2 * length s.stage + length (known_items t)
 
 module _ {A : Type 0} {C M : ℕ} where
-  -- two sides have met, after some staged beats went on
+  -- two sides have met, after some staged beats moved on
   pub record SidesSettle (s : ClientState A C M) (t : ManagerState A C M) (x : ClientPast C M) (y : ManagerPast C M) : Type 0 where
     pub client : ClientPast C M
     pub manager : ManagerPast C M

@@ -1,4 +1,4 @@
--- What the block of an answer owns: a boxed text, or nothing.
+-- The memory that the block of an answer owns: a boxed text, or nothing.
 use Rattle.std.specs.Prelude.{Option}
 use base.Fml.{Fml}
 use base.Stored.{Coded}

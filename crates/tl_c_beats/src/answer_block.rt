@@ -1,4 +1,4 @@
-//! An answer as C is told of it.
+//! The result of a trace as C receives it.
 ghost use Rattle.std.specs.Prelude.{◌≡◌, ◌≢◌, ◌↔◌, true, Option, Some, None};
 ghost use Rattle.tl_c_beats.specs.TextOwners.{holds_text, text_coded};
 ghost use Rattle.tl_c_beats.specs.declared.text_held.TextHeld.{TextHeld};
@@ -9,7 +9,7 @@ use std::alloc::Global;
 use std::marker::Model;
 use std::ptr::null_mut;
 
-/// The right to a boxed text, or to nothing.
+/// The ownership of a boxed text, or of nothing.
 #[repr(C)]
 #[derive(Drop)]
 pub struct OwnedText {
@@ -54,22 +54,23 @@ impl OwnedText {
     }
 }
 
-/// An answer and the right to its text, or why there is none. With all zero there is none.
+/// The answer to a trace, with the ownership of its text, or the line of the fault for which there
+/// is none. A block of zeros has no answer.
 #[repr(C)]
 #[derive(Drop)]
 pub struct AnswerBlock {
-    /// Where the first byte stands; null where there is no answer.
+    /// The pointer to the first byte; null if there is no answer.
     pub text: *const u8,
-    /// How many bytes these are; 0 where there is no answer.
+    /// The number of bytes; 0 if there is no answer.
     pub length: usize,
-    /// The line of the trace that has the fault, counted from 1; 0 where no line has it.
+    /// The line of the trace that has the fault, counted from 1; 0 if no line has it.
     pub line: u64,
     pub owned: OwnedText,
     pub(crate) live: Live,
-    /// 1 where all five channels are done, else 0.
+    /// 1 if all five channels are done, otherwise 0.
     pub all_done: u8,
     ghost tied: { (live.is ≡ true) ↔ (owned.held ≢ None) },
 }
 
-// C has this size from the header alone.
+// C gets this size only from the header.
 const _: () = prove!(size_of::<AnswerBlock>() == 40);

@@ -1,7 +1,8 @@
-//! The course of a call of a handle.
+//! The steps of a call of a handle.
 
-/// Makes a call on what a handle holds, which is taken out for it and put back: what the call
-/// answers. Where the handle holds nothing, the function answers `$none` at once.
+/// Makes a call on the value that a handle holds, which is taken out for the call and put back.
+/// Evaluates to the result of the call. If the handle holds nothing, the calling function returns
+/// `$none` at once.
 #[macro_export]
 macro_rules! on_held {
     ($handle:ident, $alloc:ident, $none:expr, |$held:ident| $call:expr) => {{
@@ -14,8 +15,8 @@ macro_rules! on_held {
     }};
 }
 
-/// Makes an offer to a part of what a handle holds, as [`on_held!`] makes a call. Where the channel
-/// takes no beat now, the function answers `NOT_READY` at once.
+/// Makes an offer to a part of the value that a handle holds, as [`on_held!`] makes a call. If the
+/// channel accepts no beat now, the calling function returns `NOT_READY` at once.
 #[macro_export]
 macro_rules! offer_held {
     ($handle:ident, $alloc:ident, $none:expr, $part:ident.$ready:ident, $offer:ident($beat:expr)) => {{

@@ -1,4 +1,4 @@
-//! The end of each channel, as C is told of it.
+//! The closing of each channel, with the statuses that C receives.
 ghost use Rattle.tl_sides.specs.Sides.{side_sends_a, side_sends_b, side_sends_c, side_sends_d, side_sends_e};
 ghost use Rattle.tl_c_beats.specs.Calls.{ClosesNumbered};
 
@@ -6,7 +6,7 @@ use crate::answers::close_number;
 use std::alloc::Allocator;
 use tl_sides::{ClientSide, ManagerSide};
 
-/// Ends the offers of A. 0 where it is closed, else the number of the fault.
+/// Ends the offers of A. Returns 0 if it is closed, otherwise the number of the fault.
 pub fn close_a<const C: usize, const M: usize, A: Allocator>(client: &mut ClientSide<C, M, A>) -> u8
     ensures { ClosesNumbered side_sends_a client.old result client.new }
 {

@@ -1,23 +1,23 @@
-//! How many far beats wait, as C is told.
+//! The number of waiting far beats, as C receives it.
 ghost use Rattle.std.specs.Prelude.{◌≡◌};
 ghost use Rattle.tl_c_beats.specs.Counts.{beat_counts, channel_counts};
 
 use tl_ring::Standing;
 use tl_sides::Standings;
 
-/// How many far beats of one channel wait at each place between its two ends.
+/// The number of far beats of one channel that wait at each place between its two ends.
 #[repr(C)]
 #[derive(Drop)]
 pub struct BeatCounts {
-    /// The beats that wait for a place in the ring, at most [`tl_ring::ROOM`].
+    /// Beats that wait for a free position in the ring, at most [`tl_ring::STAGE_CAPACITY`].
     pub staged: usize,
-    /// The beats in the ring, at most as many as it holds.
+    /// Beats in the ring, at most its capacity.
     pub in_ring: usize,
-    /// The beats that were fetched and not yet taken, at most [`tl_ring::ROOM`].
+    /// Beats that were fetched and are not yet taken, at most [`tl_ring::STAGE_CAPACITY`].
     pub inbox: usize,
 }
 
-/// How many far beats of each channel wait.
+/// The number of waiting far beats of each channel.
 #[repr(C)]
 #[derive(Drop)]
 pub struct ChannelCounts {
@@ -28,12 +28,12 @@ pub struct ChannelCounts {
     pub e: BeatCounts,
 }
 
-// C has these sizes from the header alone.
+// C gets these sizes only from the header.
 const _: () = prove!(size_of::<BeatCounts>() == 24);
 
 const _: () = prove!(size_of::<ChannelCounts>() == 120);
 
-/// The counts of all channels, by how their beats stand.
+/// Returns the counts of all channels, from the number of beats at each place.
 pub fn channel_counts(standings: Standings) -> ChannelCounts
     ensures { result ≡ channel_counts standings }
 {

@@ -1,6 +1,6 @@
-//! What the library for C does for every pair of widths: a beat as C passes it, how many wait, what
-//! calls answer and what that means, what a handle and the block of an answer are made of, and how
-//! both sides of a bridge settle in one thread.
+//! The part of the library for C that is the same for every pair of widths: the fields of a beat,
+//! the counts of waiting beats, the statuses and their texts, the parts of a handle and of the
+//! block of an answer, and the settling of both sides of a bridge in one thread.
 #![tactic(auto)]
 
 mod answer_block;
@@ -17,10 +17,12 @@ mod settling;
 mod tells;
 mod text_held;
 mod texts;
+mod totals;
 
 pub use answer_block::AnswerBlock;
 pub use answers::{
-    NO_SIDE, NOT_READY, OTHER_BRIDGE, OUT_OF_MEMORY, VERSION, close_number, offer_number,
+    BRIDGE_MISMATCH, NOT_OPEN, NOT_READY, NOT_SENT, NOT_TAKEN, OUT_OF_MEMORY, VERSION,
+    close_number, offer_number,
 };
 pub use closes::{close_a, close_b, close_c, close_d, close_e};
 pub use counts::{BeatCounts, ChannelCounts, channel_counts};
@@ -32,4 +34,8 @@ pub use masks::{high_word, low_word, whole_mask};
 pub use parts::{Live, Parts, boxed};
 pub use settling::settle;
 pub use tells::{tell_a, tell_b, tell_c, tell_d, tell_e};
-pub use texts::{AnswerText, NAME_BYTES, SENTENCE_BYTES, answer_text};
+pub use texts::{NAME_BYTES, SENTENCE_BYTES, StatusText, status_text};
+pub use totals::{
+    BeatTotals, count_client, count_manager, drained_client, drained_manager, finish_client,
+    finish_manager,
+};

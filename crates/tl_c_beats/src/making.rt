@@ -1,4 +1,4 @@
-//! How the block of an answer is made and let go.
+//! Making and freeing the block of an answer.
 ghost use Rattle.std.specs.Prelude.{◌≡◌, None, IfOk, IfErr};
 ghost use Rattle.tl_c_beats.specs.declared.answers.TheConstants.{OUT_OF_MEMORY};
 ghost use Rattle.tl_c_beats.specs.Blocks.{IsBlockOf, IsNoBlock};
@@ -11,8 +11,8 @@ use std::mem::replace;
 use std::ptr::null;
 
 impl AnswerBlock {
-    /// The block of an answer, which holds its text. Where there is no memory, the number of that
-    /// fault.
+    /// Creates the block of an answer, which holds its text. Errors: `OUT_OF_MEMORY` if the
+    /// allocator fails.
     pub fn of(alloc: Global, text: Vec<u8>, all_done: bool) -> Result<AnswerBlock, u8>
         ensures block { IfOk result (IsBlockOf (record { text = text }) all_done) }
         ensures refused { IfErr result (λ number. number ≡ OUT_OF_MEMORY) }
@@ -31,7 +31,7 @@ impl AnswerBlock {
         }
     }
 
-    /// No answer, and the line that has the fault.
+    /// Returns a block without an answer, with the line of the fault, if there is one.
     pub fn none(alloc: Global, line: Option<u64>) -> AnswerBlock
         ensures { IsNoBlock line result }
     {
@@ -45,7 +45,7 @@ impl AnswerBlock {
         }
     }
 
-    /// Lets the answer's text go, if there is one: there is none then.
+    /// Frees the answer's text, if there is one. The block then has no answer.
     pub fn free(&mut self, alloc: Global)
         ensures { IsNoBlock None self.new }
     {
@@ -55,8 +55,8 @@ impl AnswerBlock {
         }
     }
 
-    /// Lets the answer's text go, if there is one, and leaves the line of a fault: the fault's
-    /// number.
+    /// Frees the answer's text, if there is one, and stores the line of a fault. Returns `number`,
+    /// the number of the fault.
     pub fn refuse(&mut self, alloc: Global, number: u8, line: Option<u64>) -> u8
         ensures block { IsNoBlock line self.new }
         ensures number { result ≡ number }

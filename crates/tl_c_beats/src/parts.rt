@@ -1,5 +1,5 @@
-//! What a handle is made of: a box made, and taken apart into its pointer and its allocator; and
-//! whether there is one.
+//! The parts of a handle: a box taken apart into its pointer and its allocator, and whether there
+//! is one.
 ghost use Rattle.std.specs.Prelude.{◌≡◌, true, false, IfOk, IfErr};
 ghost use Rattle.std.specs.Box.Ownership.{box_owns};
 ghost use Rattle.tl_c_beats.specs.declared.answers.TheConstants.{OUT_OF_MEMORY};
@@ -39,7 +39,7 @@ impl<T, A: Allocator> Parts<T, A> {
     }
 }
 
-/// Boxes a value. Where there is no memory, the number of that fault.
+/// Boxes a value. Errors: `OUT_OF_MEMORY` if the allocator fails.
 pub fn boxed<T: Drop>(alloc: Global, value: T) -> Result<Box<T>, u8>
     ensures boxed { IfOk result (λ b. b.value ≡ value) }
     ensures refused { IfErr result (λ number. number ≡ OUT_OF_MEMORY) }
@@ -50,7 +50,7 @@ pub fn boxed<T: Drop>(alloc: Global, value: T) -> Result<Box<T>, u8>
     }
 }
 
-/// Whether a handle holds something, as C keeps it.
+/// Whether a handle holds something, as C stores it.
 #[repr(C)]
 #[derive(Drop)]
 pub struct Live {
@@ -58,14 +58,14 @@ pub struct Live {
 }
 
 impl Live {
-    /// That of a handle that holds nothing.
+    /// Returns the flag of a handle that holds nothing.
     pub fn unset() -> Live
         ensures { result.is ≡ false }
     {
         Live { is: false }
     }
 
-    /// That of a handle that holds something.
+    /// Returns the flag of a handle that holds something.
     pub fn set() -> Live
         ensures { result.is ≡ true }
     {

@@ -7,14 +7,15 @@ ghost use Rattle.tl_c_beats.specs.Settling.{KnownSides, StillSides, SidesSettle,
 use std::alloc::Allocator;
 use tl_sides::{ClientSide, ManagerSide, Standings, meet_sides};
 
-/// What a round has done: how many moves it made, and where the far beats stand after it.
+/// The result of a round: the number of its moves, and the number of far beats at each place after
+/// it.
 #[derive(Drop)]
 struct Moved {
     pub count: usize,
     pub standings: Standings,
 }
 
-// Both sides pump and fetch, and meet.
+// Pumps and fetches on both sides, and brings them together. Returns the result.
 fn round<const C: usize, const M: usize, A: Allocator>(
     client: &mut ClientSide<C, M, A>,
     manager: &mut ManagerSide<C, M, A>,
@@ -45,8 +46,9 @@ fn round<const C: usize, const M: usize, A: Allocator>(
     }
 }
 
-/// Both sides of one bridge pump and fetch until nothing more can move, and meet: how many far beats
-/// stand in the stage, the ring and the inbox of each channel.
+/// Pumps and fetches on both sides of one bridge until nothing more can move, and brings them
+/// together. Returns the number of far beats in the stage, the ring and the inbox of each channel.
+/// Requires: the sides are of one bridge.
 pub fn settle<const C: usize, const M: usize, A: Allocator>(
     client: &mut ClientSide<C, M, A>,
     manager: &mut ManagerSide<C, M, A>,

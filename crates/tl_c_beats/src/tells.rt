@@ -1,11 +1,11 @@
-//! The first beat of an inbox as C is told of it.
+//! Writes the first beat of an inbox for C.
 ghost use Rattle.tl_c_beats.specs.Calls.{Told};
 ghost use Rattle.tl_c_beats.specs.Fields.{fields_a, fields_b, fields_c, fields_d, fields_e};
 
 use crate::fields::{BeatFields, fields_a, fields_b, fields_c, fields_d, fields_e};
 use tl_msg::{BeatOf, HeadA, HeadB, HeadC, HeadD, HeadE};
 
-// Writes a beat, if there is one, by what its fields tell: whether there is one.
+// Writes the fields and lanes of a beat, if there is one. Evaluates to whether there is one.
 macro_rules! tell {
     ($far:ident, $fields_of:ident, $beat:ident, $lanes:ident) => {{
         let Some(far) = $far else {
@@ -17,7 +17,8 @@ macro_rules! tell {
     }};
 }
 
-/// Writes a beat of A, if there is one: whether there is one. Where there is none, nothing changes.
+/// Writes a beat of A, if there is one. Returns whether there is one. If there is none, nothing
+/// changes.
 pub fn tell_a<const W: usize>(
     far: Option<BeatOf<HeadA, W>>,
     beat: &mut BeatFields,
@@ -28,7 +29,8 @@ pub fn tell_a<const W: usize>(
     tell!(far, fields_a, beat, lanes)
 }
 
-/// Writes a beat of B, if there is one: whether there is one. Where there is none, nothing changes.
+/// Writes a beat of B, if there is one. Returns whether there is one. If there is none, nothing
+/// changes.
 pub fn tell_b<const W: usize>(
     far: Option<BeatOf<HeadB, W>>,
     beat: &mut BeatFields,
@@ -39,7 +41,8 @@ pub fn tell_b<const W: usize>(
     tell!(far, fields_b, beat, lanes)
 }
 
-/// Writes a beat of C, if there is one: whether there is one. Where there is none, nothing changes.
+/// Writes a beat of C, if there is one. Returns whether there is one. If there is none, nothing
+/// changes.
 pub fn tell_c<const W: usize>(
     far: Option<BeatOf<HeadC, W>>,
     beat: &mut BeatFields,
@@ -50,7 +53,8 @@ pub fn tell_c<const W: usize>(
     tell!(far, fields_c, beat, lanes)
 }
 
-/// Writes a beat of D, if there is one: whether there is one. Where there is none, nothing changes.
+/// Writes a beat of D, if there is one. Returns whether there is one. If there is none, nothing
+/// changes.
 pub fn tell_d<const W: usize>(
     far: Option<BeatOf<HeadD, W>>,
     beat: &mut BeatFields,
@@ -61,7 +65,8 @@ pub fn tell_d<const W: usize>(
     tell!(far, fields_d, beat, lanes)
 }
 
-/// Writes a beat of E, if there is one: whether there is one. Where there is none, nothing changes.
+/// Writes a beat of E, if there is one. Returns whether there is one. If there is none, nothing
+/// changes.
 pub fn tell_e<const W: usize>(
     far: Option<BeatOf<HeadE, W>>,
     beat: &mut BeatFields,

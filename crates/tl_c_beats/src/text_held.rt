@@ -1,4 +1,4 @@
-//! What the block of an answer holds.
+//! The text that the block of an answer holds.
 use std::alloc::Global;
 
 /// The text of an answer behind a block.
@@ -6,7 +6,7 @@ pub struct TextHeld {
     pub text: Vec<u8, Global>,
 }
 
-// Written out, since a derived one asks for the text's size with every allocator.
+// Written by hand, because a derived one would require the text's size for every allocator.
 impl Drop for TextHeld {
     fn drop(self) {
         let TextHeld { text: _text } = self;

@@ -1,34 +1,34 @@
-//! What answers mean, in words.
+//! The texts of the statuses.
 ghost use Rattle.std.specs.Prelude.{◌≡◌, ◌≤◌, ◌<◌, length};
-ghost use Rattle.tl_c_beats.specs.Texts.{answer_name, answer_sentence, answer_text, zero_ended};
+ghost use Rattle.tl_c_beats.specs.Texts.{status_name, status_sentence, status_text, zero_ended};
 
-use crate::answers::{NO_SIDE, NOT_READY, OTHER_BRIDGE};
+use crate::answers::{BRIDGE_MISMATCH, NOT_OPEN, NOT_READY, NOT_SENT, NOT_TAKEN};
 
-/// The bytes of an answer's name, the zeros at its end included.
+/// The number of bytes of a status's name, including the zeros at its end.
 pub const NAME_BYTES: usize = 16;
 
-/// The bytes of an answer's sentence, the zeros at its end included.
+/// The number of bytes of a status's sentence, including the zeros at its end.
 pub const SENTENCE_BYTES: usize = 144;
 
-/// The name of an answer and what it means, each ended by zeros.
+/// The name of a status and the sentence that explains it, each followed by zeros.
 #[repr(C)]
 #[derive(Drop)]
-pub struct AnswerText {
+pub struct StatusText {
     pub name: [u8; NAME_BYTES],
     pub sentence: [u8; SENTENCE_BYTES],
 }
 
-// C has these sizes from the header alone.
+// C gets these sizes only from the header.
 const _: () = prove!(NAME_BYTES == 16);
 
 const _: () = prove!(SENTENCE_BYTES == 144);
 
-const _: () = prove!(size_of::<AnswerText>() == 160);
+const _: () = prove!(size_of::<StatusText>() == 160);
 
-// The name of an answer: `Ok`, that of the fault of this number, or that of an answer of the library
-// alone. Empty for a number that is no answer.
-fn answer_name(answer: u8) -> &'static str
-    ensures name { result.now ≡ answer_name answer }
+// Returns the name of a status: `Ok`, the name of the fault with this number, or the name of a
+// status that only the library has. Empty for a number that is not a status.
+fn status_name(answer: u8) -> &'static str
+    ensures name { result.now ≡ status_name answer }
     ensures fits { length result.now < NAME_BYTES }
 {
     match answer {
@@ -56,16 +56,18 @@ fn answer_name(answer: u8) -> &'static str
         21 => "Read",
         22 => "Write",
         23 => "TooLong",
-        OTHER_BRIDGE => "OtherBridge",
-        NO_SIDE => "NoSide",
+        NOT_TAKEN => "NotTaken",
+        BRIDGE_MISMATCH => "BridgeMismatch",
+        NOT_OPEN => "NotOpen",
+        NOT_SENT => "NotSent",
         NOT_READY => "NotReady",
         _ => "",
     }
 }
 
-// What an answer means. Empty for a number that is no answer.
-fn answer_sentence(answer: u8) -> &'static str
-    ensures sentence { result.now ≡ answer_sentence answer }
+// Returns the sentence that explains a status. Empty for a number that is not a status.
+fn status_sentence(answer: u8) -> &'static str
+    ensures sentence { result.now ≡ status_sentence answer }
     ensures fits { length result.now < SENTENCE_BYTES }
 {
     match answer {
@@ -73,36 +75,38 @@ fn answer_sentence(answer: u8) -> &'static str
         1 => "the channel has no message with this opcode",
         2 => "the message has no such param",
         3 => "the size is above 12: a message has at most 2^12 = 4096 bytes",
-        4 => "the address is no multiple of the message's bytes",
-        5 => "the mask does not have exactly the active lanes (of PutPartialData: has others, too)",
+        4 => "the address is not a multiple of the message's size in bytes",
+        5 =>
+            "the mask does not match the active lanes (PutPartialData: the mask sets lanes that are not active)",
         6 => "corrupt is set on a message that carries no data",
-        7 => "inside a burst, a beat does not repeat the fields of the burst's first beat",
+        7 => "inside a burst, a beat does not repeat the head of the burst's first beat",
         8 => "the source's last request still waits for its response",
         9 => "no request of this source waits for a response",
-        10 => "the response has another size than its request",
+        10 => "the size of the response is not that of its request",
         11 => "the channel cannot be closed within a burst",
         12 => "a ring holds 1 to 4096 beats",
-        13 => "the machine has no memory left",
+        13 => "memory ran out",
         14 =>
-            "line 1 is not 'tilelink-trace V client C manager M' with version 1 or 2 and two widths of 1 to 64 bytes, in version 2 of 1 to 128",
+            "line 1 must be 'tilelink-trace V client C manager M': V is 1 or 2, C and M are bus widths in bytes (1 to 64; 128 in version 2 only)",
         15 => "the line is empty, or does not begin with a channel's letter, A to E",
-        16 =>
-            "the line is not as long as lines of its channel are in its version and at its sender's width",
-        17 => "a space or a lower-case hexadecimal digit is missing at its place",
-        18 => "a field has a value that it cannot have, as an opcode of 8",
+        16 => "the line has the wrong length for its channel, trace version and bus width",
+        17 => "a space or a lower-case hexadecimal digit is missing at its position",
+        18 => "a field has a value that it cannot have, for example opcode 8",
         19 => "the last line does not end with a newline (LF)",
         20 => "the two sides stopped moving beats; it is proved that no run does",
-        21 => "standard input could not be read",
+        21 => "the trace could not be read",
         22 => "standard output could not be written",
         23 => "the trace has more than 67108864 bytes (64 MiB)",
-        OTHER_BRIDGE => "the two sides have different numbers, so they are of two bridges",
-        NO_SIDE => "the handle holds no side of a bridge",
+        NOT_TAKEN => "not all beats that the receipt counts were taken yet",
+        BRIDGE_MISMATCH => "the two numbers of the bridge differ",
+        NOT_OPEN => "the handle holds no side of a bridge",
+        NOT_SENT => "a channel that the side sends is open, or far beats are staged",
         NOT_READY => "the channel takes no beat now: far beats are staged, or it is closed",
         _ => "",
     }
 }
 
-// A text with zeros behind it.
+// Returns a text followed by zeros, `N` bytes in all. Requires: the text has at most `N` bytes.
 fn zero_ended<const N: usize>(text: &str) -> [u8; N]
     requires { length text.now ≤ N }
     ensures { result ≡ zero_ended N text.now }
@@ -112,13 +116,13 @@ fn zero_ended<const N: usize>(text: &str) -> [u8; N]
     bytes
 }
 
-/// The name and the sentence of what a call answered: of 0, of each fault by its number, and of the
-/// answers of the library alone. Zeros for a number that is no answer.
-pub fn answer_text(answer: u8) -> AnswerText
-    ensures { result ≡ answer_text answer }
+/// Returns the name and the sentence of a status: of 0, of each fault by its number, and of the
+/// statuses that only the library has. All zeros for a number that is not a status.
+pub fn status_text(answer: u8) -> StatusText
+    ensures { result ≡ status_text answer }
 {
-    AnswerText {
-        name: zero_ended(answer_name(answer)),
-        sentence: zero_ended(answer_sentence(answer)),
+    StatusText {
+        name: zero_ended(status_name(answer)),
+        sentence: zero_ended(status_sentence(answer)),
     }
 }

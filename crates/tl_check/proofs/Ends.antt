@@ -1,4 +1,4 @@
--- Where A and D both stop, they are at the settled state, and what stops them is what its verdicts read.
+-- If A and D are both stopped, they are at the settled state, and the reasons are those that its verdicts read.
 use Rattle.tl_check.proofs.Names.{◌≡◌, ◌≤◌, ℕ, false, Option, None, Some, List, [], length, map, take, refl, sym, ap, subst, ◌∙◌, slice_get_past}
 use Rattle.tl_check.proofs.Names.{slice_get, option_map_or, is_none, IsWidth, rules_a, rules_d, HeadA, HeadD, BeatOf, SideFault, heads, left}
 use Rattle.tl_check.proofs.Names.{verdict_of, verdict_a, verdict_d, requests, responses, far_a, far_d, goes_a, goes_d, settled_state, stops_a}
@@ -11,14 +11,14 @@ use Rattle.tl_settle.proofs.Runs.{run_is}
 use Rattle.tl_settle.proofs.Settles.{one_settled}
 use Rattle.tl_settle.specs.Rounds.{begins}
 
--- a beat that is stopped, or isn't there, does not go
+-- a beat that is refused, or does not exist, is not accepted
 stays : {B : Type 0} (stops : B → Option SideFault) (o : Option B) (stopped_by : Option SideFault) → stopped_by ≡ option_map_or stops o None →
     (stopped_by ≡ None → o ≡ None) → option_map_or (λ b. is_none (stops b)) o false ≡ false
 stays stops None stopped_by e all = refl
 stays stops (Some b) None e all = let no_beat = all refl in cc
 stays stops (Some b) (Some fault) e all = ap is_none (sym e)
 
--- the option that stops a beat, where the beat is there
+-- the reason why a beat is refused, if there is a beat
 pub stopped-at : {B : Type 0} (stops : B → Option SideFault) (bs : List B) (n : ℕ) (b : B) (fault : SideFault) → slice_get bs n ≡ Some b →
     stops b ≡ Some fault → Some fault ≡ option_map_or stops (slice_get bs n) None
 stopped-at stops bs n b fault at e = sym (ap (λ o. option_map_or stops o None) at ∙ e)
@@ -37,7 +37,7 @@ starts-at a d i j client manager i_none j_none client_knows manager_knows =
       d_taken = refl;
     }))
 
--- A was stopped, or at its end, where `before` beats of D were accepted, and no more of them were since
+-- A was stopped, or at its end, after `before` accepted beats of D, and no more of them were accepted since
 module _ {C M : ℕ} (cw : IsWidth C) (mw : IsWidth M) (a : List (BeatOf HeadA C)) (d : List (BeatOf HeadD M)) (i before j : ℕ) (still : before ≡ j)
     (client : Client) (manager : Manager) (s : AreAt a d i j client manager) (a_stops d_stops : Option SideFault)
     (a_was : a_stops ≡ option_map_or (λ b. stops_a a d i before b) (slice_get a i) None) (a_all : a_stops ≡ None → length a ≤ i)

@@ -1,4 +1,5 @@
--- What the proofs of this crate name most, of the library and of the definitions, passed on by one module.
+-- The names that the proofs of this crate use most, from the library and from the definitions, re-exported by one
+-- module.
 pub use Rattle.std.proofs.Common.{◌≡◌, ◌≤◌, ℕ, false, Option, None, Some, List, [], length, map, take, refl, sym, ap, subst, ◌∙◌, ◌<◌, ◌+◌, ◌++◌}
 pub use Rattle.std.proofs.Common.{zero, suc, Bool, true, cond, ◌∷◌, drop, arith, append-nil, length-append, ◌-◌, ◌*◌, ◌^◌, ◌≢◌, get_or, zero-le}
 pub use Rattle.std.proofs.Common.{append_assoc, max, rules, lit<}

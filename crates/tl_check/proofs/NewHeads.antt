@@ -24,7 +24,7 @@ heads-last : {H : Type 0} {w : ℕ} (h : H) (xs ys : List (BeatOf H w)) → Have
 heads-last h [] ys all = all
 heads-last h (x ∷ xs) ys all = heads-last h xs ys all.1
 
--- of two cuts of a list, the second part of the later cut is the end of the second part of the earlier one
+-- if a list is cut at two places, the second part of the later cut is the end of the second part of the earlier one
 later : {A : Type 0} (xs ys us zs : List A) → xs ++ ys ≡ us ++ zs → length xs ≤ length us → (between : List A) × (ys ≡ between ++ zs)
 later [] ys us zs e le = (us, e)
 later (x ∷ xs) ys [] zs e le = absurd (omega arith)
@@ -42,7 +42,7 @@ module _ {H : Type 0} (r : Rules H) where
     part-heads home b rest = heads-first b.head (far_beats_of r b.head w v (length (b ∷ rest))) _
         (laid-heads (message_of r b.head w home (b ∷ rest)) v _)
 
-    -- what stands after the whole messages before a beat has the beat's head
+    -- the beats after the whole messages before a beat have the beat's head
     step-heads : (x y : ℕ) (b : BeatOf H w) (rest : List (BeatOf H w)) (t : Bool) → KeepsHead rest b →
         HaveHead b.head (cond t (layout r (message_of r b.head w x (rest ++ b ∷ [])) v) [] ++ part r w v y (cond t [] (rest ++ b ∷ [])))
     step-heads x y b rest true fine = subst (λ q. HaveHead b.head q) (sym (append-nil _)) (laid-heads (message_of r b.head w x (rest ++ b ∷ [])) v _)
@@ -51,7 +51,7 @@ module _ {H : Type 0} (r : Rules H) where
         let same : b.head ≡ z.head = fine in
         subst (λ h. HaveHead h (part r w v y (z ∷ (rest ++ b ∷ [])))) (sym same) (part-heads y z (rest ++ b ∷ []))
 
-    -- what one more beat makes due, behind as many beats as were due, has its head
+    -- the far beats that one more beat makes due, after those due before, have its head
     pub new-heads : (bs : List (BeatOf H w)) (b : BeatOf H w) (homes : List ℕ) (before news : List (BeatOf H v)) → fault_after r bs b ≡ None →
         length before ≡ length (due r w v bs homes) → due r w v (bs ++ b ∷ []) homes ≡ before ++ news → HaveHead b.head news
     new-heads bs b homes before news fine same all =

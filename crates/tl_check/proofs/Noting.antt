@@ -1,4 +1,4 @@
--- A side notes so many beats with one head, one after another.
+-- A side records several beats with one head, one after another.
 use Rattle.tl_check.proofs.Names.{◌≡◌, ◌≤◌, ◌<◌, ◌+◌, ◌++◌, ℕ, List, [], ◌∷◌, length, map, take, sym, subst, arith, get_or_from_slice_get, BeatOf}
 use Rattle.tl_check.proofs.Names.{HaveHead}
 use Rattle.std.proofs.lemmas.List.{take_all}

@@ -4,18 +4,18 @@ use Rattle.std.proofs.lemmas.Bool.Decides.{nat_tests}
 use Rattle.tl_lanes.specs.declared.limits.TheConstants.{WIDEST}
 
 -- a place, one further
-pub steps : (gone at far n at' far' : ℕ) → IsWithin gone at far n → at - gone < n → at' ≡ at + 1 → far' ≤ WIDEST * at' → IsWithin gone at' far' n
-steps gone at far n at' far' w within one few = record {
+pub steps : (discarded at far n at' far' : ℕ) → IsWithin discarded at far n → at - discarded < n → at' ≡ at + 1 → far' ≤ WIDEST * at' → IsWithin discarded at' far' n
+steps discarded at far n at' far' w within one few = record {
   from = omega (arith, w.from, one);
   to = omega (arith, w.from, within, one);
   few = w.few;
   few_far = few;
 }
 
--- there is none where no beat is left
-pub none-left : {B : Type 0} (gone at : ℕ) (held : List B) → false ≡ nat_lt (at - gone) (length held) → {far : ℕ} →
-    IsWithin gone at far (length held) → gone + length held ≤ at
-none-left gone at held none w = grind (arith, nat_tests, none, w.from)
+-- there is none if no beat is left
+pub none-left : {B : Type 0} (discarded at : ℕ) (held : List B) → false ≡ nat_lt (at - discarded) (length held) → {far : ℕ} →
+    IsWithin discarded at far (length held) → discarded + length held ≤ at
+none-left discarded at held none w = grind (arith, nat_tests, none, w.from)
 
-pub none-held : {B : Type 0} (gone at : ℕ) (held : List B) → gone + length held ≤ at → slice_get held (at - gone) ≡ None
-none-held gone at held past = slice_get_past held (at - gone) (omega (arith, past))
+pub none-held : {B : Type 0} (discarded at : ℕ) (held : List B) → discarded + length held ≤ at → slice_get held (at - discarded) ≡ None
+none-held discarded at held past = slice_get_past held (at - discarded) (omega (arith, past))

@@ -1,4 +1,4 @@
--- A channel goes on by a beat that is accepted, and what it ends with.
+-- A channel advances by an accepted beat, and its end.
 use Rattle.tl_check.proofs.Names.{◌≡◌, ◌≢◌, ◌≤◌, ◌<◌, ◌+◌, ◌++◌, ℕ, Bool, Option, None, Some, List, [], ◌∷◌, length, map, take, get_or, refl, sym, ap}
 use Rattle.tl_check.proofs.Names.{subst, ◌∙◌, arith, zero-le, append_assoc, slice_get_within, slice_get_past, get_or_from_slice_get}
 use Rattle.tl_check.proofs.Names.{◌==◌, slice_get, if◌then◌else◌, option_map_or, IsWidth, Rules, BeatOf, SideFault, heads, left, IsHanded, nothing}
@@ -25,7 +25,7 @@ next-noted note es bs i b lt is =
     append_assoc es (map note (take i bs)) (note b ∷ []) ∙ ap (λ q. es ++ q) (sym (map-append note (take i bs) (b ∷ [])) ∙
     ap (λ q. map note q) (sym (take_more bs i b lt ∙ ap (λ y. take i bs ++ y ∷ []) (sym is))))
 
--- an accepted beat stands at the place that its check says
+-- an accepted beat is at the place that its check returns
 pub place-of : {H K : Type 0} (r : Rules H) {w : ℕ} (burst : Option (H × ℕ)) (b : BeatOf H w) (place : Place K H) → fault_in r burst b ≡ None →
     place.head ≡ b.head → IsPlace r w burst place → IsPlaceOf r w burst b place
 place-of r {w} burst b place fine head is = record {
@@ -67,11 +67,11 @@ module _ {H : Type 0} (r : Rules H) {w v : ℕ} where
       one-longer : take (at + 1) bs ≡ take at bs ++ b ∷ []
       one-longer = one-more r bs at come.lawful b within stands
 
-      -- what a check says of the open burst, it says of the accepted beats
+      -- the facts that a check shows about the unfinished burst hold for the accepted beats
       pub says-after : (o : Option BeatFault) → fault_in r burst b ≡ o → fault_after r (take at bs) b ≡ o
       says-after o e = ap (λ q. fault_in r q b) (sym come.burst_is) ∙ e
 
-      -- it goes on by this beat
+      -- it advances by this beat
       pub come-more : {K : Type 0} (place : Place K H) (given : ℕ) (after : Option (H × ℕ)) → IsWidth w → IsWidth v → place.head ≡ b.head →
           fault_in r burst b ≡ None → IsHanded r (take at bs ++ b ∷ []) → IsPlace r w burst place → Gives r w v place.head place.index given →
           after ≡ burst_after r (take at bs ++ b ∷ []) → HasCome r v bs after (at + 1) (far + given)
@@ -87,7 +87,7 @@ module _ {H : Type 0} (r : Rules H) {w v : ℕ} where
             ap (λ q. length (due r w v q homes)) (sym one-longer);
       }
 
-    -- where no beat is left, it is done where no burst is open, and else cut
+    -- if no beat is left, it is done if no burst is unfinished, and otherwise cut
     abbrev verdict_by : Bool → Verdict
     verdict_by whole = if whole then Done at far else Cut at far
 
@@ -101,7 +101,7 @@ module _ {H : Type 0} (r : Rules H) {w v : ℕ} where
         let some = some-open r (rest_of r w (take at bs)) open_one (sym come.burst_is ∙ e) in
         ap verdict_by (sym (not_equal (left r w (take at bs)) 0 (λ z. some ((left-zero r w come.handed.handed).0 z))))
 
-    -- what stops a beat of a channel that nothing couples to another one, and the verdict by what was accepted
+    -- the reason why a beat of an independent channel is refused, and the verdict from the accepted beats
     abbrev own : List (BeatOf H w) → BeatOf H w → Option SideFault
     own accepted b = option_map_or (λ fault. Some (Beat fault)) (fault_after r accepted b) None
 

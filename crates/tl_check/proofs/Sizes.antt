@@ -1,4 +1,4 @@
--- The progress of a channel fits in memory, where the heads of the channel are small.
+-- The progress of a channel fits in memory, if the heads of the channel are small.
 use Rattle.tl_check.proofs.Names.{◌≤◌, ◌<◌, ◌+◌, ℕ, max, arith, tracker_bytes, tracker-few}
 use prog.Memory.{up, size, align}
 use mir.Syntax.{Ty}

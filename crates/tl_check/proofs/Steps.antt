@@ -1,4 +1,4 @@
--- What a beat of A or D that is offered does to both sides, where each has taken all that is due.
+-- The effect of an offered beat of A or D on both sides, after each has taken all due beats.
 use Rattle.tl_check.proofs.Names.{◌≡◌, ◌<◌, ◌+◌, ◌++◌, ℕ, suc, Option, None, Some, List, true, [], ◌∷◌, length, map, take, refl, sym, ap, subst}
 use Rattle.tl_check.proofs.Names.{◌∙◌, ◌↔◌, Result, Ok, Err, IsOk, IfOk, IfErr, arith, append-nil, length-append, slice_get}
 use Rattle.tl_check.proofs.Names.{IsWidth, Rules, rules_a, rules_d, HeadA}
@@ -25,11 +25,11 @@ use Rattle.tl_run.proofs.RoundMoves.{client-takes-all, manager-takes-all}
 use Rattle.tl_check.proofs.NewHeads.{new-heads}
 use Rattle.tl_check.proofs.Passing.{place-of}
 
--- what a list has more than another one
+-- the rest of a list after another one
 rest-of : {A : Type 0} {xs ys : List A} → Extends xs ys → IsPrefix xs ys
 rest-of (more xs rest) = (rest, refl)
 
--- what a check says of the open burst, it says of what a side has accepted
+-- the facts that a check shows about the unfinished burst hold for the beats that a side has accepted
 checked-after : {H K : Type 0} (r : Rules H) {w v : ℕ} (bs accepted : List (BeatOf H w)) (burst : Option (H × ℕ)) (at far : ℕ) (b : BeatOf H w)
     (checked : Result (Place K H) BeatFault) → HasCome r v bs burst at far → accepted ≡ take at bs → IsOk checked ↔ (fault_in r burst b ≡ None) →
     IfErr checked (λ fault. fault_in r burst b ≡ Some fault) → IfOk checked (λ place. place.head ≡ b.head) → IfOk checked (IsPlace r w burst) →
@@ -48,7 +48,7 @@ checked-after {K = K} r {w} bs accepted burst at far b (Ok place) come same fine
       fault = tt;
     })
 
--- what an accepted beat makes due beside what was due before it, whatever the homes are
+-- the far beats that an accepted beat makes due after those before, whatever the homes are
 module _ {H : Type 0} (r : Rules H) (w v : ℕ) (bs : List (BeatOf H w)) (at : ℕ) (b : BeatOf H w) (burst : Option (H × ℕ)) (far : ℕ)
     (before : HasCome r v bs burst at far) (homes : ℕ → List ℕ)
     (new : IsPrefix (due r w v (take at bs) (homes at)) (due r w v (take (suc at) bs) (homes (suc at)))) where
@@ -91,7 +91,7 @@ module _ {C M : ℕ} (cw : IsWidth C) (mw : IsWidth M) (a : List (BeatOf HeadA C
         IfOk checked (λ place. place.head ≡ b.head) → IfOk checked (IsPlace rules_a C burst) → IsChecked rules_a (asked s.client_history) b checked
     ask-checked burst far checked come = checked-after rules_a a (asked s.client_history) burst i far b checked come here.client.accepted
 
-    -- what its book answers is what stops the beat
+    -- the result of its book is the reason why the beat is refused
     pub ask-stops : (fault : SideFault) → client_answer s.client_history b ≡ Some fault → stops_a a d i j b ≡ Some fault
     ask-stops fault e = sym (client_stops c_some m_some a d i j s.client_history b here.reached here.client s.d_taken) ∙ e
 
@@ -150,7 +150,7 @@ module _ {C M : ℕ} (cw : IsWidth C) (mw : IsWidth M) (a : List (BeatOf HeadA C
         IsChecked rules_d (answered s.manager_history) b checked
     answer-checked burst far checked come = checked-after rules_d d (answered s.manager_history) burst j far b checked come here.manager_is.accepted
 
-    -- what its book answers is what stops the beat
+    -- the result of its book is the reason why the beat is refused
     pub answer-stops : (fault : SideFault) → manager_answer s.manager_history b ≡ Some fault → stops_d a d i j b ≡ Some fault
     answer-stops fault e = sym (manager_stops c_some m_some a d i j s.manager_history b here.reached here.manager_is s.a_taken) ∙ e
 

@@ -1,10 +1,10 @@
-//! The verdicts of a script that comes piece by piece.
+//! The verdicts of a script that is read incrementally.
 ghost use Rattle.std.specs.Prelude.{◌≡◌, []};
 ghost use Rattle.tl_lanes.specs.Lanes.{IsWidth};
 ghost use Rattle.tl_settle.specs.Outcomes.{Beats, verdicts};
 ghost use Rattle.tl_settle.specs.Books.{KnowsClient, KnowsManager};
-ghost use Rattle.tl_trace.specs.Scripts.{HasCounts, HasLetGo};
-ghost use Rattle.tl_run.specs.Parts.{AreEnd, AreGoing, ArePart, AreWaiting, HaveGone, none_counted};
+ghost use Rattle.tl_trace.specs.Scripts.{HasCounts, HasRemoved};
+ghost use Rattle.tl_run.specs.Parts.{AreEnd, AreGoing, ArePart, AreWaiting, AreDiscarded, none_counted};
 ghost use Rattle.tl_run.specs.Scripts.{HasShortLists};
 ghost use Rattle.tl_run.specs.Stopping.{AreStuck};
 ghost use Rattle.tl_check.specs.Inner.Ending.{EndsWith};
@@ -14,61 +14,62 @@ use crate::alone::judge_alone;
 use crate::coupled::judge_coupled;
 use crate::progress::Progress;
 use tl_msg::{ChA, ChB, ChC, ChD, ChE, SideFault, Verdict};
-use tl_run::let_leave;
+use tl_run::count_discardable;
 use tl_settle::{ClientBook, ManagerBook};
 use tl_sides::PerChannel;
 use tl_trace::{Counts, Script};
 
-/// Finds what a script ends in while its near beats come piece by piece: those that it came past need
-/// not be held any more.
+/// Finds the verdicts of a script whose near beats are read incrementally. Accepted beats need not
+/// be held any longer.
 ///
-/// In contracts it has judged a part of a script's near beats, those that are still to come among them
-/// (`HasJudged`). A beat of A or D that waits for the other channel is held until that one has come
-/// further, and is asked again at each call.
+/// In contracts (`HasJudged`), it has judged a part of a script's near beats; the script includes
+/// those that are still to come. A beat of A or D that waits for the other channel is held until
+/// that one has advanced, and is tested again at each call.
 #[derive(Drop)]
 pub struct Judge<const C: usize, const M: usize> {
-    /// What the client's side knows of its own beats of A and D.
+    /// The book of the client's side for its own beats of A and D.
     client: ClientBook<C>,
-    /// What the manager's side knows of its own beats of A and D.
+    /// The book of the manager's side for its own beats of A and D.
     manager: ManagerBook<M>,
-    /// How far A has come.
+    /// The progress of A.
     a: Progress<ChA, C>,
-    /// How far B has come.
+    /// The progress of B.
     b: Progress<ChB, M>,
-    /// How far C has come.
+    /// The progress of C.
     c: Progress<ChC, C>,
-    /// How far D has come.
+    /// The progress of D.
     d: Progress<ChD, M>,
-    /// How far E has come.
+    /// The progress of E.
     e: Progress<ChE, C>,
-    /// How many beats of each channel are not held any more.
-    gone: Counts,
+    /// The number of beats of each channel that are no longer held.
+    discarded: Counts,
 }
 
-// Goes on with each channel until all are stopped: what stops each, or None where no beat is left.
+// Advances each channel until all are stopped. Returns for each the reason why its next beat is
+// refused, or `None` if no beat is left.
 fn go_through<const C: usize, const M: usize>(
     judge: &mut Judge<C, M>,
     held: &Script<C, M>,
 ) -> PerChannel<Option<SideFault>>
     requires { IsWidth C × IsWidth M × CanJudge judge.old held.now }
-    ensures gone { judge.new.gone ≡ judge.old.gone }
+    ensures discarded { judge.new.discarded ≡ judge.old.discarded }
     ensures within { CanJudge judge.new held.now }
-    ensures judged { (near : Beats C M) → ArePart judge.old.gone held.now near →
+    ensures judged { (near : Beats C M) → ArePart judge.old.discarded held.now near →
         HasJudged near judge.old → HasJudged near judge.new }
-    ensures stopped { (near : Beats C M) → AreEnd judge.old.gone held.now near →
+    ensures stopped { (near : Beats C M) → AreEnd judge.old.discarded held.now near →
         HasJudged near judge.old → EndsWith near judge.new result }
-    ensures stuck { (near : Beats C M) → ArePart judge.old.gone held.now near →
-        HasJudged near judge.old → AreStuck near judge.old.gone (places judge.new) held.now }
+    ensures stuck { (near : Beats C M) → ArePart judge.old.discarded held.now near →
+        HasJudged near judge.old → AreStuck near judge.old.discarded (places judge.new) held.now }
 {
-    let b = judge_alone::<ChB, M>(&held.b, judge.gone.b, &mut judge.b, C);
-    let c = judge_alone::<ChC, C>(&held.c, judge.gone.c, &mut judge.c, M);
-    let e = judge_alone::<ChE, C>(&held.e, judge.gone.e, &mut judge.e, M);
+    let b = judge_alone::<ChB, M>(&held.b, judge.discarded.b, &mut judge.b, C);
+    let c = judge_alone::<ChC, C>(&held.c, judge.discarded.c, &mut judge.c, M);
+    let e = judge_alone::<ChE, C>(&held.e, judge.discarded.e, &mut judge.e, M);
     let (a, d) = judge_coupled(
         &mut judge.client,
         &mut judge.manager,
         &held.a,
         &held.d,
-        &judge.gone,
+        &judge.discarded,
         &mut judge.a,
         &mut judge.d,
     );
@@ -76,14 +77,14 @@ fn go_through<const C: usize, const M: usize>(
 }
 
 impl<const C: usize, const M: usize> Judge<C, M> {
-    /// One that has judged nothing yet, with the books of two sides that have accepted and taken
-    /// nothing.
+    /// Creates a judge that has judged nothing yet. Requires: the books are of two sides that have
+    /// accepted and taken nothing.
     pub fn new(client: ClientBook<C>, manager: ManagerBook<M>) -> Self
         requires client { KnowsClient {w = C} client [] }
         requires manager { KnowsManager {w = M} manager [] }
         ensures judged { (near : Beats C M) → HasJudged near result }
         ensures begins { (held : Script C M) → HasShortLists held → CanJudge result held }
-        ensures none { result.gone ≡ none_counted }
+        ensures none { result.discarded ≡ none_counted }
     {
         Judge {
             client,
@@ -93,7 +94,7 @@ impl<const C: usize, const M: usize> Judge<C, M> {
             c: Progress::new(),
             d: Progress::new(),
             e: Progress::new(),
-            gone: Counts {
+            discarded: Counts {
                 a: 0,
                 b: 0,
                 c: 0,
@@ -103,29 +104,30 @@ impl<const C: usize, const M: usize> Judge<C, M> {
         }
     }
 
-    /// Goes on as far as these beats lead, which begin behind those that have gone. Afterwards each
-    /// channel has used them up, or something stops its next beat. Returns how many beats of each channel
-    /// have to go before the next call: all that are done with if they are at least half of those held,
-    /// else none. So dropping them costs no more than reading them, and fewer done beats stay than waiting
-    /// ones.
-    pub fn go_on(&mut self, held: &Script<C, M>) -> Counts
+    /// Advances as far as the held beats allow; these come after the beats discarded before.
+    /// Afterwards each channel has used them up, or its next beat is refused. Returns how many
+    /// beats of each channel must be discarded before the next call: all done beats if they are at
+    /// least half of those held, and otherwise none. So discarding costs no more than reading, and
+    /// fewer done beats remain than waiting ones. Requires: `C` and `M` are widths, and the judge
+    /// can judge `held`.
+    pub fn advance(&mut self, held: &Script<C, M>) -> Counts
         requires client { IsWidth C }
         requires manager { IsWidth M }
         requires held { CanJudge self.old held.now }
         ensures counts { HasCounts result held.now }
-        ensures going { AreGoing self.old.gone (places self.new) held.now result }
-        ensures gone { HaveGone self.old.gone result self.new.gone }
-        ensures held { (rest : Script C M) → HasLetGo result held.now rest →
+        ensures going { AreGoing self.old.discarded (places self.new) held.now result }
+        ensures discarded { AreDiscarded self.old.discarded result self.new.discarded }
+        ensures held { (rest : Script C M) → HasRemoved result held.now rest →
             CanJudge self.new rest }
-        ensures waiting { (rest : Script C M) → HasLetGo result held.now rest →
-            AreWaiting self.new.gone (places self.new) rest }
+        ensures waiting { (rest : Script C M) → HasRemoved result held.now rest →
+            AreWaiting self.new.discarded (places self.new) rest }
 
-        // for every script of which that is a part
-        ensures judged { (near : Beats C M) → ArePart self.old.gone held.now near →
+        // for every script of which the held beats are a part
+        ensures judged { (near : Beats C M) → ArePart self.old.discarded held.now near →
             HasJudged near self.old → HasJudged near self.new }
-        ensures stuck { (near : Beats C M) → ArePart self.old.gone held.now near →
+        ensures stuck { (near : Beats C M) → ArePart self.old.discarded held.now near →
             HasJudged near self.old →
-            AreStuck near self.old.gone (places self.new) held.now }
+            AreStuck near self.old.discarded (places self.new) held.now }
     {
         go_through(self, held);
         let at = PerChannel {
@@ -135,18 +137,19 @@ impl<const C: usize, const M: usize> Judge<C, M> {
             d: self.d.at,
             e: self.e.at,
         };
-        let_leave(&mut self.gone, held, &at)
+        count_discardable(&mut self.discarded, held, &at)
     }
 
-    /// The verdicts from A to E of the script that ends with these beats.
+    /// Returns the verdicts, from A to E, of the script that ends with the held beats. Requires:
+    /// `C` and `M` are widths, and the judge can judge `held`.
     #[inline(never)]
     pub fn end(&mut self, held: &Script<C, M>) -> [Verdict; 5]
         requires client { IsWidth C }
         requires manager { IsWidth M }
         requires held { CanJudge self.old held.now }
 
-        // for the script of which that is the end
-        ensures { (near : Beats C M) → AreEnd self.old.gone held.now near →
+        // for the script that ends with the held beats
+        ensures { (near : Beats C M) → AreEnd self.old.discarded held.now near →
             HasJudged near self.old → result ≡ verdicts near }
     {
         let stops = go_through(self, held);

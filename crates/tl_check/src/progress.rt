@@ -1,4 +1,4 @@
-//! How far one channel has come.
+//! The progress of one channel.
 ghost use Rattle.std.specs.Prelude.{◌≡◌, ◌+◌, ◌≤◌, ◌<◌, ◌*◌, ◌^◌, ◌++◌, ◌∷◌, [], ℕ, None, Some, List, slice_get, take};
 ghost use Rattle.tl_lanes.specs.declared.limits.TheConstants.{WIDEST};
 ghost use Rattle.tl_lanes.specs.Lanes.{IsWidth};
@@ -13,20 +13,20 @@ use tl_burst::{Place, Tracker};
 use tl_convert::far_beats_between;
 use tl_msg::{Channel, SideFault, Verdict};
 
-/// How far a channel has come: the burst that is open, how many near beats were accepted, and how
-/// many far beats they make due.
+/// The progress of a channel: the unfinished burst, the number of accepted near beats, and the
+/// number of far beats that they make due.
 #[derive(Drop)]
 pub(crate) struct Progress<K: Channel, const W: usize> {
-    /// The burst that is open.
+    /// The unfinished burst, if there is one.
     pub(crate) tracker: Tracker<K, W>,
-    /// How many near beats were accepted.
+    /// The number of accepted near beats.
     pub(crate) at: usize,
-    /// How many far beats they make due.
+    /// The number of far beats that they make due.
     pub(crate) far: usize,
 }
 
 impl<K: Channel, const W: usize> Progress<K, W> {
-    // The progress of a channel that has accepted nothing yet.
+    // Returns the progress of a channel that has accepted nothing yet.
     pub(crate) fn new() -> Self
         ensures come { (v : ℕ) (bs : List (BeatOf K.Head W)) →
             HasCome K.rules v bs result.tracker result.at result.far }
@@ -40,8 +40,8 @@ impl<K: Channel, const W: usize> Progress<K, W> {
         }
     }
 
-    // Goes on by the next beat, which is accepted and stands at this place: how many beats of the
-    // far width it makes due.
+    // Advances by the next beat, which is accepted and is at this place of its message. Returns the
+    // number of beats of the far width that it makes due.
     pub(crate) fn accept(&mut self, place: Place<K>, far_width: usize) -> usize
         requires { IsWidth W × IsWidth far_width × IsPlace K.rules W self.old.tracker place ×
             (self.old.at < 2 ^ 40) × (self.old.far ≤ WIDEST * self.old.at) }
@@ -62,7 +62,8 @@ impl<K: Channel, const W: usize> Progress<K, W> {
         given
     }
 
-    // The channel's verdict, where its next beat is stopped by this, or there is none.
+    // Returns the channel's verdict, if its next beat is refused for this reason, or if there is
+    // none.
     pub(crate) fn verdict(&self, stopped_by: Option<SideFault>) -> Verdict
         ensures { (v : ℕ) (bs : List (BeatOf K.Head W)) →
             HasCome K.rules v bs self.now.tracker self.now.at self.now.far →

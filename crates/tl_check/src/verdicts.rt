@@ -10,15 +10,16 @@ use tl_msg::{OutOfMemory, Verdict};
 use tl_settle::new_books;
 use tl_trace::Script;
 
-/// What a script ends in on each channel, from A to E: the verdicts of `run_sync`, found without a
-/// crossing.
+/// Returns the verdict of a script on each channel, from A to E. These are the verdicts of
+/// `run_sync`, found without a crossing.
 ///
-/// The near beats are checked in order, and no far beat is made: those that a verdict tells are
-/// counted. A beat of A or D that waits for the other channel is checked and asked again once that
-/// one has come further. Each list has at most `2^40` beats.
+/// The near beats are checked in order, and no far beat is made: only their numbers, which the
+/// verdicts need, are counted. A beat of A or D that waits for the other channel is checked and
+/// tested again once that one has advanced.
 ///
-/// Refused where there is no memory for what the two sides keep of their sources, before the first
-/// beat is read.
+/// Errors: `OutOfMemory` if the allocator fails for the tables of sources of the two sides, before
+/// the first beat is read. Requires: `C` and `M` are widths, and each list has at most `2^40`
+/// beats.
 pub fn verdicts_of<const C: usize, const M: usize>(
     alloc: Global,
     script: &Script<C, M>,

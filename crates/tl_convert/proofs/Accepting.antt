@@ -1,4 +1,4 @@
--- What is accepted is handed, where a beat after handed ones has no fault exactly where it is admitted.
+-- Accepted beats are handed, if a beat after handed ones has no fault if and only if it is admitted.
 use Rattle.tl_convert.proofs.Names.{◌≡◌, ◌↔◌, ℕ, zero, suc, Option, None, Some, List, [], take, refl, sym, subst, arith, slice_get_within}
 use Rattle.tl_convert.proofs.Names.{get_or_from_slice_get, slice_get, All, Rules, IsBeat, BeatOf, nothing, IsHanded, IsAdmitted, fault_after}
 use Rattle.tl_convert.proofs.Extends.{take-next, take-past}

@@ -1,4 +1,4 @@
--- Where messages begin in a list of beats that goes on, and in a layout.
+-- The beats that begin a message, in a list that grows and in a layout.
 use Rattle.tl_convert.proofs.Names.{◌≡◌, ◌≤◌, ◌<◌, ◌+◌, ◌-◌, ◌*◌, ◌/◌, ◌^◌, ℕ, zero, suc, Bool, true, false, cond, List, [], ◌∷◌, ◌++◌, length, take}
 use Rattle.tl_convert.proofs.Names.{map, refl, sym, ap, ◌∙◌, arith, length-take, le-div, mul-le-mul_right, div-mul-le_self, le_trans, pow_pos}
 use Rattle.tl_convert.proofs.Names.{length-map-range_with_len, range_with_len, Rules, BeatOf, Message, beats_of, per_beat, beat_at, layout, heads}
@@ -52,7 +52,7 @@ module _ {H : Type 0} (r : Rules H) (w : ℕ) where
   pub heads_extend : {xs ys : List (BeatOf H w)} → Extends xs ys → Extends (heads r w xs) (heads r w ys)
   heads_extend (more xs rest) = heads_grow 0 xs rest
 
-  -- one more beat opens a message where none is left, and else none
+  -- one more beat opens a message if no beat is missing, and otherwise opens none
   pub heads_open : (k : ℕ) (xs : List (BeatOf H w)) (b : BeatOf H w) → left_from r w k xs ≡ 0 →
       heads_from r w k (xs ++ b ∷ []) ≡ heads_from r w k xs ++ b.head ∷ []
   heads_open zero [] b e = refl
@@ -67,7 +67,7 @@ module _ {H : Type 0} (r : Rules H) (w : ℕ) where
   heads_inside_one zero l (x ∷ xs) b e = ap (λ q. x.head ∷ q) (heads_inside_one (beats_of r x.head w - 1) l xs b e)
   heads_inside_one (suc k) l (x ∷ xs) b e = heads_inside_one k l xs b e
 
-  -- and how many beats the last message then lacks
+  -- and the number of beats that are then missing from the last message
   pub left_open : (k : ℕ) (xs : List (BeatOf H w)) (b : BeatOf H w) → left_from r w k xs ≡ 0 →
       left_from r w k (xs ++ b ∷ []) ≡ beats_of r b.head w - 1
   left_open zero [] b e = refl

@@ -1,4 +1,4 @@
--- Comparisons of numbers and questions to options, and what they tell.
+-- Comparisons of numbers and tests of options, and their meaning.
 use Rattle.tl_convert.proofs.Names.{◌≡◌, ◌≤◌, ◌<◌, ◌≢◌, ℕ, zero, suc, Bool, true, false, Option, None, Some, List, [], ◌∷◌, ◌++◌, length, refl, arith}
 use Rattle.tl_convert.proofs.Names.{zero-le, nat_tests, nat_lt, ◌==◌, slice_get, option_map_or, is_some}
 

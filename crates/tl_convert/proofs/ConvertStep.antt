@@ -1,4 +1,4 @@
--- How what a converter stands for goes on by a near beat.
+-- The relation between a converter and the beats that it stands for, after one more near beat.
 use Rattle.tl_convert.proofs.Names.{◌≡◌, ◌<◌, ◌+◌, ◌*◌, ◌≢◌, ◌++◌, ℕ, true, false, cond, Some, List, [], ◌∷◌, length, drop, slice_get, slice_index}
 use Rattle.tl_convert.proofs.Names.{refl, sym, ap, subst, ◌∙◌, arith, ⊎_elim, append-nil, eqb_tells, length_push, nil_from_length, same_Some, Rules}
 use Rattle.tl_convert.proofs.Names.{BeatOf, IsWidth, per_beat, beats_of, message_of, Handed, IsHandedWith, ends, rest_of, burst_of, burst_after}
@@ -79,7 +79,7 @@ module _ {H : Type 0} {w v : ℕ} (r : Rules H) (ww : IsWidth w) (vw : IsWidth v
       sym same ∙ sym begins.lawful.home ∙ masked_address masked m.head m.home 0 ∙ ap (λ h. r.lane_address h 0) head)
       (rest-begins r w v ww vw partial_masked here)
 
-  -- what came of the message before
+  -- the earlier beats of the message
   pub run-of : Run r index x b old.partial (rest_of r w bs)
   run-of = record {
     index_is = index_is;
@@ -125,7 +125,7 @@ module _ {H : Type 0} {w v : ℕ} (r : Rules H) (ww : IsWidth w) (vw : IsWidth v
       ))
       (eqb_tells index 0)
 
-  -- what was due and then the answer is what is due
+  -- the far beats that were due, followed by those that are returned, are those that are due
   pub due-grows : (partial : BeatOf H v) (out : List (BeatOf H v)) → Given r x b partial (rest_of r w bs) out →
       due r w v (bs ++ b ∷ []) (homes_with r bs homes b home) ≡ due r w v bs homes ++ out
   due-grows partial out given =
@@ -133,7 +133,7 @@ module _ {H : Type 0} {w v : ℕ} (r : Rules H) (ww : IsWidth w) (vw : IsWidth v
       ap (λ hs. due r w v (bs ++ b ∷ []) hs) k.1 ∙
       due-more r w v ww vw partial_masked here k.0 x b out k.2 k.3 given.due_is
 
-  -- where the message isn't over, the beat joins its rest
+  -- if the message is not complete, the beat is added to its rest
   goes-on : (rest : List (BeatOf H w)) → rest ≡ cond (ends r w (rest_of r w bs) b) [] (rest_of r w bs ++ b ∷ []) → rest ≢ [] →
       (rest ≡ rest_of r w bs ++ b ∷ []) × (r.carries b.head ≡ true)
   goes-on rest step ne = ⊎_elim

@@ -1,4 +1,4 @@
--- Counting goes on by a beat that is accepted, and stops at the first one that is not.
+-- Counting advances over a beat that is accepted, and stops at the first one that is not.
 use Rattle.tl_convert.proofs.Names.{◌≡◌, ◌≤◌, ◌<◌, ◌+◌, ◌++◌, ℕ, suc, cond, Option, None, Some, List, [], ◌∷◌, length, take, drop, get_or, sym, ap}
 use Rattle.tl_convert.proofs.Names.{subst, ◌∙◌, arith, append_assoc, append-nil, is_none, take_more, drop_of_length-le, IsWidth, Rules, BeatOf}
 use Rattle.tl_convert.proofs.Names.{beats_of, rest_of, burst_after, fault_after, IsPlace, due, accepted_of, accepted_after}

@@ -18,7 +18,7 @@ module _ {H : Type 0} (r : Rules H) (w v : ℕ) where
       (layout r (message_of r b.head w (slice_index homes 0) (seen ++ b ∷ [])) v ++ outs_after [] (drop 1 homes) bs)
       (outs_after (seen ++ b ∷ []) homes bs)
 
-  -- what is due of a list is what is due of its whole messages, and then of the rest with what follows
+  -- the far beats due for a list are those of its whole messages, followed by those of the rest with the beats after it
   due-split : (seen : List (BeatOf H w)) (homes : List ℕ) (bs ys : List (BeatOf H w)) →
       due_after r w v seen homes (bs ++ ys) ≡ outs_after seen homes bs ++ due_after r w v (rest_after r w seen bs) (homes_after seen homes bs) ys
   due-split seen homes [] ys = refl

@@ -10,7 +10,7 @@ use Rattle.tl_convert.specs.CutThrough.{CutThrough}
 use Rattle.tl_convert.proofs.FarHanded.{first_beats, far-proper}
 use Rattle.tl_convert.proofs.DueOne.{due-is, due-computed}
 
--- the last byte of far beat j is on one of the first k near beats exactly where their bytes fill more than j far beats
+-- the last byte of far beat j is on one of the first k near beats if and only if their bytes fill more than j far beats
 filled_by : (j k p q : ℕ) → 0 < p → ((j + 1) * q - 1) / p < k → 0 < q → j < k * p / q
 filled_by j k p q pp lt qp =
     let before : (j + 1) * q - 1 < k * p = (div-lt_iff_lt-mul pp).0 lt in
@@ -37,7 +37,7 @@ get_right (x ∷ xs) ys k =
 
 module _ {H : Type 0} (r : Rules H) (w v : ℕ) (ww : IsWidth w) (vw : IsWidth v) (partial_masked : (h : H) → r.partial h ≡ true → r.masked ≡ true)
   where
-    -- what is due of the message that the rest begins are its first far beats
+    -- the far beats due for the message that the rest begins are its first far beats
     begun_due : {bs : List (BeatOf H w)} {homes : List ℕ} {ms : List (Message H)} {rest : List (BeatOf H w)} → Handed r w bs homes ms rest →
         (m : Message H) → rest ≢ [] → Begins r m (slice_get homes (length ms)) rest →
         due r w v bs homes ≡ layouts r v ms ++ first_beats r m v (far_beats_of r m.head w v (length rest))

@@ -1,4 +1,4 @@
--- How many far beats near beats make due: as many whatever the homes are, and no fewer where more near beats come.
+-- The number of far beats that are due: it does not depend on the homes, and more near beats do not make it smaller.
 use Rattle.tl_convert.proofs.Names.{◌≡◌, ◌≤◌, ◌<◌, ◌+◌, ◌*◌, ◌/◌, ◌^◌, ◌⊎◌, ℕ, Bool, true, false, cond, List, [], ◌∷◌, ◌++◌, length, drop, refl, sym}
 use Rattle.tl_convert.proofs.Names.{ap, subst, ◌∙◌, arith, zero-le, ⊎_elim, length-append, min-eq_left, min-le_left, min-le_right, mul-le-mul_left}
 use Rattle.tl_convert.proofs.Names.{div-mul-le_self, div_self, div-eq_of_lt, le_trans, pow_pos, length_push, length-take, length-map-range_with_len}
@@ -19,8 +19,8 @@ min_below x y l = omega arith
 min_grows : (x y z : ℕ) → x ≤ y → min x z ≤ min y z
 min_grows x y z l = omega arith
 
--- Of n near beats of a message of s bytes, w to a beat, no more far beats have all their bytes than another message of t bytes has, if that one
--- has a near beat more
+-- n near beats of a message of s bytes, with w bytes per beat, fill at most as many far beats as another message of t bytes has, if that one has
+-- at least one near beat more
 parts_within : (w v s t n : ℕ) → 0 < v → 0 < t → 1 ≤ n → n + 1 ≡ t / min w t → v ≤ s → n * min w s / min v s ≤ t / min v t
 parts_within w v s t n wide some several count fits =
     let m : min v s ≡ v = min-eq_left fits in

@@ -1,4 +1,4 @@
--- Near beats with their homes have one reading, and what is due is the same for every message that the rest begins.
+-- Near beats with their homes have one reading, and the far beats due are the same for every message that the rest begins.
 use Rattle.tl_convert.proofs.Names.{◌≡◌, ◌≤◌, ◌<◌, ◌+◌, ◌≢◌, ◌⊎◌, ◌++◌, ℕ, true, Option, Some, List, [], ◌∷◌, length, take, slice_get, slice_index}
 use Rattle.tl_convert.proofs.Names.{refl, sym, ap, subst, ◌∙◌, arith, inl, inr, ⊎_elim, append-nil, append_assoc, length-append}
 use Rattle.tl_convert.proofs.Names.{get_or_from_slice_get, take-map-range_with_len, Rules, BeatOf, IsWidth, Message, beats_of, beat_at, layout}
@@ -80,7 +80,7 @@ module _ {H : Type 0} (r : Rules H) (w v : ℕ) (ww : IsWidth w) (vw : IsWidth v
         Handed r w bs homes ms rest → Handed r w bs homes ms' rest' → (ms ≡ ms') × (rest ≡ rest')
     one-rest bs homes ms ms' rest rest' h h' = (messages-unique h h' refl refl, rest-unique r w h h' refl)
 
-    -- what is due of a list is the layouts of its messages, and then what is due of its rest
+    -- the far beats due for a list are the layouts of its messages, followed by the far beats due for its rest
     pub due-is : {bs : List (BeatOf H w)} {homes : List ℕ} {ms : List (Message H)} {rest : List (BeatOf H w)} → Handed r w bs homes ms rest →
         due r w v bs homes ≡ layouts r v ms ++ part r w v (slice_index homes (length ms)) rest
     due-is nothing = refl
@@ -102,7 +102,7 @@ module _ {H : Type 0} (r : Rules H) (w v : ℕ) (ww : IsWidth w) (vw : IsWidth v
     turn : (homes : List ℕ) (k x : ℕ) → slice_get homes k ≡ Some x → slice_index homes k ≡ x
     turn homes k x e = get_or_from_slice_get homes k x 0 e
 
-    -- what is due by the messages is the computed list
+    -- the far beats due in terms of the messages are the computed list
     pub due-computed : {bs : List (BeatOf H w)} {homes : List ℕ} {ms : List (Message H)} {rest : List (BeatOf H w)} {far : List (BeatOf H v)} →
         Handed r w bs homes ms rest → DueOf r w v ms homes rest far → far ≡ due r w v bs homes
     due-computed {homes = homes} {ms = ms} h between = sym (due-is h ∙ append-nil (layouts r v ms))

@@ -1,4 +1,4 @@
--- What was due stays due: more near beats only add far beats at the end.
+-- More near beats only add far beats at the end of those that are due.
 use Rattle.tl_convert.proofs.Names.{◌≡◌, ◌≤◌, ◌<◌, ◌+◌, ◌-◌, ◌*◌, ◌≢◌, ◌⊎◌, ◌++◌, ℕ, true, List, [], ◌∷◌, length, map, refl, sym, ap, subst, ◌∙◌}
 use Rattle.tl_convert.proofs.Names.{arith, inl, inr, ⊎_elim, append_assoc, length-append, range_with_len, mul-le-mul_right, Rules, BeatOf, IsWidth}
 use Rattle.tl_convert.proofs.Names.{Message, per_beat, beats_of, beat_at, layout, IsLawful, Spells, Handed, nothing, begun, whole, due, far_beats_of}
@@ -26,12 +26,12 @@ tail-nil (x ∷ xs) ys e = absurd (cc)
 
 module _ {H : Type 0} (r : Rules H) (w v : ℕ) (ww : IsWidth w) (vw : IsWidth v) (partial_masked : (h : H) → r.partial h ≡ true → r.masked ≡ true)
   where
-    -- of nothing nothing is due
+    -- no near beats make no far beats due
     none-earlier : (cs : List (BeatOf H w)) (homes : List ℕ) → EarlierDue r v [] cs homes
     none-earlier cs homes =
         record { earlier_homes = []; begun = (homes, refl); messages = []; rest = []; handed = nothing; due_first = (due r w v cs homes, refl) }
 
-    -- what is due of beats that begin a message
+    -- the far beats due for beats that begin a message
     pub due-begun : (m : Message H) (bs more : List (BeatOf H w)) → IsLawful r m → Spells r m w (bs ++ more) → bs ≢ [] → more ≢ [] →
         due r w v bs (m.home ∷ []) ≡ first_beats r m v (far_beats_of r m.head w v (length bs))
     due-begun m bs more lawful spells some left =
@@ -39,7 +39,7 @@ module _ {H : Type 0} (r : Rules H) (w v : ℕ) (ww : IsWidth w) (vw : IsWidth v
         begun-due r w v ww vw partial_masked m.head m.home [] bs (spelled-heads r w v ww vw partial_masked m bs more spells) (omega arith) ∙
         part-first r w v ww vw partial_masked m bs more lawful spells some left
 
-    -- what is due of a list whose first message is whole
+    -- the far beats due for a list whose first message is whole
     pub due-whole : (m : Message H) (bs others : List (BeatOf H w)) (homes : List ℕ) → IsLawful r m → Spells r m w bs →
         due r w v (bs ++ others) (m.home ∷ homes) ≡ layout r m v ++ due r w v others homes
     due-whole m bs others homes lawful spells =
@@ -56,7 +56,7 @@ module _ {H : Type 0} (r : Rules H) (w v : ℕ) (ww : IsWidth w) (vw : IsWidth v
           sym (map-parts (beat_at r m v) 0 k (n - k) k (omega arith)) ∙ ap (λ x. map (beat_at r m v) (range_with_len 0 x)) s,
         )
 
-    -- what was due stays due: more near beats only add far beats at the end
+    -- more near beats only add far beats at the end of those that are due
     pub due-prefix : {x : List (BeatOf H w)} {homes : List ℕ} {ms : List (Message H)} {rest : List (BeatOf H w)} → Handed r w x homes ms rest →
         (bs cs : List (BeatOf H w)) → x ≡ bs ++ cs → EarlierDue r v bs cs homes
     due-prefix h [] cs e = none-earlier cs _

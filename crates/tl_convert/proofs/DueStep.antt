@@ -1,4 +1,4 @@
--- What one more near beat makes due.
+-- The far beats that one more near beat makes due.
 use Rattle.tl_convert.proofs.Names.{◌≡◌, ◌<◌, ◌+◌, ◌==◌, ◌≢◌, ◌++◌, ℕ, suc, true, false, cond, Some, List, [], ◌∷◌, length, drop, slice_get}
 use Rattle.tl_convert.proofs.Names.{slice_index, refl, sym, ap, ◌∙◌, arith, append_assoc, append-nil, length-append, Rules, BeatOf, IsWidth, Message}
 use Rattle.tl_convert.proofs.Names.{beats_of, layout, Handed, nothing, begun, whole, ends, due_after, due, part, layouts}
@@ -32,7 +32,7 @@ module _ {H : Type 0} (r : Rules H) (w v : ℕ) (ww : IsWidth w) (vw : IsWidth v
         rw t (begun-then h homes (seen ++ b ∷ []) bs ys (λ j y q. heads (suc j) y q) (omega arith) ∙
         ap (λ q. due_after r w v q homes ys) (snoc-join seen b bs))
 
-    -- what is due of beats that are handed and of more is the layouts of their messages, and then what is due of their rest and of more
+    -- the far beats due for handed beats and more are the layouts of their messages, followed by those due for their rest and more
     pub due-then : {bs : List (BeatOf H w)} {homes : List ℕ} {ms : List (Message H)} {rest : List (BeatOf H w)} → Handed r w bs homes ms rest →
         (ys : List (BeatOf H w)) (more : List ℕ) →
         due r w v (bs ++ ys) (homes ++ more) ≡ layouts r v ms ++ due_after r w v rest (drop (length ms) homes ++ more) ys
@@ -48,7 +48,7 @@ module _ {H : Type 0} (r : Rules H) (w v : ℕ) (ww : IsWidth w) (vw : IsWidth v
         ap (λ q. due r w v q (m.home ∷ (homes ++ more))) parted ∙
         due-whole r w v ww vw partial_masked m bs (others ++ ys) (homes ++ more) lawful spells ∙ rw append_assoc step
 
-    -- there is a home for each message, and one more where one has begun
+    -- there is a home for each message, and one more if a message is unfinished
     pub homes-count : {bs : List (BeatOf H w)} {homes : List ℕ} {ms : List (Message H)} {rest : List (BeatOf H w)} → Handed r w bs homes ms rest →
         length homes ≡ length ms + cond (length rest == 0) 0 1
     homes-count nothing = refl
@@ -64,7 +64,7 @@ module _ {H : Type 0} (r : Rules H) (w v : ℕ) (ww : IsWidth w) (vw : IsWidth v
         ap (λ y. y ∷ []) e ∙ sym (open-some x rest some)
     homes-left (whole m bs others homes ms rest lawful spells h) x is = homes-left h x is
 
-    -- what is due of beats that are handed
+    -- the far beats due for handed beats
     pub due-now : {bs : List (BeatOf H w)} {homes : List ℕ} {ms : List (Message H)} {rest : List (BeatOf H w)} → Handed r w bs homes ms rest →
         due r w v bs homes ≡ layouts r v ms ++ part r w v (slice_index (drop (length ms) homes) 0) rest
     due-now {bs = bs} {homes = homes} {ms = ms} {rest = rest} h =

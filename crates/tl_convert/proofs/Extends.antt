@@ -1,10 +1,10 @@
--- Lists that go on from another one, and what they count.
+-- Lists that begin with another list, and their lengths.
 use Rattle.tl_convert.proofs.Names.{◌≡◌, ◌≤◌, ◌<◌, ◌+◌, ◌⊎◌, ℕ, zero, suc, Bool, true, false, cond, None, Some, List, [], ◌∷◌, ◌++◌, take, drop, refl}
 use Rattle.tl_convert.proofs.Names.{ap, subst, arith, append-nil, append_assoc, ⊎_elim, slice_get, count_by, take-take, take-append-drop}
 use Rattle.std.proofs.lemmas.List.Sums.{sum_by-append}
 use mathlib.Core.List.{IsPrefix}
 
--- ys goes on from xs
+-- ys begins with xs
 pub data Extends {A : Type 0} : List A → List A → Type 0 where
   more : (xs rest : List A) → Extends xs (xs ++ rest)
 
@@ -41,7 +41,7 @@ take-grows i k xs h =
     subst (λ ys. Extends ys (take k xs)) (take-take i k xs h)
     (subst (λ ys. Extends (take i (take k xs)) ys) (take-append-drop i (take k xs)) (more (take i (take k xs)) (drop i (take k xs))))
 
--- one item more, and none where the list has no more
+-- one item more, or none at the end of the list
 pub take-next : {A : Type 0} (xs : List A) (i : ℕ) (x : A) → slice_get xs i ≡ Some x → take (suc i) xs ≡ take i xs ++ x ∷ []
 take-next [] i x e = cc
 take-next (y ∷ xs) zero x e = let h : y ≡ x = cc in ap (λ q. q ∷ []) h
@@ -53,7 +53,7 @@ take-past [] (suc i) e = refl
 take-past (y ∷ xs) zero e = cc
 take-past (y ∷ xs) (suc i) e = ap (λ q. y ∷ q) (take-past xs i e)
 
--- what grows at each step below n has grown from i to n
+-- if a list grows at each step below n, it has grown from i to n
 pub grows : {A : Type 0} (at : ℕ → List A) (i n : ℕ) → i ≤ n → ((k : ℕ) → k < n → Extends (at k) (at (suc k))) → Extends (at i) (at n)
 grows at i zero l each = let e : i ≡ 0 = omega arith in extends-same (ap at e)
 grows at i (suc n) l each =
@@ -70,7 +70,7 @@ count_by-append p xs ys = sum_by-append (λ x. cond (p x) 1 0) xs ys
 pub count-grows : {A : Type 0} (p : A → Bool) {xs ys : List A} → Extends xs ys → count_by p xs ≤ count_by p ys
 count-grows p (more xs rest) = let e = count_by-append p xs rest in omega arith
 
--- what holds of both branches of a test
+-- a property of both branches of a test
 pub both : {X : Type 0} (P : X → Type 0) (t : Bool) {x y : X} → (t ≡ true → P x) → (t ≡ false → P y) → P (cond t x y)
 both P true yes_x no_y = yes_x refl
 both P false yes_x no_y = no_y refl

@@ -22,7 +22,7 @@ module _ {H : Type 0} (r : Rules H) (laws : ChannelLaws r) where
         let far = far-handed r w v ww vw masked h in
         handed_fine v vw (due r w v bs homes) (record { homes = _; messages = _; rest = far.far_rest; handed = far.handed })
 
-    -- so the far beat that comes next has none after those that came before it
+    -- so the next far beat has no fault after those before it
     pub far_fine : (near : List (BeatOf H w)) (homes : List ℕ) → IsHandedWith r near homes → (taken : List (BeatOf H v)) (b : BeatOf H v) →
         Extends (taken ++ b ∷ []) (due r w v near homes) → fault_after r taken b ≡ None
     far_fine near homes handed taken b on = by_rest on (due_fine near homes handed.0 handed.1 handed.2)

@@ -1,4 +1,4 @@
--- What is due is handed at the far width, by the same messages with corrupt gathered.
+-- The far beats due are handed at the far width, by the same messages with corrupt gathered.
 use Rattle.tl_convert.proofs.Names.{◌≡◌, ◌≤◌, ◌<◌, ◌+◌, ◌-◌, ◌*◌, ◌/◌, ◌^◌, ◌≢◌, ◌==◌, ◌&&◌, ◌++◌, ℕ, zero, suc, Bool, true, false, cond, not, Option}
 use Rattle.tl_convert.proofs.Names.{None, Some, List, [], ◌∷◌, length, get_or, take, map, slice_get, refl, sym, ap, subst, ◌∙◌, arith, rules, ⊎_elim}
 use Rattle.tl_convert.proofs.Names.{append-nil, length-append, range_with_len, enumerate_from, option_map_or, slice_get-get_or, get_or_from_slice_get}
@@ -43,7 +43,7 @@ with_bad-on f a [] i d = refl
 with_bad-on f a (x ∷ cs) zero d = refl
 with_bad-on f a (x ∷ cs) (suc i) d = with_bad-on f (a + 1) cs i d
 
--- where corrupt is f of the place already, nothing changes
+-- if corrupt is already f of the position, nothing changes
 with_bad-same : (f : ℕ → Bool) (a : ℕ) (cs : List Cell) → ((i : ℕ) (c : Cell) → slice_get cs i ≡ Some c → c.bad ≡ f (a + i)) → with_bad f a cs ≡ cs
 with_bad-same f a [] h = refl
 with_bad-same f a (c ∷ cs) h =
@@ -138,7 +138,7 @@ module _ {H : Type 0} (r : Rules H) where
           | Some i ↦ with_bad-on (is_bad_with r v m) 0 m.cells i (not (r.carries m.head))
         ]
 
-    -- the far beat brings it
+    -- the far beat carries its part of the message
     beat-spells : (j : ℕ) → SpellsBeat r (gathered r v m) v j (beat_at r m v j)
     beat-spells j = record {
       head = refl;
@@ -159,7 +159,7 @@ module _ {H : Type 0} (r : Rules H) where
           some_of-none (is_bad r m) (j * per_beat r m.head v) (per_beat r m.head v) (λ i. no-cell m.cells i none_in);
     }
 
-    -- the layout of a message brings the message with corrupt gathered
+    -- the layout of a message carries the message with corrupt gathered
     pub layout-spells : Spells r (gathered r v m) v (layout r m v)
     layout-spells = record {
       count = length-map-range_with_len (beat_at r m v) 0 (beats_of r m.head v);
@@ -174,7 +174,7 @@ module _ {H : Type 0} (r : Rules H) where
       let mk : List Cell → Message H = λ cs. record { head = m.head; home = m.home; cells = cs } in
       ap mk (with_bad-same (is_bad_with r v m) 0 m.cells (λ i c e. let z : i ≡ 0 + i = omega arith in even i c e ∙ ap (is_bad_with r v m) z))
 
-  -- the layout of a message that is evenly bad brings it
+  -- the layout of a message that is evenly bad carries it
   pub layout-spells-even : (v : ℕ) (m : Message H) → IsWidth v → length m.cells ≡ cond (r.carries m.head) (2 ^ r.size m.head) 0 → IsEvenlyBad r v m →
       Spells r m v (layout r m v)
   layout-spells-even v m vw all_cells even =
@@ -213,7 +213,7 @@ module _ {H : Type 0} (r : Rules H) where
         begun (gathered r v m) (first_beats m v k) part-begins.more (gathered-lawful v vw m lawful) part-begins.spells some part-begins.left
 
   module _ (w v : ℕ) (ww : IsWidth w) (vw : IsWidth v) (partial_masked : (h : H) → r.partial h ≡ true → r.masked ≡ true) where
-    -- the message of the beats that bring one is that one
+    -- the message read back from beats that carry a message is that message
     module _ (m : Message H) (lawful : IsLawful r m) (bs : List (BeatOf H w)) (spells : Spells r m w bs) where
       cell-is : (carries : r.carries m.head ≡ true) (k : ℕ) → k < 2 ^ r.size m.head → (c : Cell) → slice_get m.cells k ≡ Some c →
           c ≡ cell_at r m.head w v m.home ww vw carries bs k
@@ -256,7 +256,7 @@ module _ {H : Type 0} (r : Rules H) where
           all ∙ ap (λ cs. of_cells r m.head m.home cs) (sym none_in))
           (cases_Bool (r.carries m.head))
 
-    -- what is due of a list that begins with the beats of a message
+    -- the far beats due for a list that begins with the beats of a message
     pub whole-due : (h : H) (x : ℕ) (homes : List ℕ) (o seen bs : List (BeatOf H w)) →
         ((j : ℕ) (b : BeatOf H w) → slice_get bs j ≡ Some b → b.head ≡ h) →
         bs ≢ [] → length seen + length bs ≡ beats_of r h w →
@@ -324,7 +324,7 @@ module _ {H : Type 0} (r : Rules H) where
           let p : 0 < length rest = some-length rest some in
           more-carries r m.head w (λ e. absurd (omega arith))
 
-      -- of an unfinished message not all far beats are due
+      -- not all far beats of an unfinished message are due
       pub far-proper : far_beats_of r m.head w v (length rest) < beats_of r m.head v
       far-proper =
           let pp : 0 < per_beat r m.head w = per-pos r m w ww in

@@ -1,4 +1,4 @@
--- The messages that begin in far beats, by the near beats that make them due, where no near beat has a fault.
+-- The messages that begin in far beats, in terms of the near beats that make them due, if no near beat has a fault.
 use Rattle.tl_convert.proofs.Names.{◌≡◌, ◌≤◌, ◌<◌, ◌+◌, ◌-◌, ◌≢◌, ◌↔◌, ◌⊎◌, inl, inr, ℕ, zero, suc, Bool, true, false, cond, Option, None, Some, List}
 use Rattle.tl_convert.proofs.Names.{[], ◌∷◌, ◌++◌, length, take, refl, sym, ap, subst, ◌∙◌, arith, zero-le, append_assoc, append-nil, length_push}
 use Rattle.tl_convert.proofs.Names.{slice_get, mask_fits, continuing_fault, Rules, BeatOf, beats_of, ends, rest_of, fault_after, heads, left}
@@ -52,7 +52,7 @@ keeps_head {H} r {w} exact bs b fine = by_rest (rest_of r w bs) refl
     by_rest (x ∷ xs) e = inside x.head (rw e at fine)
 
 module _ {H : Type 0} (r : Rules H) (exact : (x y : H) → r.same x y ≡ true → x ≡ y) (w : ℕ) (near : 0 < w) where
-  -- how many beats the message of a rest lacks, and that it lacks some
+  -- the number of beats that are missing from the message of a rest, which is not 0
   abbrev pub lacks : List (BeatOf H w) → ℕ
   lacks [] = 0
   lacks (b ∷ bs) = beats_of r b.head w - length (b ∷ bs)
@@ -61,13 +61,13 @@ module _ {H : Type 0} (r : Rules H) (exact : (x y : H) → r.same x y ≡ true �
   IsShort [] = 0 ≤ 0
   IsShort (b ∷ bs) = length (b ∷ bs) < beats_of r b.head w
 
-  -- what the heads alone tell of a list is what its rest tells
+  -- the facts that follow from the heads of a list, in terms of its rest
   pub record IsRead (bs : List (BeatOf H w)) : Type 0 where
     pub heads_are : heads r w bs ≡ finished_after r w [] bs ++ rest_heads r w (rest_of r w bs)
     pub left_is : left r w bs ≡ lacks (rest_of r w bs)
     pub short : IsShort (rest_of r w bs)
 
-  -- what one more beat changes of it
+  -- the same facts after one more beat
   step : (bs : List (BeatOf H w)) (b : BeatOf H w) (rest : List (BeatOf H w)) (t : Bool) → ends r w rest b ≡ t → KeepsHead rest b →
       (heads r w bs ≡ finished_after r w [] bs ++ rest_heads r w rest) × (left r w bs ≡ lacks rest) × IsShort rest →
       (heads r w (bs ++ b ∷ []) ≡ (finished_after r w [] bs ++ cond t (b.head ∷ []) []) ++ rest_heads r w (cond t [] (rest ++ b ∷ []))) ×
@@ -126,7 +126,7 @@ module _ {H : Type 0} (r : Rules H) (exact : (x y : H) → r.same x y ≡ true �
       here None e k = subst IsRead (sym (take-past bs i e)) k
       here (Some b) e k = subst IsRead (sym (take-next bs i b e)) (is-read-more (take i bs) b (f.none i b (omega arith) e) k)
 
-  -- the next beat opens a message exactly where nothing is left
+  -- the next beat opens a message if and only if no beat is missing
   pub opens_is : (bs : List (BeatOf H w)) → IsRead bs → (left r w bs ≡ 0) ↔ (rest_of r w bs ≡ [])
   opens_is bs k = by_rest (rest_of r w bs) k.left_is k.short
     where
@@ -142,7 +142,7 @@ module _ {H : Type 0} (r : Rules H) (exact : (x y : H) → r.same x y ≡ true �
     first_of_one h zero hs = more [] (h ∷ hs)
     first_of_one h (suc c) hs = rw (take-nil {A = H} c) (more (h ∷ []) hs)
 
-    -- what has begun there has begun here, whatever the homes
+    -- a message that has begun on the far side has begun on the near side, whatever the homes
     opened_there : (rest : List (BeatOf H w)) → Extends (far_opened r w v some_far rest) (rest_heads r w rest)
     opened_there [] = more [] []
     opened_there (b ∷ bs) = first_of_one b.head (far_beats_of r b.head w v (length (b ∷ bs))) []

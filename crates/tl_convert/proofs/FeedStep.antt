@@ -1,4 +1,4 @@
--- What a converter that takes a near beat without a fault gives, and for what it then stands.
+-- The far beats that a converter returns for a near beat without a fault, and the near beats that it then stands for.
 use Rattle.tl_convert.proofs.Names.{◌≡◌, ◌≢◌, ◌<◌, ◌^◌, ◌++◌, ℕ, true, None, Some, List, [], ◌∷◌, length, refl, sym, ap, ◌∙◌, Rules, IsBeat, BeatOf}
 use Rattle.tl_convert.proofs.Names.{IsWidth, beats_of, IsPlace, IsPlaceOf, IsHanded, IsHandedWith, IsAdmitted, rest_of, burst_after, fault_in}
 use Rattle.tl_convert.proofs.Names.{fault_after, homes_with, FitsMask, head_of, RestIs, ChannelLaws, none-accepts, none-admitted, none-held}
@@ -39,7 +39,7 @@ module _ {H : Type 0} {w v : ℕ} (r : Rules H) (ww : IsWidth w) (vw : IsWidth v
   fits = (none-accepts r w ww laws (rest_of r w bs) b
       (λ h e. begun-lawful r w ww laws before.handed.2 h (ap head_of (RestIs r w before.handed.2) ∙ e)) none-after).mask
 
-  -- what came of the message before
+  -- the earlier beats of the message
   pub fed-run : Run r index new.home b old.partial (rest_of r w bs)
   fed-run = run-of r ww vw partial_masked laws.masked_address old bs homes before b home new.home index index_is inside held fits opened kept
 

@@ -1,18 +1,18 @@
--- What is due, as the far beats of the messages that were brought whole and those of the rest.
+-- The far beats due, as those of the messages that were carried whole and those of the rest.
 use Rattle.tl_convert.proofs.Names.{◌≡◌, ◌≤◌, ◌<◌, ◌+◌, ℕ, Bool, true, false, cond, List, [], ◌∷◌, ◌++◌, length, take, drop, refl, sym, ap, ◌∙◌}
 use Rattle.tl_convert.proofs.Names.{arith, append_assoc, append-nil, slice_index, Rules, BeatOf, beats_of, layout, message_of, ends, rest_after}
 use Rattle.tl_convert.proofs.Names.{rest_of, heads, far_beats_of, part, due_after, due}
 use Rattle.tl_convert.proofs.Extends.{both-two, both-three, both-four}
 use Rattle.tl_convert.proofs.Begins.{heads_cut, heads_whole}
 
--- what holds of both branches of a test, each where its list is short enough
+-- a property of both branches of a test, each if its list is short enough
 under : {X Y Z : Type 0} (P : List X → Y → Z → Type 0) (n : ℕ) (A B : List X) {y y' : Y} {z z' : Z} (t : Bool) → length (cond t A B) ≤ n →
     (length A ≤ n → P A y z) → (length B ≤ n → P B y' z') → P (cond t A B) (cond t y y') (cond t z z')
 under P n A B true l f g = f l
 under P n A B false l f g = g l
 
 module _ {H : Type 0} (r : Rules H) (w : ℕ) where
-  -- the heads of the messages that beats bring whole, where those of `seen` have begun the first
+  -- the heads of the messages that beats carry whole, if the beats of `seen` have begun the first one
   abbrev pub finished_after : (seen bs : List (BeatOf H w)) → List H
   finished_after seen [] = []
   finished_after seen (b ∷ bs) = cond (ends r w seen b) (b.head ∷ finished_after [] bs) (finished_after (seen ++ b ∷ []) bs)
@@ -114,7 +114,7 @@ module _ {H : Type 0} (r : Rules H) (w : ℕ) where
           ap (λ q. b.head ∷ q) (heads_laid_after [] (drop 1 homes) bs ys))
           (heads_laid_after (seen ++ b ∷ []) homes bs ys)
 
-      -- what is due of a rest begins its message, or nothing yet
+      -- the far beats due for a rest begin its message, or are none yet
       abbrev pub far_opened : List (BeatOf H w) → List H
       far_opened [] = []
       far_opened (b ∷ bs) = take (far_beats_of r b.head w v (length (b ∷ bs))) (b.head ∷ [])

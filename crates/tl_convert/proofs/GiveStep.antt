@@ -1,4 +1,4 @@
--- What a near beat with data gives after the beats of its message that came before.
+-- The far beats that a near beat with data completes after the earlier beats of its message.
 use Rattle.tl_convert.proofs.Names.{◌≡◌, ◌<◌, ◌+◌, ◌-◌, ◌*◌, ◌/◌, ◌≢◌, ◌++◌, ℕ, true, List, [], ◌∷◌, length, map, refl, sym, ap, subst, ◌∙◌, arith}
 use Rattle.tl_convert.proofs.Names.{⊎_elim, range_with_len, eqb_tells, Rules, BeatOf, IsWidth, Message, per_beat, beats_of, beat_at, FitsMask, Filled}
 use Rattle.tl_convert.proofs.Names.{Source, Pours, IsBlank, Run, Given, GivenData, of_head, per-pos, of_cells, run-is}
@@ -74,7 +74,7 @@ module _ {H : Type 0} (r : Rules H) (w v home : ℕ) (ww : IsWidth w) (vw : IsWi
             (subst E (end-next r b.head w v home ww vw carries bs b) done.filled);
       }
 
--- what a near beat without data gives
+-- the far beat of a near beat without data
 pub give-head : {H : Type 0} (r : Rules H) (w v index home : ℕ) (b : BeatOf H w) → r.carries b.head ≡ false → (bs : List (BeatOf H w))
     (partial new : BeatOf H v) (out : List (BeatOf H v)) → out ≡ layout r (of_head b.head home) v → Run r index home b partial bs →
     Given r home b new bs out

@@ -5,7 +5,7 @@ use Rattle.tl_convert.proofs.Names.{Spells, Handed, nothing, begun, whole, slice
 use Rattle.std.proofs.lemmas.List.Elements.{All-append}
 use Rattle.tl_burst.proofs.SpelledRun.{Fitting, fitting-of}
 
--- what holds of all of a list holds of its last part
+-- a property of all of a list is a property of its last part
 pub all-right : {A : Type 0} (P : A → Type 0) (xs ys : List A) → All P (xs ++ ys) → All P ys
 all-right P [] ys all = all
 all-right P (x ∷ xs) ys all = all-right P xs ys (λ k d lt. all (suc k) d (omega arith))

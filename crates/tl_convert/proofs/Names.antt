@@ -1,4 +1,4 @@
--- What the proofs of this crate name most, of the library and of the definitions, passed on by one module.
+-- The names that the proofs of this crate use most, from the library and from the definitions, re-exported by one module.
 pub use Rattle.std.proofs.Common.{◌≡◌, ◌⊎◌, ◌++◌, ℕ, suc, cond, Option, None, Some, List, [], ◌∷◌, slice_get, refl, sym, ap, subst, ◌∙◌, ⊎_elim, inl}
 pub use Rattle.std.proofs.Common.{inr, append_assoc, append-nil, ◌↔◌, zero, take, arith, All, ◌≤◌, ◌<◌, ◌+◌, ◌-◌, ◌*◌, ◌/◌, ◌^◌, Bool, true, false}
 pub use Rattle.std.proofs.Common.{length, map, length-take, ◌≢◌, zero-le, ◌==◌, drop, slice_index, get_or, length-append, min, ◌&&◌, not}

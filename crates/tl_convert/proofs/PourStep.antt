@@ -1,4 +1,4 @@
--- One chunk of a near beat: where it begins and ends, and what the far beats then are.
+-- One chunk of a near beat: where it begins and ends, and the far beats after it.
 use Rattle.tl_convert.proofs.Names.{◌≡◌, ◌≤◌, ◌<◌, ◌+◌, ◌-◌, ◌*◌, ◌/◌, ◌%◌, ◌^◌, ◌≢◌, ◌++◌, ℕ, Bool, true, false, cond, min, List, [], ◌∷◌, length}
 use Rattle.tl_convert.proofs.Names.{take, drop, length-append, map, sym, ap, subst, ◌∙◌, arith, rules, ⊎_elim, range_with_len, refill, set, eqb_tells}
 use Rattle.tl_convert.proofs.Names.{leb_tells, bit_and, and_mask, map-range_with_len_more, mod-lt, add-mul-mod_self_right, div-eq_of_eq-mul_left}
@@ -11,7 +11,7 @@ use Rattle.std.proofs.Math.Arith.{digits_div}
 use Rattle.tl_convert.proofs.Filling.{Filled-more, Filled-none, Filled-whole}
 use Rattle.std.proofs.lemmas.Nat.{div-add-mod'}
 
--- a mask bit, where there is a mask or none
+-- a mask bit, on a channel with masks
 pub to-old : (masked : Bool) (x y z : ℕ) → masked ≡ true → x ≡ y → x ≡ cond masked y z
 to-old true x y z e h = h
 to-old false x y z e h = cc
@@ -78,7 +78,7 @@ pub last-was : {X : Type 0} (xs : List X) (x z : X) (t : ℕ) (items slice : Lis
 last-was xs x z t items slice count is same =
     ap (λ s. get_or s t z) (same ∙ is) ∙ ap (λ i. get_or (xs ++ x ∷ []) i z) (sym count) ∙ get_or-append_seam xs x [] z
 
--- it stands in the list
+-- it is in the list
 pub last-inside : {X : Type 0} (xs : List X) (x : X) (t : ℕ) (items slice : List X) → length xs ≡ t → items ≡ xs ++ x ∷ [] → slice ≡ items →
     t < length slice
 last-inside xs x t items slice count is same =
@@ -97,7 +97,7 @@ min-first a b lt = omega arith
 min-last : (a b : ℕ) → b ≤ a → min a b ≡ b
 min-last a b le = omega arith
 
--- the bytes that a beat of either width brings at once are those of the lesser one
+-- the bytes that are moved at once are those of the narrower beat
 pub bytes-near : {H : Type 0} (r : Rules H) (h : H) (w v size n : ℕ) → size ≡ r.size h → per_beat r h w < per_beat r h v →
     n ≡ min (bytes_per_beat size w) (bytes_per_beat size v) → n ≡ bytes_per_beat size w
 bytes-near r h w v size n e lt is =
@@ -124,7 +124,7 @@ pub blank-empty : {H : Type 0} (r : Rules H) (m : Message H) (v : ℕ) → IsWid
     IsEmpty r m v b
 blank-empty r m v vw head e b blank j = Filled-none r m v vw j b (blank.head_is ∙ e) blank.lanes blank.size blank.mask blank.corrupt
 
--- a far beat that none is begun of, where a beat begins, has no byte
+-- a far beat that is not begun, at the beginning of a far beat, has no byte
 pub begun-empty : {H : Type 0} (r : Rules H) (m : Message H) (v first : ℕ) (b : BeatOf H v) → first % per_beat r m.head v ≡ 0 →
     Filled r m v (first / per_beat r m.head v) first b → IsEmpty r m v b
 begun-empty {H} r m v first b begins filled j =

@@ -1,4 +1,4 @@
--- What is due of a list goes on as the list does, where no beat has a fault.
+-- If no beat has a fault, the far beats due for a list begin those due for a longer list.
 use Rattle.tl_convert.proofs.Names.{◌≡◌, ◌≤◌, ◌<◌, ◌+◌, ◌*◌, ◌/◌, ◌^◌, ℕ, zero, suc, Bool, true, false, cond, Option, None, Some, List, [], ◌∷◌, ◌++◌}
 use Rattle.tl_convert.proofs.Names.{length, take, drop, map, refl, sym, ap, subst, ◌∙◌, arith, append_assoc, length-append, length_push, and_parts}
 use Rattle.tl_convert.proofs.Names.{div-lt_iff_lt-mul, lt-div-mul-add, div-mul-le_self, mul-le-mul_right, slice_get, slice_index, ◌==◌, ◌&&◌, ◌||◌}
@@ -55,7 +55,7 @@ module _ {H : Type 0} (r : Rules H) (h : H) (home v : ℕ) (wide : 0 < v) where
   abbrev beat_of : ℕ → List ℕ → Bool → BeatOf H v
   beat_of n ls b = record { head = h; mask = n; lanes = ls; corrupt = b }
 
-  -- the byte of a beat stands below the beat's end
+  -- the byte of a beat is below the beat's end
   below_end : (xs : List Cell) (t l i : ℕ) → byte_on r (told xs) v t l ≡ Some i → i < t * per_beat r h v + per_beat r h v
   below_end xs t l i e =
       let f = find_holds (λ i. (i / per_beat r h v == t) && (lane_of home i v == l)) (range_with_len 0 (2 ^ r.size h)) i e in
@@ -137,7 +137,7 @@ module _ {H : Type 0} (r : Rules H) (exact : (x y : H) → r.same x y ≡ true �
       (take-grows c (far_beats_of r x.head w v (length (x ∷ (xs ++ b ∷ [])))) (layout r (message_of r x.head w home (x ∷ (xs ++ b ∷ []))) v)
       (more-due r w v far x.head (length (x ∷ xs)) (length (x ∷ (xs ++ b ∷ []))) (omega arith))))
 
-  -- what is due after one more beat, by what was laid out and the rest before it
+  -- the far beats due after one more beat, in terms of those that were laid out and the rest before it
   pub due_more : (bs : List (BeatOf H w)) (b : BeatOf H w) (homes : List ℕ) →
       due r w v (bs ++ b ∷ []) homes ≡
       laid_after r w v [] homes bs ++

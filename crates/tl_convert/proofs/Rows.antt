@@ -43,7 +43,7 @@ partial : due rules_a 4 8
     on 8 (a 1 0 4 2 0x40) 0x05 (from 0 8) false ∷ on 8 (a 1 0 4 2 0x40) 0x8f (from 8 8) false ∷ []
 partial = refl
 
--- a Get is one beat, also where it asks for 4,096 bytes
+-- a Get is one beat, even if it asks for 4,096 bytes
 large_get : due rules_a 64 1 (on 64 (a 4 0 12 0 0x2000) (2 ^ 64 - 1) (zeros 64) false ∷ []) (0x2000 ∷ []) ≡
     on 1 (a 4 0 12 0 0x2000) 1 (0 ∷ []) false ∷ []
 large_get = refl
@@ -78,7 +78,7 @@ copied_half : due rules_d 32 8 (take 1 far_two) (0x100 ∷ []) ≡
     on 8 grant 0 (from 0 8) true ∷ on 8 grant 0 (from 8 8) true ∷ on 8 grant 0 (from 16 8) true ∷ on 8 grant 0 (from 24 8) true ∷ []
 copied_half = refl
 
--- a request of 4 bytes on 16 lanes, and its response, whose bytes stand by the request's address
+-- a request of 4 bytes on 16 lanes, and its response, whose bytes are on the lanes of the request's address
 request : due rules_a 4 16 (on 4 (a 4 0 2 17 0x100c) 15 (zeros 4) false ∷ []) (0x100c ∷ []) ≡ on 16 (a 4 0 2 17 0x100c) 0xf000 (zeros 16) false ∷ []
 request = refl
 
@@ -174,7 +174,7 @@ three_messages : due rules_a 4 8 (on 4 (a 4 0 2 1 0) 15 (zeros 4) false ∷ two 
     on 8 (a 4 0 2 1 0) 15 (zeros 8) false ∷ on 8 (a 0 0 3 1 0x18) 0xff (from 0 8) false ∷ []
 three_messages = refl
 
--- a response whose home is no multiple of its size: its bytes go round the end of the bus, on both sides
+-- a response whose home is not a multiple of its size: its bytes wrap around the end of the bus, on both sides
 abbrev near_round : List (BeatOf HeadD 4)
 near_round = on 4 (d 1 0 3 17 0) 0 (3 ∷ 0 ∷ 1 ∷ 2 ∷ []) false ∷ on 4 (d 1 0 3 17 0) 0 (7 ∷ 4 ∷ 5 ∷ 6 ∷ []) false ∷ []
 
@@ -189,7 +189,7 @@ narrowed_round : due rules_d 8 2 (on 8 (d 1 0 2 17 0) 0 (0x22 ∷ 0x33 ∷ 0x55 
     on 2 (d 1 0 2 17 0) 0 (0x00 ∷ 0x11 ∷ []) false ∷ on 2 (d 1 0 2 17 0) 0 (0x22 ∷ 0x33 ∷ []) false ∷ []
 narrowed_round = refl
 
--- the home is that of the message's turn: the same response at another home stands on other lanes
+-- each message has its own home: the same response with another home is on other lanes
 other_home : due rules_d 16 4 (on 16 (d 1 0 2 17 0) 0 (from 0 16) false ∷ []) (0x1004 ∷ []) ≡ on 4 (d 1 0 2 17 0) 0 (from 4 4) false ∷ []
 other_home = refl
 
@@ -220,6 +220,6 @@ changed_head = refl
 changed_counts : map (λ v. length (due rules_a 4 v (accepted_of rules_a (take 2 three ++ two 0x40)) (0x20 ∷ []))) (8 ∷ 4 ∷ 1 ∷ []) ≡ 1 ∷ 2 ∷ 8 ∷ []
 changed_counts = refl
 
--- and here a Get whose address is no multiple of its size
+-- and here a Get whose address is not a multiple of its size
 unaligned : accepted_of rules_a (two 0x10 ++ on 4 (a 4 0 2 1 2) 15 (zeros 4) false ∷ two 0x20) ≡ two 0x10
 unaligned = refl

@@ -61,7 +61,7 @@ module _ {H : Type 0} (r : Rules H) (h : H) (w v x : ℕ) (ww : IsWidth w) (vw :
 
   module _ (bs : List (BeatOf H w)) (b : BeatOf H w) (shorter : length bs < beats_of r h w) (head : b.head ≡ h) (fits : FitsMask r b)
       (home : r.masked ≡ true → x ≡ r.lane_address h 0) where
-    -- the next near beat brings the next bytes of the run's message
+    -- the next near beat carries the next bytes of the run's message
     pub run-source : Source r (run_message (bs ++ b ∷ [])) x (run_end bs) b
     run-source =
         let n : length (bs ++ b ∷ []) ≡ length bs + 1 = length_push bs b in
@@ -93,7 +93,7 @@ module _ {H : Type 0} (r : Rules H) (h : H) (w v x : ℕ) (ww : IsWidth w) (vw :
           };
         }
 
-    -- what was filled stays so in the longer run's message
+    -- the filled part stays the same in the longer run's message
     pub filled-longer : (j : ℕ) (p : BeatOf H v) → Filled r (run_message bs) v j (run_end bs) p →
         Filled r (run_message (bs ++ b ∷ [])) v j (run_end bs) p
     filled-longer j p f =

@@ -1,4 +1,4 @@
--- A tracker fits in memory, where the heads of its channel are small, and so do the places of a list of beats.
+-- A tracker fits in memory if the heads of its channel are small, and so do the positions of a list of beats.
 use Rattle.tl_convert.proofs.Names.{◌≤◌, ◌<◌, ◌+◌, ◌*◌, ℕ, max, arith, mul-le-mul, WIDEST}
 use prog.Memory.{up, size, align}
 use prog.Align.{up-ge}
@@ -33,7 +33,7 @@ tracker-few τ σ small = bytes-few (align τ) (align σ) (size τ) (align-small
 pub tracker-fits : (τ σ : Ty) → size τ ≤ 32 → tracker_bytes (align τ) (align σ) (size τ) < 9223372036854775808
 tracker-fits τ σ small = let few = tracker-few τ σ small in omega arith
 
--- the bytes of a beat of width v, and of a list of such beats, where a head has s bytes, is aligned to a, and lies at a multiple of x
+-- the bytes of a beat of width v, and of a list of such beats, if a head has s bytes, is aligned to a, and is at a multiple of x
 abbrev pub beat_bytes : (a x s v : ℕ) → ℕ
 beat_bytes a x s v = up (max a 16) (up 1 (up 1 (up 16 (up x 0 + s) + 16) + v * 1) + 1)
 
@@ -53,7 +53,7 @@ place-fits a m n beat t small le =
     let four = up-ge n (up 1 (up 8 (up m 0 + up m (up a 0 + WIDEST * beat)) + 8) + 0) in
     record { fits = omega arith }
 
--- where the list fits in memory, a beat's place in it has few bytes before it
+-- if the list fits in memory, a beat's position in it has few bytes before it
 pub place_fits : (head place : Ty) (v t : ℕ) → list_bytes (align head) (align place) (size head) v < 9223372036854775808 → t ≤ WIDEST →
     Fits w64 (t * beat_bytes (align head) (align place) (size head) v)
 place_fits head place v t small le =

@@ -7,7 +7,7 @@ use Rattle.tl_msg.specs.declared.beat.BeatOf.{BeatOf}
 use Rattle.tl_burst.specs.Handing.{IsHanded, fault_after}
 
 module _ {H : Type 0} (r : Rules H) where
-  -- after the beats of `seen`: the beats before the first one that has a fault where it stands
+  -- bs comes after the beats of `seen`: the beats of bs before the first one that has a fault after those before it
   abbrev pub accepted_after : {w : ℕ} → (seen bs : List (BeatOf H w)) → List (BeatOf H w)
   accepted_after seen [] = []
   accepted_after seen (b ∷ bs) = cond (is_none (fault_after r seen b)) (b ∷ accepted_after (seen ++ b ∷ []) bs) []

@@ -1,4 +1,4 @@
--- What a converter holds between two near beats, and for which near beats it stands.
+-- The state of a converter between two near beats, and the near beats that it stands for.
 use Rattle.std.specs.Prelude.{◌≡◌, ◌*◌, ◌++◌, ℕ, Option, Some, List, [], ◌∷◌}
 use Rattle.tl_msg.specs.Rules.{Rules}
 use Rattle.tl_msg.specs.declared.beat.BeatOf.{BeatOf}
@@ -10,7 +10,7 @@ use Rattle.tl_convert.specs.Partial.{Filled}
 
 -- a converter between two near beats
 pub record Progress (H : Type 0) (v : ℕ) : Type 0 where
-  -- the open burst: its head, and how many of its beats were accepted
+  -- the open burst: its head, and the number of its accepted beats
   pub burst : Option (H × ℕ)
   -- the home of the open burst
   pub home : ℕ
@@ -24,7 +24,7 @@ pub record StandsFor {H : Type 0} {w v : ℕ} (r : Rules H) (state : Progress H 
   pub burst_is : state.burst ≡ burst_after r bs
   -- its home is the last one
   pub home_is : (h : H) (count : ℕ) → state.burst ≡ Some (h, count) → (others : List ℕ) × (homes ≡ others ++ state.home ∷ [])
-  -- the far beat that it has begun has those of its bytes that no far beat was given for, and nothing else
+  -- the far beat that it has begun has those of its bytes for which no far beat was returned yet, and nothing else
   pub partial_is : (h : H) (count : ℕ) → state.burst ≡ Some (h, count) →
       Filled r (message_of r h w state.home (rest_of r w bs)) v (far_beats_of r h w v count) (count * per_beat r h w) state.partial
 

@@ -1,5 +1,6 @@
--- Cut-through: a far beat is due as soon as the near beat that carries its last byte is accepted, and no sooner. By the SiFive TileLink
--- Specification 1.8: byte lanes (that a far beat does not wait for the rest of its message: this project's choice).
+-- Cut-through: a far beat is due as soon as the near beat with its last byte is accepted, and not before. By the SiFive
+-- TileLink Specification 1.8: byte lanes. A far beat does not wait for the rest of its message, which is this project's
+-- choice.
 use Rattle.std.specs.Prelude.{◌≡◌, ◌≢◌, ◌≤◌, ◌<◌, ◌+◌, ◌-◌, ◌*◌, ◌/◌, ℕ, None, Some, List, [], length, slice_get}
 use mathlib.Core.List.{IsPrefix}
 use Rattle.tl_msg.specs.Rules.{Rules}
@@ -17,11 +18,12 @@ module _ {H : Type 0} (r : Rules H) where
   abbrev pub near_beat_with : H → (w i : ℕ) → ℕ
   near_beat_with h w i = i / per_beat r h w
 
-  -- near beats have brought the messages ms, and then `rest`, the first beats of one more
+  -- near beats have carried the messages ms, and then `rest`, the first beats of one more message
   pub record IsCutThrough {w : ℕ} (v : ℕ) (bs : List (BeatOf H w)) (homes : List ℕ) (ms : List (Message H)) (rest : List (BeatOf H w)) : Type 0 where
-    -- each far beat of the messages that have come whole is due, before all others
+    -- each far beat of the messages that are whole is due, before all others
     pub whole : IsPrefix (layouts r v ms) (due r w v bs homes)
-    -- far beat j of the message that the rest begins is due once the near beat that carries its last byte is one of the rest
+    -- far beat j of the message that the rest begins is due as soon as the near beat with its last byte is part of the
+    -- rest
     pub due_at_once : (m : Message H) → rest ≢ [] → Begins r m (slice_get homes (length ms)) rest → (j : ℕ) →
         near_beat_with m.head w (last_byte m.head v j) < length rest →
         slice_get (due r w v bs homes) (length (layouts r v ms) + j) ≡ Some (beat_at r m v j)
@@ -30,7 +32,7 @@ module _ {H : Type 0} (r : Rules H) where
         length rest ≤ near_beat_with m.head w (last_byte m.head v j) →
         slice_get (due r w v bs homes) (length (layouts r v ms) + j) ≡ None
 
-  -- it is so after all near beats that are handed
+  -- cut-through holds after all near beats that are handed
   abbrev pub CutThrough : (w v : ℕ) → Type 0
   CutThrough w v = (bs : List (BeatOf H w)) (homes : List ℕ) (ms : List (Message H)) (rest : List (BeatOf H w)) →
       Handed r w bs homes ms rest → IsCutThrough v bs homes ms rest

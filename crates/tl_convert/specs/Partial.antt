@@ -1,4 +1,5 @@
--- The far beat that is not full yet: a byte is named by its number in its message, and a far beat by its number in the layout.
+-- The far beat that is not full yet. A byte is named by its number in its message, and a far beat by its number in the
+-- layout.
 use Rattle.std.specs.Prelude.{◌≡◌, ◌≢◌, ◌<◌, ◌≤◌, ◌*◌, ◌-◌, ◌^◌, ◌&&◌, ℕ, cond, Some, slice_get, slice_index, length}
 use Rattle.std.specs.Int.{bit_at}
 use Rattle.tl_msg.specs.Rules.{Rules}

@@ -15,11 +15,15 @@ use tl_burst::{Place, Tracker};
 use tl_lanes::WIDEST;
 use tl_msg::{Beat, BeatFault, Channel, ranges_of_beat};
 
-/// Gives the beats of one channel at another width: from a bus of `W` bytes to a bus of `V` bytes.
+/// Converts the beats of one channel from a bus of `W` bytes to a bus of `V` bytes.
 ///
-/// It holds at most one far beat that is not yet whole. In contracts it is a `Progress`: the open burst, its home, and that far beat.
-/// `StandsFor` says which near beats, with which homes, a converter was fed. The home of a message is the address by which its
-/// bytes stand on lanes: the address field on A, B and C, 0 on E, and on D the address of the request that the message answers.
+/// It holds at most one far beat that is not yet whole. In contracts its value is a `Progress`: the
+/// open burst, its home, and that far beat. `StandsFor` relates a converter to the near beats that
+/// it was fed, with their homes.
+///
+/// The home of a message is the address that decides the lanes of its bytes. It is the address
+/// field on A, B and C, and 0 on E. On D it is the address of the request that the message responds
+/// to.
 #[derive(Drop)]
 pub struct Converter<K: Channel, const W: usize, const V: usize> {
     tracker: Tracker<K, W>,
@@ -39,7 +43,7 @@ impl<K: Channel, const W: usize, const V: usize> Model for Converter<K, W, V> {
 }
 
 impl<K: Channel, const W: usize, const V: usize> Converter<K, W, V> {
-    /// A converter that was fed nothing. It needs no memory.
+    /// Creates a converter that was fed nothing. Does not allocate.
     pub fn new() -> Self
         ensures { StandsFor {w = W} K.rules result [] [] }
     {
@@ -50,10 +54,12 @@ impl<K: Channel, const W: usize, const V: usize> Converter<K, W, V> {
         }
     }
 
-    /// Whether `beat` may be the next near beat, and where it stands in its message. Nothing changes.
+    /// Checks whether `beat` may be the next near beat. Changes nothing.
     ///
-    /// The beat is refused with its first fault, exactly where it is not admitted after the beats that were fed: outside a burst
-    /// Opcode, Param, Size, Unaligned, Mask, Corrupt, and inside one HeadChanged, Mask.
+    /// Returns its place in its message. Errors: the first fault of the beat, if and only if it is
+    /// not admitted after the beats that were fed. Outside a burst the order is Opcode, Param,
+    /// Size, Unaligned, Mask, Corrupt; inside a burst it is HeadChanged, Mask. Requires: `W` is a
+    /// width.
     #[inline(always)]
     pub fn check(&self, beat: &Beat<K, W>) -> Result<Place<K>, BeatFault>
         requires { IsWidth W }
@@ -74,11 +80,12 @@ impl<K: Channel, const W: usize, const V: usize> Converter<K, W, V> {
         self.tracker.check(beat)
     }
 
-    /// Takes the next near beat at its place, which [`Converter::check`] gave, and puts the far beats that it completes, at most
-    /// [`WIDEST`], into `out`, an empty list of the caller's.
+    /// Takes the next near beat at its place, which [`Converter::check`] returned. Writes the far
+    /// beats that it completes, at most [`WIDEST`], to the caller's empty list `out`.
     ///
-    /// `home` is read at the first beat of a message on D alone. It may be any number; bytes then go on from lane 0 after the
-    /// last lane.
+    /// `home` is used only on D, at the first beat of a message. It may be any number: the bytes
+    /// then wrap around from the last lane to lane 0. Requires: `W` and `V` are widths, `place` is
+    /// the place of `beat`, and `out` is empty.
     pub fn feed_at(
         &mut self,
         beat: &Beat<K, W>,
@@ -116,19 +123,21 @@ impl<K: Channel, const W: usize, const V: usize> Converter<K, W, V> {
         self.tracker.advance(place);
     }
 
-    /// A beat that may come next has a lawful head, also inside a burst. Nothing is done.
+    /// Lemma: a beat that may come next has a head without a fault, also inside a burst. Does
+    /// nothing.
     fn place_is_lawful(&self, beat: &Beat<K, W>, place: &Place<K>)
         requires width { IsWidth W }
         requires place { IsPlaceOf K.rules W self.now.burst beat.now place.now }
         ensures place { IsPlace K.rules W self.now.burst place.now }
         ensures small { K.rules.size beat.now.head ≤ MAX_SIZE }
     {
-        // (a field is read, so that what holds of every converter is known)
+        // (reading a field makes the invariant of the converter known)
         let _home = self.home;
     }
 
-    /// Takes the next near beat where [`Converter::check`] admits it, and gives the far beats that it completes, at most
-    /// [`WIDEST`]. The home is read as [`Converter::feed_at`] reads it. A refusal changes nothing.
+    /// Takes the next near beat if [`Converter::check`] admits it. Returns the far beats that it
+    /// completes, at most [`WIDEST`]. `home` is used as in [`Converter::feed_at`]. Errors: the
+    /// first fault of the beat; nothing changes. Requires: `W` and `V` are widths.
     pub fn feed(
         &mut self,
         beat: Beat<K, W>,
@@ -166,7 +175,7 @@ impl<K: Channel, const W: usize, const V: usize> Converter<K, W, V> {
         Ok(out)
     }
 
-    /// Whether no burst is unfinished: every message whose first beat was fed is whole.
+    /// Returns whether no burst is unfinished: every message whose first beat was fed is whole.
     pub fn at_boundary(&self) -> bool
         ensures { (bs : List (BeatOf K.Head W)) (homes : List ℕ) →
             StandsFor K.rules self.now bs homes → IsTrue result ↔ (rest_of K.rules W bs ≡ []) }

@@ -9,10 +9,11 @@ use tl_burst::{Place, Tracker};
 use tl_lanes::{beat_bytes, beats_filled};
 use tl_msg::{Beat, Channel};
 
-/// How many far beats a near beat at this place gives: those of its message whose last byte it
-/// brings, and one where its message has no data. At most 128.
+/// Returns the number of far beats that a near beat at this place completes, at most 128: those far
+/// beats of its message whose last byte it carries. A message without data has one far beat.
 ///
-/// The place is the one that `Tracker::check` answers; `far_count` adds these up over a list.
+/// `Tracker::check` returns the place; `far_count` adds these numbers over a list. Requires: `W`
+/// and `V` are widths, and the size of the message is at most 12.
 pub fn far_beats_at<K: Channel, const W: usize, const V: usize>(place: &Place<K>) -> usize
     requires near { IsWidth W }
     requires far { IsWidth V }
@@ -23,10 +24,9 @@ pub fn far_beats_at<K: Channel, const W: usize, const V: usize>(place: &Place<K>
     far_beats_between(place, W, V)
 }
 
-/// How many far beats a near beat at this place gives, as [`far_beats_at`], between two widths that
-/// are numbers.
+/// Returns the same number as [`far_beats_at`], between two widths that are arguments.
 ///
-/// A program that has every pair of widths has this once for each channel.
+/// A program that has every pair of widths contains this function once for each channel.
 pub fn far_beats_between<K: Channel>(place: &Place<K>, near: usize, far: usize) -> usize
     requires near { IsWidth near }
     requires far { IsWidth far }
@@ -49,10 +49,12 @@ pub fn far_beats_between<K: Channel>(place: &Place<K>, near: usize, far: usize) 
     after - before
 }
 
-/// How many far beats a list of near beats gives, up to the first beat that is refused.
+/// Returns the number of far beats that a list of near beats completes, up to the first beat that
+/// is refused.
 ///
-/// The list has at most `2^40` beats. The homes of the messages don't matter here. `accepted_of` is the part of the list that is
-/// counted; `laws::accepted_is_longest` says that it is the longest first part that is handed.
+/// The homes of the messages do not matter. `accepted_of` is the part of the list that is counted;
+/// by `laws::accepted_is_longest` it is the longest first part that is handed. Requires: `W` and
+/// `V` are widths, and the list has at most `2^40` beats.
 pub fn far_count<K: Channel, const W: usize, const V: usize>(beats: &[Beat<K, W>]) -> usize
     requires near { IsWidth W }
     requires far { IsWidth V }
@@ -63,7 +65,7 @@ pub fn far_count<K: Channel, const W: usize, const V: usize>(beats: &[Beat<K, W>
     count_until_refused::<K, W>(Tracker::new(), beats, V)
 }
 
-// The same from a new tracker on, where the far width is a number.
+// The same count, with a new tracker and with the far width as an argument.
 #[inline(never)]
 fn count_until_refused<K: Channel, const W: usize>(
     mut tracker: Tracker<K, W>,

@@ -1,4 +1,4 @@
-//! The far beats that a near beat gives.
+//! The far beats that a near beat completes.
 
 ghost use Rattle.std.specs.Prelude.{◌≡◌, ◌≤◌, ◌<◌, ◌*◌, ◌%◌, ◌^◌, List, [], true, false};
 ghost use Rattle.tl_lanes.specs.declared.limits.TheConstants.{MAX_SIZE};
@@ -12,7 +12,8 @@ use arrayvec::ArrayVec;
 use tl_lanes::{WIDEST, active, beat_bytes};
 use tl_msg::{Beat, Channel};
 
-// The number in its message of the first byte of a near beat, of whose message `index` beats came before.
+// Returns the number, within its message, of the first byte of a near beat, before which `index`
+// beats of the message came.
 fn first_byte<K: Channel, const W: usize>(head: &K::Head, index: u32) -> usize
     requires { IsWidth W × (K.rules.size head.now ≤ MAX_SIZE) }
     ensures is { result ≡ index * per_beat K.rules head.now W }
@@ -22,7 +23,8 @@ fn first_byte<K: Channel, const W: usize>(head: &K::Head, index: u32) -> usize
     index as usize * beat_bytes(K::size(head), W)
 }
 
-// Gives the far beats of a near beat with data, of whose message `index` beats came before.
+// Writes the far beats that a near beat with data completes, before which `index` beats of its
+// message came.
 fn give_data<K: Channel, const W: usize, const V: usize>(
     beat: &Beat<K, W>,
     partial: &mut Beat<K, V>,
@@ -48,7 +50,7 @@ fn give_data<K: Channel, const W: usize, const V: usize>(
     }
 }
 
-// Gives the far beat of a message without data.
+// Writes the far beat of a message without data.
 fn give_head<K: Channel, const V: usize>(
     head: K::Head,
     home: u64,
@@ -64,7 +66,8 @@ fn give_head<K: Channel, const V: usize>(
     out.push(beat);
 }
 
-// Gives the far beats of a near beat, of whose message `index` beats came before. `partial` is the far beat that they have begun.
+// Writes the far beats that a near beat completes, before which `index` beats of its message came.
+// `partial` is the far beat that they have begun.
 pub(crate) fn give<K: Channel, const W: usize, const V: usize>(
     beat: &Beat<K, W>,
     partial: &mut Beat<K, V>,

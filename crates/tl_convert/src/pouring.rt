@@ -1,4 +1,4 @@
-//! How the bytes of a near beat with data get into far beats.
+//! The functions that move the bytes of a near beat with data into far beats.
 
 ghost use Rattle.std.specs.Prelude.{◌≡◌, ◌≤◌, ◌<◌, ◌+◌, ◌/◌, [], min};
 ghost use Rattle.tl_lanes.specs.declared.limits.TheConstants.{MAX_SIZE, WIDEST};
@@ -11,7 +11,8 @@ use arrayvec::ArrayVec;
 use tl_lanes::{WIDEST, beat_bytes, beats_filled, move_lanes, move_mask};
 use tl_msg::{Beat, Channel};
 
-// Puts `count` bytes of a near beat, the first of which has address `at`, into a far beat, with their mask bits and the corrupt bit.
+// Adds `count` bytes of a near beat, the first of which has address `at`, to a far beat, with their
+// mask bits and the corrupt bit.
 pub(crate) fn add_bytes<K: Channel, const W: usize, const V: usize>(
     beat: &Beat<K, W>,
     far: &mut Beat<K, V>,
@@ -28,7 +29,7 @@ pub(crate) fn add_bytes<K: Channel, const W: usize, const V: usize>(
     far.corrupt |= beat.corrupt;
 }
 
-// A far beat with no bytes yet.
+// Returns a far beat without bytes.
 pub(crate) fn blank<K: Channel, const V: usize>(head: K::Head) -> Beat<K, V>
     ensures { IsBlank head result }
 {
@@ -40,7 +41,8 @@ pub(crate) fn blank<K: Channel, const V: usize>(head: K::Head) -> Beat<K, V>
     }
 }
 
-// The bytes of a message of this size that a beat of either width brings at once: as many as the lesser beat has.
+// Returns how many bytes of a message of this size are moved at once: as many as the narrower of
+// the two beats carries.
 fn bytes_on_both<const W: usize, const V: usize>(size: u8) -> usize
     requires { IsWidth W × IsWidth V × (size ≤ MAX_SIZE) }
     ensures bytes { result ≡ min (bytes_per_beat size W) (bytes_per_beat size V) }
@@ -50,8 +52,9 @@ fn bytes_on_both<const W: usize, const V: usize>(size: u8) -> usize
     beat_bytes(size, W).min(beat_bytes(size, V))
 }
 
-// How many far beats a near beat fills, where a far beat has no more bytes: one, known when the program
-// is compiled, where the far bus is as wide.
+// Returns the number of far beats that a near beat fills, if a far beat carries no more bytes than
+// a near one. The number is 1, known at compile time, if the far bus is at least as wide as the
+// near one.
 fn whole_beats<const W: usize, const V: usize>(size: u8) -> usize
     requires { IsWidth W × IsWidth V × (size ≤ MAX_SIZE) }
     ensures count { bytes_per_beat size V ≤ bytes_per_beat size W →
@@ -65,10 +68,10 @@ fn whole_beats<const W: usize, const V: usize>(size: u8) -> usize
     }
 }
 
-// Puts the bytes of a near beat with data into far beats, each of which is then whole: a far beat
-// has no more bytes than a near one. `first` is the number of the beat's first byte in its message.
-// No far beat is begun, so `partial` is blank, and each far beat begins as a copy of it, which is
-// filled where it stands: a beat that is put together in pieces is slow to copy at once.
+// Moves the bytes of a near beat with data into far beats, all of which become whole, because a far
+// beat carries no more bytes than a near one. `first` is the number of the beat's first byte in its
+// message. No far beat is begun, so `partial` is blank. Each far beat begins as a copy of `partial`
+// in `out` and is filled there, because a beat that was written in small pieces is slow to copy.
 pub(crate) fn pour_whole<K: Channel, const W: usize, const V: usize>(
     beat: &Beat<K, W>,
     partial: &Beat<K, V>,
@@ -93,9 +96,9 @@ pub(crate) fn pour_whole<K: Channel, const W: usize, const V: usize>(
     }
 }
 
-// Puts the bytes of a near beat with data beside those of `partial`, the far beat that earlier
-// beats have begun: a far beat has more bytes than a near one. `first` is the number of the beat's
-// first byte in its message. A far beat that becomes whole goes to `out`.
+// Adds the bytes of a near beat with data to `partial`, the far beat that earlier beats have begun:
+// a far beat carries more bytes than a near one. `first` is the number of the beat's first byte in
+// its message. A far beat that becomes whole is moved to `out`.
 pub(crate) fn pour_part<K: Channel, const W: usize, const V: usize>(
     beat: &Beat<K, W>,
     partial: &mut Beat<K, V>,
@@ -112,7 +115,7 @@ pub(crate) fn pour_part<K: Channel, const W: usize, const V: usize>(
     let size = K::size(&beat.head);
     let near = bytes_on_both::<W, V>(size);
     let at = home.wrapping_add(first as u64);
-    // the bytes per beat are a power of two: this is the rest of a division by them
+    // the bytes per beat are a power of two, so this is the remainder of a division by them
     if (first + near) & (beat_bytes(size, V) - 1) != 0 {
         add_bytes::<K, W, V>(beat, partial, at, near);
         return;

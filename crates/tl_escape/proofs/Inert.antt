@@ -1,4 +1,4 @@
--- What stands for a text in a page begins no tag and ends no value.
+-- The escaped form of a text in a page begins no tag and ends no value.
 use Rattle.std.proofs.Common.{◌∷◌, [], ℕ, List, All, arith, ◌≡◌, ◌++◌, ◌+◌, ◌<◌, length, take, ap, ◌∙◌, append_assoc, append-nil, sym}
 use Rattle.std.proofs.Math.ListN.{get_or}
 use Rattle.std.proofs.lemmas.List.{take_more}
@@ -13,7 +13,7 @@ pub inert : (text : List ℕ) → All IsInert (escaped text)
 inert [] = All-nil IsInert
 inert (byte ∷ text) = All-append IsInert (reference byte) (escaped text) (of-byte byte) (inert text)
 
--- a byte more of a text, and what stands for it
+-- one more byte of a text, and its escaped form
 pub longer : (text : List ℕ) (at d : ℕ) → at < length text → (begin held piece new : List ℕ)
     → held ≡ begin ++ escaped (take at text) → piece ≡ reference (get_or text at d) → new ≡ held ++ piece
     → new ≡ begin ++ escaped (take (at + 1) text)

@@ -1,10 +1,10 @@
-//! Text in a page for a browser.
+//! Escapes text for an HTML page.
 ghost use Rattle.std.specs.Prelude.{◌≡◌, ◌++◌, All, OnOk};
 ghost use Rattle.tl_escape.specs.Escaped.{reference, escaped, IsInert};
 
 use std::alloc::AllocError;
 
-/// A byte of a text as it stands in a page.
+/// Returns a byte of a text as it is written in a page.
 fn reference_of(byte: &u8) -> &[u8]
     ensures { result.now ≡ reference byte.now }
 {
@@ -16,9 +16,10 @@ fn reference_of(byte: &u8) -> &[u8]
     }
 }
 
-/// Appends a text as it stands in a page, between tags or in the value of an attribute: no `<`, `&` or `"`
-/// of it comes through (HTML: character references). Refused where there is no memory; some of it may then
-/// be there.
+/// Appends a text, escaped for use between the tags of a page or in the value of an attribute. The
+/// escaped text has no `<` and no `"`, and each `&` in it begins a reference (HTML: character
+/// references). Errors: `AllocError` if the allocator fails; a part of the text may then have been
+/// appended.
 pub fn put_escaped(out: &mut Vec<u8>, text: &[u8]) -> Result<(), AllocError>
     ensures text { OnOk result (out.new.items ≡ out.old.items ++ escaped text.now) }
     ensures inert { All IsInert (escaped text.now) }

@@ -1,4 +1,4 @@
-//! A text that may hold anything as it stands in a page for a browser.
+//! Escapes any text for an HTML page.
 #![tactic(auto)]
 
 mod escape;

@@ -1,4 +1,4 @@
--- What was written block by block.
+-- The output that is written in blocks.
 use Rattle.std.proofs.Common.{ℕ, Bool, true, false, List, [], ◌++◌, Option, refl}
 use Rattle.std.proofs.KnownBytes.{Appends-trans, Appends-nil, Keeps-refl, Keeps-trans}
 use Rattle.std.specs.Io.KnownBytes.{Appends}
@@ -11,12 +11,12 @@ pub begins : (is_page : Bool) (held : Option (List ℕ)) → Continues is_page h
 begins false held = ([], Appends-nil held)
 begins true held = Keeps-refl held
 
--- more was written behind
+-- more was written after it
 pub goes_on : (is_page : Bool) (held mid now : Option (List ℕ)) → Continues is_page held mid → Continues is_page mid now → Continues is_page held now
 goes_on false held mid now before more = (before.0 ++ more.0, Appends-trans held mid now before.0 more.0 before.1 more.1)
 goes_on true held mid now before more = Keeps-trans held mid now before more
 
--- the answer stands behind all sentences
+-- the answer comes after all sentences
 pub explained : (text : List ℕ) (held mid now : Option (List ℕ)) (answer : List ℕ) (done : Bool) → IsAnswer text true answer done
     → Continues false held mid → Appends mid now answer → Explains text held now done
 explained text held mid now answer done is told put =

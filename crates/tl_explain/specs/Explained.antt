@@ -1,5 +1,5 @@
--- What an explanation of a text is proved to be (this project's choice). Its sentences are for readers, and tests show what they say; after them
--- comes the answer of a check: the version and the widths, and how far each channel came.
+-- The proved properties of the explanation of a text (this project's choice). Its sentences are for readers, and are
+-- tested. After them comes the answer of a check: the version and the widths, and the verdict of each channel.
 use Rattle.std.specs.Prelude.{◌≡◌, ◌++◌, ℕ, Bool, true, false, List, Option}
 use Rattle.std.specs.Io.KnownBytes.{Keeps, Appends}
 use Rattle.tl_answer.specs.Texts.{IsAnswer, IsOfText}
@@ -12,12 +12,21 @@ pub record IsExplanation (text : List ℕ) (explanation : List ℕ) (done : Bool
   pub ends : explanation ≡ sentences ++ answer
   pub answered : IsAnswer text true answer done
 
--- what was written is the explanation of a text
+-- the output is the explanation of a text
 abbrev pub Explains : (text : List ℕ) (held holds : Option (List ℕ)) (done : Bool) → Type 0
 Explains text held holds done = (explanation : List ℕ) × IsExplanation text explanation done × Appends held holds explanation
 
--- why a text has no explanation, or no page: a fault of the text, or want of memory, and then nothing was written; or a write failed, which is
--- not tried for a page
+-- the text is a valid trace, and `done` is true if and only if all channels in its answer are done
+abbrev pub HasAnswer : (text : List ℕ) (done : Bool) → Type 0
+HasAnswer text done = (answer : List ℕ) × IsAnswer text true answer done
+
+-- some bytes were written, about which nothing is proved, and `done` says whether all channels are done, as in the
+-- answer of a check
+abbrev pub ShowsAnswer : (text : List ℕ) (held holds : Option (List ℕ)) (done : Bool) → Type 0
+ShowsAnswer text held holds done = (output : List ℕ) × HasAnswer text done × Appends held holds output
+
+-- the reason why a text has no explanation. After a fault of the text or a failed allocation, nothing was written. A
+-- failed write is possible only if no page was requested.
 abbrev pub IsUntold : (is_page : Bool) (text : List ℕ) (held holds : Option (List ℕ)) → TextFault → Type 0
 IsUntold is_page text held holds (faults.Trace fault) = IsOfText text (faults.Trace fault) × Keeps held holds
 IsUntold is_page text held holds faults.Stalled = ⊥

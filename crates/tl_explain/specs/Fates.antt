@@ -1,12 +1,12 @@
--- What came of a near beat (this project's choice), by its number on its channel, from 0, and by the channel's verdict: a verdict counts the beats
--- that were accepted, and the one after them is the one that it speaks of.
+-- The outcome of a near beat (this project's choice), from its number on its channel, from 0, and the channel's
+-- verdict: a verdict counts the accepted beats, and describes the one after them.
 use Rattle.std.specs.Prelude.{ℕ, nat_lt, ◌==◌, if◌then◌else◌}
 use Rattle.tl_msg.specs.declared.verdict.Verdict.{Verdict}
 use Rattle.tl_msg.specs.declared.verdict.Verdict.TheVariants.{Done, Cut, Refused, Waiting}
 use Rattle.tl_explain.specs.declared.fate.Fate.{Fate}
 use Rattle.tl_explain.specs.declared.fate.Fate.TheVariants as fates
 
--- where the channel stops at the beat of this number, which fares so
+-- the outcome of beat `at` of a channel that stops at beat `stop` with this outcome
 abbrev pub fate_beside : (at stop : ℕ) → Fate → Fate
 fate_beside at stop fate = if nat_lt at stop then fates.Accepted else (if at == stop then fate else fates.NotOffered)
 

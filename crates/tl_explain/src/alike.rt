@@ -1,22 +1,23 @@
-//! What the sentences on the beats of a message have alike.
+//! The common text of the sentences on the beats of a message.
 use crate::walk::Brought;
 use crate::words::put_fields;
 use std::alloc::Global;
 use tl_remarks::Piece::{Coloured, Number};
 use tl_remarks::{Colour, Page, Seen};
 
-/// A text around a number, which is kept for other numbers.
+/// A text around a number, which is kept for reuse with other numbers.
 #[derive(Drop)]
 struct Around {
-    /// What stands before the number, and behind it.
+    /// The text before the number, and after it.
     before: Vec<u8>,
     behind: Vec<u8>,
-    /// The line or the far beat that it is of; 0 where none is kept.
+    /// The line of the message, or the number of the far beat from 1, to which the text belongs; 0
+    /// if no text is kept.
     of: u64,
 }
 
 impl Around {
-    /// None is kept.
+    /// Returns an empty value.
     fn new(alloc: Global) -> Around {
         Around {
             before: Vec::new(alloc),
@@ -25,15 +26,15 @@ impl Around {
         }
     }
 
-    /// Writes it around this number.
+    /// Writes the text around this number.
     fn put(&self, out: &mut Page, number: u64) {
         out.put_bytes(&self.before);
         out.put_number(number);
         out.put_bytes(&self.behind);
     }
 
-    /// Keeps what stands on a page from here on, around the number that stands from there to there. None where
-    /// memory was refused.
+    /// Keeps the text of a page from `from` on, around the number between `number` and `behind`.
+    /// Keeps none if the allocator fails.
     fn keep(&mut self, page: &Page, from: usize, number: usize, behind: usize, of: u64) {
         let before = page.text.get(from..number).unwrap_or(&[]);
         self.before.clear();
@@ -44,17 +45,19 @@ impl Around {
     }
 }
 
-/// What the sentences on the beats of a message of several beats have alike: the text around their numbers.
+/// The common text of the sentences on the beats of a message with several beats: the text around
+/// their numbers.
 #[derive(Drop)]
 pub struct Alike {
-    /// The text around the number of the beat, up to what the beat brought, of the message that begins in a line.
+    /// The text around the number of the beat, up to the result of the beat, for the message that
+    /// begins in a line.
     place: Around,
-    /// What is said of a far beat of which bytes are there, around how many.
+    /// The text on a partial far beat, around the number of its bytes.
     staged: Around,
 }
 
 impl Alike {
-    /// Of no message.
+    /// Returns an empty value.
     pub fn new(alloc: Global) -> Alike {
         Alike {
             place: Around::new(alloc),
@@ -62,17 +65,18 @@ impl Alike {
         }
     }
 
-    /// Writes the fields of a beat of the message that begins in this line, which of its beats it is, and that
-    /// it was accepted. Keeps it for the others, of which each is corrupt or not for itself.
+    /// Writes the fields of a beat of the message that begins in this line, its number in the
+    /// message, and that it was accepted. Keeps the text for the other beats, except whether the
+    /// beat is corrupt.
     fn put_place(&mut self, out: &mut Page, beat: &Seen, brought: &Brought, line: u64) {
         if (self.place.of == line) & !beat.corrupt {
-            return self.place.put(out, brought.beat as u64);
+            return self.place.put(out, brought.place());
         }
         let from = out.len();
         put_fields(out, beat);
         out.put_text(", beat ");
         let number = out.len();
-        out.put_number(brought.beat as u64);
+        out.put_number(brought.place());
         let behind = out.len();
         let accepted = Coloured(Colour::Green, "accepted");
         out.say(" of #: #", &[Number(brought.beats as u64), accepted]);
@@ -81,13 +85,14 @@ impl Alike {
         self.staged.of = 0;
     }
 
-    /// Writes how many bytes of this far beat are there, and keeps it.
+    /// Writes how many bytes of far beat `far`, counted from 1, are staged, and keeps the text.
     fn put_staged(&mut self, out: &mut Page, brought: &Brought, far: u64) {
         if self.staged.of == far {
             return self.staged.put(out, brought.staged as u64);
         }
         let from = out.len();
-        out.say(", staged: far beat # has ", &[Number(far)]);
+        let number = Number(far.saturating_sub(1));
+        out.say(", staged: far beat # has ", &[number]);
         let number = out.len();
         out.put_number(brought.staged as u64);
         let behind = out.len();
@@ -95,8 +100,8 @@ impl Alike {
         self.staged.keep(out, from, number, behind, far);
     }
 
-    /// Writes what is said of an accepted beat of the message that begins in this line: its fields, which beat
-    /// it is, and what it brought.
+    /// Writes the sentence on an accepted beat of the message that begins in this line: its fields,
+    /// its number in the message, and its far beats.
     pub fn put(&mut self, out: &mut Page, beat: &Seen, brought: &Brought, line: u64) {
         self.put_place(out, beat, brought, line);
         match brought.staged_far() {

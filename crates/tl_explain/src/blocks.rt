@@ -1,4 +1,4 @@
-//! What goes out while lines are told, block by block.
+//! Output of the sentences in blocks, while lines are processed.
 ghost use Rattle.std.specs.Prelude.{◌≡◌, false, OnOk, IfErr};
 ghost use Rattle.tl_stream.specs.declared.fault.TextFault.TheVariants.{Write as WriteFault};
 ghost use Rattle.tl_explain.specs.Inner.Telling.{Continues};
@@ -12,16 +12,16 @@ use tl_lanes::WIDEST;
 use tl_remarks::Page;
 use tl_trace::LONGEST_LINE;
 
-/// How many bytes are put together before they are written.
+/// The number of bytes that are collected before they are written.
 const BLOCK: usize = 65_536;
 
-/// Room for a block, and for what is said of one line more.
-const ROOM: usize = 2 * BLOCK;
+/// The capacity for a block and for the text on one more line.
+const BLOCK_CAPACITY: usize = 2 * BLOCK;
 
-/// How many bytes the lines of the far beats have at most that one near beat completes.
+/// The largest number of bytes in the lines of the far beats of one near beat.
 const FAR_ROOM: usize = WIDEST * LONGEST_LINE;
 
-/// Writes a page, and lets go of what stands on it.
+/// Writes the text of a buffer, and empties the buffer.
 #[inline(never)]
 fn write_page<W: Write>(page: &mut Page, writer: &mut W) -> Result<(), TextFault>
     ensures out { OnOk result
@@ -34,28 +34,28 @@ fn write_page<W: Write>(page: &mut Page, writer: &mut W) -> Result<(), TextFault
 }
 
 impl Story {
-    /// Takes the memory that telling needs, so that it takes no more where beats are not drawn.
+    /// Allocates all memory that the story needs, if beats are not drawn.
     #[inline(never)]
     pub fn make_room(&mut self, alloc: Global) {
         for _ in LETTERS {
-            self.page.lacks_a_piece |= self.alike.push(Alike::new(alloc)).is_err();
+            self.page.out_of_memory |= self.alike.push(Alike::new(alloc)).is_err();
         }
         if self.drawing.is_wanted {
             return;
         }
-        let page = self.page.text.reserve(ROOM);
+        let page = self.page.text.reserve(BLOCK_CAPACITY);
         let lines = self.lines.reserve(FAR_ROOM);
         // (a channel stops once)
         let stops = self.course.stops.reserve(LETTERS.len());
-        self.page.lacks_a_piece |= page.and(lines).and(stops).is_err();
+        self.page.out_of_memory |= page.and(lines).and(stops).is_err();
     }
 
-    /// Whether there is a block of sentences none of which may be taken back.
+    /// Returns whether there is a block of sentences, none of which can still be removed.
     fn has_block(&self) -> bool {
         self.page.len() >= BLOCK && self.run.count == 0
     }
 
-    /// Writes what is said up to here, where that is a block, but nothing for a page.
+    /// Writes the text so far, if it fills a block; for a page, writes nothing. Errors: `Write`.
     #[inline(always)]
     pub fn write_block<W: Write>(&mut self, is_page: bool, writer: &mut W) -> Result<(), TextFault>
         ensures out { OnOk result
@@ -68,7 +68,7 @@ impl Story {
         write_page(&mut self.page, writer)
     }
 
-    /// Writes what was not written yet, but nothing for a page.
+    /// Writes the text that was not written yet; for a page, writes nothing. Errors: `Write`.
     pub fn write_rest<W: Write>(&mut self, is_page: bool, writer: &mut W) -> Result<(), TextFault>
         ensures out { OnOk result
             (Continues is_page (W.contents writer.old) (W.contents writer.new)) }
@@ -77,7 +77,7 @@ impl Story {
         if is_page {
             return Ok(());
         }
-        if self.page.lacks_a_piece {
+        if self.page.out_of_memory {
             return Err(TextFault::Write);
         }
         write_page(&mut self.page, writer)

@@ -1,4 +1,4 @@
-//! A beat of a channel: what came of it, and the far beats that it completed.
+//! The outcome of a beat of a channel, and the far beats that it completed.
 ghost use Rattle.std.specs.Prelude.{◌≡◌, true};
 ghost use Rattle.tl_lanes.specs.Lanes.{IsWidth};
 
@@ -11,21 +11,21 @@ use tl_msg::{Beat, Channel};
 use tl_remarks::{Told, seen_of};
 use tl_trace::write_far;
 
-/// Whether both are widths.
+/// Returns whether both are widths.
 fn are_widths(w: usize, v: usize) -> bool
     ensures { result ≡ true → IsWidth w × IsWidth v }
 {
     is_width(w) && is_width(v)
 }
 
-/// Puts the far beats that an accepted near beat completes into `far`, in place of what is there.
+/// Replaces the contents of `far` by the far beats that an accepted near beat completes.
 fn feed<K: Channel, const W: usize, const V: usize>(
     converter: &mut Converter<K, W, V>,
     beat: &Beat<K, W>,
     home: u64,
     far: &mut ArrayVec<Beat<K, V>, WIDEST>,
 )
-    // (one clause, since the checker states each by itself at each call)
+    // (one clause, because the checker proves each clause separately at each call)
     requires { IsWidth W × IsWidth V }
 {
     far.clear();
@@ -34,7 +34,8 @@ fn feed<K: Channel, const W: usize, const V: usize>(
     }
 }
 
-/// The same, where both are widths: a test, since as a clause it would be stated at each call.
+/// Does the same as [`feed`] if both are widths. This is a test, because a clause would have to be
+/// proved at each call.
 #[inline(never)]
 fn pass<K: Channel, const W: usize, const V: usize>(
     converter: &mut Converter<K, W, V>,
@@ -47,36 +48,36 @@ fn pass<K: Channel, const W: usize, const V: usize>(
     }
 }
 
-/// Appends the lines of beats. False where that can't be done.
+/// Appends the lines of beats. Returns false if that fails.
 fn write_lines<K: Told, const W: usize>(
     out: &mut Vec<u8>,
     beats: &[Beat<K, W>],
     version: u8,
 ) -> bool {
-    // (tested, too)
+    // (tested here as well)
     is_width(W) && write_far::<K, W>(out, beats, version).is_ok()
 }
 
-/// Keeps the lines of beats, in place of those that were kept.
+/// Keeps the lines of these beats instead of those kept before.
 fn keep_lines<K: Told, const W: usize>(story: &mut Story, beats: &[Beat<K, W>]) {
     story.lines.clear();
     let are_kept = write_lines::<K, W>(&mut story.lines, beats, story.version);
-    story.page.lacks_a_piece |= !are_kept;
+    story.page.out_of_memory |= !are_kept;
 }
 
-/// Writes far beats, where they are shown, each behind four blanks, with their lanes where these are shown; or draws
-/// them. The line of a single one is not copied.
+/// Writes the far beats, if they are shown, each after four spaces, with their lanes if these are
+/// shown; or draws them. The line of a single one is not copied.
 fn put_far<K: Told, const V: usize>(story: &mut Story, far: &[Beat<K, V>]) {
     if far.is_empty() | !story.shows_far() {
         return;
     }
     if (far.len() == 1) & !story.shows_far_lanes() {
         story.page.put_text("    ");
-        story.page.lacks_a_piece |= !write_lines::<K, V>(&mut story.page.text, far, story.version);
+        story.page.out_of_memory |= !write_lines::<K, V>(&mut story.page.text, far, story.version);
         return;
     }
     keep_lines::<K, V>(story, far);
-    // all lines of a channel are of one length
+    // all lines of a channel have the same length
     let length = story.lines.len() / far.len().max(1);
     for number in 0..far.len() {
         story.put_far_line(number, length);
@@ -87,7 +88,7 @@ fn put_far<K: Told, const V: usize>(story: &mut Story, far: &[Beat<K, V>]) {
     }
 }
 
-/// Writes what came of the next near beat, or draws it, and says whether it was accepted.
+/// Writes the outcome of the next near beat, or draws the beat. Returns whether it was accepted.
 fn put_near<K: Told, const W: usize>(story: &mut Story, beat: &Beat<K, W>) -> bool {
     let seen = seen_of::<K, W>(beat, story.version);
     let accepted = story.put_near(&seen, &beat.lanes);
@@ -98,8 +99,8 @@ fn put_near<K: Told, const W: usize>(story: &mut Story, beat: &Beat<K, W>) -> bo
     accepted
 }
 
-/// Writes what came of the next of these beats of a channel, in a line, and below it the far beats that it
-/// completed: the channel's converter makes them, and `far` has room for them.
+/// Writes the outcome of the next of these beats of a channel as one line, and below it the far
+/// beats that it completed. The channel's converter makes them; `far` holds them.
 #[inline(never)]
 pub fn tell<K: Told, const W: usize, const V: usize>(
     story: &mut Story,

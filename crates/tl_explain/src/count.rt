@@ -1,18 +1,18 @@
-//! A number that goes up by one, in decimal digits.
+//! A counter in decimal digits.
 
 /// The most digits that a number has.
 const MOST_DIGITS: usize = 20;
 
-/// A number that goes up by one, in decimal digits.
+/// A counter in decimal digits.
 #[derive(Clone, Copy)]
 pub struct Count {
-    /// The digits with zeros before them, and where the first digit stands.
+    /// The digits with zeros before them, and the index of the first digit.
     digits: [u8; MOST_DIGITS],
     first: usize,
 }
 
 impl Count {
-    /// One.
+    /// Returns the counter at 1.
     pub fn one() -> Count {
         let mut digits = [b'0'; MOST_DIGITS];
         digits[MOST_DIGITS - 1] = b'1';
@@ -22,7 +22,7 @@ impl Count {
         }
     }
 
-    /// Goes up by one.
+    /// Adds one.
     pub fn go_up(&mut self) {
         for back in 1..=MOST_DIGITS {
             let at = MOST_DIGITS - back;
@@ -35,7 +35,7 @@ impl Count {
         }
     }
 
-    /// Its digits.
+    /// Returns its digits.
     pub fn digits(&self) -> &[u8] {
         self.digits.get(self.first..).unwrap_or(&[])
     }

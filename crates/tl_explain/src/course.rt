@@ -1,4 +1,4 @@
-//! How far the lines of a text have come.
+//! The position in the lines of a text.
 use crate::count::Count;
 use crate::fate::Fate;
 use crate::held::Stop;
@@ -10,33 +10,37 @@ use tl_msg::Verdict;
 use tl_remarks::Seen;
 use tl_trace::Header;
 
-/// What came of a near beat.
+/// The outcome of a near beat.
 #[derive(Clone, Copy)]
 pub struct Came {
     pub fate: Fate,
-    /// The line of the request that it begins to answer; 0 where there is none.
+    /// The line of the request whose response it begins; 0 if there is none.
     pub answers: u64,
 }
 
-/// How far the lines of a text have come.
+/// The position in the lines of a text.
 #[derive(Drop)]
 pub struct Course {
     /// The requests of A, and the responses to them.
     pub requests: Requests,
-    /// Where channels stopped, in the order of lines, and whether memory was there for all of it.
+    /// The lines at which channels stopped, in order, and whether the allocator failed for one.
     pub stops: Vec<Stop>,
-    pub lacks_a_stop: bool,
-    /// How far the lines of the channels have come, from A to E, but for the channel of the last line: that
-    /// one's is `walk`, which is of no channel before the first line.
+    pub out_of_memory: bool,
+    /// The positions in the channels, from A to E, except the channel of the last line: that
+    /// position is in `walk`, which belongs to no channel before the first line.
     walks: [Walk; 5],
     pub walk: Walk,
+    /// The bytes of both buses.
+    pub client: usize,
+    pub manager: usize,
     /// The number of the last line, and its digits.
     pub line: u64,
     pub count: Count,
 }
 
 impl Course {
-    /// That before line 2 of a text with this header, whose channels end in these verdicts, from A to E.
+    /// Returns the position before line 2 of a text with this header. `verdicts` are those of the
+    /// channels, from A to E.
     pub fn new(
         alloc: Global,
         header: &Header,
@@ -48,7 +52,7 @@ impl Course {
         Course {
             requests,
             stops: Vec::new(alloc),
-            lacks_a_stop: false,
+            out_of_memory: false,
             walks: [
                 Walk::new(b'A', on_a, c, m),
                 Walk::new(b'B', on_b, m, c),
@@ -57,12 +61,14 @@ impl Course {
                 Walk::new(b'E', on_e, c, 1),
             ],
             walk: Walk::new(b' ', &Verdict::Done { near: 0, far: 0 }, 1, 1),
+            client: c,
+            manager: m,
             line: 1,
             count: Count::one(),
         }
     }
 
-    /// Goes on to the channel with this letter.
+    /// Selects the channel with this letter.
     pub fn turn_to(&mut self, letter: u8) {
         if letter == self.walk.letter {
             return;
@@ -76,24 +82,24 @@ impl Course {
         }
     }
 
-    /// Goes on to the next line, which has this letter.
+    /// Advances to the next line, which has this letter.
     pub fn begin_line(&mut self, letter: u8) {
         self.turn_to(letter);
         self.line = self.line.saturating_add(1);
         self.count.go_up();
     }
 
-    /// Notes that the channel stops at the next near beat, which fares so.
+    /// Records that the channel stops at the next near beat, with this status.
     fn stop(&mut self, how: &'static str) {
         let stop = Stop {
             letter: self.walk.letter,
             line: self.line,
             how,
         };
-        self.lacks_a_stop |= self.stops.push(stop).is_err();
+        self.out_of_memory |= self.stops.push(stop).is_err();
     }
 
-    /// Where the channel with this letter stopped, if it did.
+    /// Returns the stop of the channel with this letter, if it stopped.
     pub fn stop_of(&self, letter: u8) -> Option<Stop> {
         for stop in &self.stops {
             if stop.letter == letter {
@@ -103,24 +109,24 @@ impl Course {
         None
     }
 
-    /// Goes on by the channel's next near beat, and says what came of it.
-    pub fn go_on(&mut self, beat: &Seen) -> Came {
+    /// Advances by the channel's next near beat. Returns its outcome.
+    pub fn advance(&mut self, beat: &Seen) -> Came {
         let fate = self.walk.fate();
         let mut answers = 0;
         if let Fate::Accepted = fate {
             self.walk.accept(beat, self.line);
             if let Some(request) = self.requests.answered_in(self.line) {
                 self.walk.home = request.address;
-                answers = request.line;
             }
+            answers = self.requests.tied_in(self.line);
         } else if let Some(how) = fate.how() {
             self.stop(how);
         }
         Came { fate, answers }
     }
 
-    /// The address by which bytes stand on the lanes of the next near beat. Not known of a response that
-    /// was not accepted.
+    /// Returns the address that determines the lanes of the next near beat. It is not known for a
+    /// response that was not accepted.
     pub fn near_home(&self, beat: &Seen, accepted: bool) -> Option<u64> {
         match (beat.letter, accepted) {
             (b'D', true) => Some(self.walk.home),

@@ -3,47 +3,47 @@ use crate::picture::Picture;
 use std::alloc::Global;
 use tl_remarks::Seen;
 
-/// A beat that is drawn.
+/// A beat in the drawing.
 #[derive(Clone, Copy, Default)]
 pub struct Drawn {
-    /// Whether it arrives, in place of being sent.
+    /// Whether it is a far beat.
     pub is_far: bool,
     pub beat: Seen,
-    /// The line of the first beat of its message; 0 where it was not accepted.
+    /// The line of the first beat of its message; 0 if it was not accepted.
     pub message: u64,
-    /// Which byte of its message is its first one.
+    /// The index, in its message, of its first byte.
     pub first_byte: usize,
-    /// The address by which the bytes of its message stand on lanes. None where that is not known.
+    /// The address that determines the lanes of its message's bytes. `None` if it is not known.
     pub home: Option<u64>,
-    /// Where its lanes stand among the bytes of all beats, and behind them its line.
+    /// The position of its lanes in the bytes of all beats, and of its line after them.
     pub(crate) lanes_from: usize,
     pub(crate) line_from: usize,
     pub(crate) line_to: usize,
 }
 
-/// The beats that are drawn, near beats each before the far beats that they completed.
+/// The beats in the drawing; each near beat comes before the far beats that it completed.
 #[derive(Drop)]
 pub struct Drawing {
     /// Whether beats are drawn at all.
     pub(crate) is_wanted: bool,
     pub(crate) beats: Vec<Drawn>,
-    /// The lanes of each beat, and behind them its line.
+    /// The lanes of each beat, followed by its line.
     bytes: Vec<u8>,
-    pub(crate) lacks_a_piece: bool,
+    pub(crate) out_of_memory: bool,
 }
 
 impl Drawing {
-    /// No beats.
+    /// Returns a drawing without beats.
     pub(crate) fn new(alloc: Global, is_wanted: bool) -> Drawing {
         Drawing {
             is_wanted,
             beats: Vec::new(alloc),
             bytes: Vec::new(alloc),
-            lacks_a_piece: false,
+            out_of_memory: false,
         }
     }
 
-    /// How many beats there are.
+    /// Returns the number of beats.
     pub(crate) fn len(&self) -> usize {
         self.beats.len()
     }
@@ -61,10 +61,10 @@ impl Drawing {
             ..*drawn
         };
         let is_there = self.beats.push(beat).is_ok();
-        self.lacks_a_piece |= !(has_lanes & has_line & is_there);
+        self.out_of_memory |= !(has_lanes & has_line & is_there);
     }
 
-    /// The near beat at this place, and the far beats that it completed.
+    /// Returns the near beat at this index, and the far beats that it completed.
     pub fn beats_at(&self, at: usize) -> &[Drawn] {
         let rest = self.beats.get(at..).unwrap_or(&[]);
         for end in 1..rest.len() {
@@ -75,12 +75,12 @@ impl Drawing {
         rest
     }
 
-    /// The line of a beat, without its LF.
+    /// Returns the line of a beat, without its LF.
     pub fn line(&self, beat: &Drawn) -> &[u8] {
         self.bytes.get(beat.line_from..beat.line_to).unwrap_or(&[])
     }
 
-    /// The lanes of a beat, where it has a mask or data and it is known which of them bytes stand on.
+    /// Returns the lanes of a beat, if it has a mask or data and the lanes of its bytes are known.
     pub fn picture(&self, beat: &Drawn) -> Option<Picture<'_>> {
         let lanes = self.bytes.get(beat.lanes_from..beat.line_from);
         Picture::of(&beat.beat, lanes.unwrap_or(&[]), beat.home?)

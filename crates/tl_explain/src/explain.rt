@@ -1,5 +1,5 @@
-//! From a text to what came of each of its lines. (No function of a pair of widths is inlined into another one: LLVM would take longer for
-//! eight large functions than for many small ones.)
+//! From a text to the outcome of each of its lines. (No function of a pair of widths is inlined
+//! into another one, because LLVM takes longer for eight large functions than for many small ones.)
 ghost use Rattle.std.specs.Prelude.{◌≡◌, ◌≤◌, ◌++◌, true, false, length, IfOk, OnOk, IfErr};
 ghost use Rattle.std.specs.List.{list_all};
 ghost use Rattle.tl_lanes.specs.Lanes.{IsWidth};
@@ -9,7 +9,7 @@ ghost use Rattle.tl_answer.specs.Answer.{far_header, report, is_done};
 ghost use Rattle.tl_answer.specs.Texts.{IsAnswer};
 ghost use Rattle.tl_stream.specs.Inputs.{most_bytes};
 ghost use Rattle.tl_stream.specs.declared.fault.TextFault.TheVariants.{OutOfMemory as NoMemory, Write as WriteFault};
-ghost use Rattle.tl_explain.specs.Explained.{Explains, IsUntold};
+ghost use Rattle.tl_explain.specs.Explained.{Explains, ShowsAnswer, IsUntold};
 ghost use Rattle.tl_explain.specs.Inner.Telling.{Continues, Tells};
 
 use crate::channel::tell;
@@ -29,9 +29,9 @@ use tl_msg::{Beat, ChA, ChB, ChC, ChD, ChE, Verdict};
 use tl_remarks::notes_of;
 use tl_trace::{Header, Script, TraceFault, TraceKind, header_of_text, read_script};
 
-/// Tells what came of the beats of a script, and writes it block by block, but nothing of it for a page. Each
-/// channel has a converter, and room for the far beats that one near beat completes. A beat of E has nothing on
-/// its lanes, so a bus of one byte stands for any that it goes to.
+/// Describes the outcome of the beats of a script, and writes it in blocks; for a page, writes
+/// nothing. Each channel has a converter, and a list for the far beats of one near beat. A beat of
+/// E has nothing on its lanes, so a bus of one byte is used for any width.
 #[inline(never)]
 fn tell_all<W: Write, const C: usize, const M: usize>(
     story: &mut Story,
@@ -68,7 +68,7 @@ fn tell_all<W: Write, const C: usize, const M: usize>(
     story.write_rest(is_page, writer)
 }
 
-/// What the beats wait for that wait on D and on A.
+/// Returns the beats that were not accepted and for which the waiting beats of D and of A wait.
 #[inline(never)]
 fn held_in<const C: usize, const M: usize>(
     letters: &[u8],
@@ -86,8 +86,8 @@ fn held_in<const C: usize, const M: usize>(
     }
 }
 
-/// What is told of a text that tells this script, of which no line is told yet. Where beats are not drawn, it has
-/// the memory that telling takes, or lacks a piece.
+/// Creates the story of this script's text; no line has been written yet. If beats are not drawn,
+/// all memory that it needs is allocated here, and a failure is recorded.
 #[inline(never)]
 fn story_of<const C: usize, const M: usize>(
     alloc: Global,
@@ -96,6 +96,7 @@ fn story_of<const C: usize, const M: usize>(
     verdicts: &[Verdict; 5],
     version: u8,
     look: &Look,
+    times: &[u8],
 ) -> Story
     requires { IsWidth C × IsWidth M }
 {
@@ -105,19 +106,20 @@ fn story_of<const C: usize, const M: usize>(
         manager: M,
     };
     let letters = letters_of(alloc, text, &header);
-    let noted = notes_of::<C, M>(alloc, &letters.text, script, verdicts, look.remarks);
+    let (remarks, in_order) = (look.remarks, look.in_order);
+    let noted = notes_of::<C, M>(alloc, &letters.text, script, verdicts, remarks, in_order);
     let held = held_in::<C, M>(&letters.text, script, verdicts);
-    Story::new(alloc, &header, look, verdicts, letters, noted, held)
+    Story::new(alloc, &header, look, verdicts, letters, noted, held, times)
 }
 
-/// The verdicts on the channels of a script, from A to E, and the answer of a check to it.
+/// The verdicts of the channels of a script, from A to E, and the answer of a check.
 #[derive(Drop)]
 struct Checked {
     verdicts: [Verdict; 5],
     answer: Answer,
 }
 
-/// The same, of which the verdicts are there.
+/// Returns these verdicts and the answer that reports them. Errors: `OutOfMemory`.
 #[inline(never)]
 fn with_answer(
     alloc: Global,
@@ -137,7 +139,8 @@ fn with_answer(
     Ok(Checked { verdicts, answer })
 }
 
-/// The verdicts and the answer for a text of this version that tells this script.
+/// Returns the verdicts and the answer for the text of this script, in this version. Errors:
+/// `OutOfMemory`.
 #[inline(never)]
 fn answer_to<const C: usize, const M: usize>(
     alloc: Global,
@@ -158,15 +161,16 @@ fn answer_to<const C: usize, const M: usize>(
     with_answer(alloc, verdicts, version, C, M)
 }
 
-/// What is told of a text, as far as it is not written yet, and the answer of a check to it.
+/// The part of a text's story that is not written yet, and the answer of a check.
 #[derive(Drop)]
 pub struct Telling {
     pub story: Story,
     pub answer: Answer,
 }
 
-/// That of a text of this version that tells this script, of which no line is told yet. Whatever lacks memory does
-/// so here, or, where beats are drawn, before anything is written.
+/// Creates the story and the answer for the text of this script, in this version; no line has been
+/// written yet. Errors: `OutOfMemory`. Any allocation failure is reported here or, if beats are
+/// drawn, before the first write.
 #[inline(never)]
 fn begin<const C: usize, const M: usize>(
     alloc: Global,
@@ -174,6 +178,7 @@ fn begin<const C: usize, const M: usize>(
     script: &Script<C, M>,
     version: u8,
     look: &Look,
+    times: &[u8],
 ) -> Result<Telling, TextFault>
     requires { IsWidth C × IsWidth M × (length text.now ≤ most_bytes) ×
         TellsScript version text.now script.now }
@@ -182,14 +187,14 @@ fn begin<const C: usize, const M: usize>(
     ensures err { IfErr result (λ fault. fault ≡ NoMemory) }
 {
     let Checked { verdicts, answer } = answer_to::<C, M>(alloc, text, script, version)?;
-    let story = story_of::<C, M>(alloc, text, script, &verdicts, version, look);
-    if story.page.lacks_a_piece {
+    let story = story_of::<C, M>(alloc, text, script, &verdicts, version, look, times);
+    if story.page.out_of_memory {
         return Err(TextFault::OutOfMemory);
     }
     Ok(Telling { story, answer })
 }
 
-/// Tells a text of this version that tells this script.
+/// Explains the text of this script, in this version.
 #[inline(never)]
 fn with_script<W: Write, const C: usize, const M: usize>(
     alloc: Global,
@@ -197,42 +202,46 @@ fn with_script<W: Write, const C: usize, const M: usize>(
     script: &Script<C, M>,
     version: u8,
     look: &Look,
+    times: &[u8],
     writer: &mut W,
 ) -> Result<Telling, TextFault>
     requires { IsWidth C × IsWidth M × (length text.now ≤ most_bytes) ×
         TellsScript version text.now script.now }
     ensures { Tells look.now.page text.now (W.contents writer.old) (W.contents writer.new) result }
 {
-    let mut telling = begin::<C, M>(alloc, text, script, version, look)?;
+    let mut telling = begin::<C, M>(alloc, text, script, version, look, times)?;
     tell_all::<W, C, M>(&mut telling.story, script, look.page, writer)?;
     Ok(telling)
 }
 
-/// Tells a text whose header names this version and these widths.
+/// Explains a text whose header has this version and these widths.
 #[inline(never)]
 fn with_widths<W: Write, const C: usize, const M: usize>(
     alloc: Global,
     text: &[u8],
     version: u8,
     look: &Look,
+    times: &[u8],
     writer: &mut W,
 ) -> Result<Telling, TextFault>
     requires { HasHeader text.now version C M × (length text.now ≤ most_bytes) }
     ensures { Tells look.now.page text.now (W.contents writer.old) (W.contents writer.new) result }
 {
     let script = read_script::<C, M>(alloc, text, version)?;
-    let telling = with_script::<W, C, M>(alloc, text, &script, version, look, writer);
+    let telling = with_script::<W, C, M>(alloc, text, &script, version, look, times, writer);
     drop(script);
     telling
 }
 
-/// The same, for a client of `C` bytes: the manager's width is one of eight.
+/// Explains a text whose header has this version and these widths: `C` bytes for the client, and
+/// `manager` bytes for the manager.
 fn with_client<W: Write, const C: usize>(
     alloc: Global,
     text: &[u8],
     version: u8,
     manager: usize,
     look: &Look,
+    times: &[u8],
     writer: &mut W,
 ) -> Result<Telling, TextFault>
     requires { HasHeader text.now version C manager × (length text.now ≤ most_bytes) }
@@ -240,18 +249,19 @@ fn with_client<W: Write, const C: usize>(
 {
     at_width!(
         manager,
-        with_widths::<W, C, _>(alloc, text, version, look, writer)
+        with_widths::<W, C, _>(alloc, text, version, look, times, writer)
     )
 }
 
-/// Tells a text, and writes what is told block by block, but nothing of it for a page.
+/// Explains a text, and writes the sentences in blocks; for a page, writes nothing.
 ///
-/// Refused with `Trace` and the text's first fault and its line, or with `OutOfMemory`, before anything is
-/// written, and with `Write` as `write_all` is.
+/// Errors, before anything is written: `Trace` with the text's first fault and its line, or
+/// `OutOfMemory`. Also `Write`, as for `write_all`.
 pub fn telling_of<W: Write>(
     alloc: Global,
     text: &[u8],
     look: &Look,
+    times: &[u8],
     writer: &mut W,
 ) -> Result<Telling, TextFault>
     requires few { length text.now ≤ most_bytes }
@@ -265,24 +275,34 @@ pub fn telling_of<W: Write>(
     };
     at_width!(
         header.client,
-        with_client::<W, _>(alloc, text, header.version, header.manager, look, writer)
+        with_client::<W, _>(
+            alloc,
+            text,
+            header.version,
+            header.manager,
+            look,
+            times,
+            writer
+        )
     )
 }
 
-/// Writes what came of each line of a text, in the order of its lines, and then the answer that
-/// `tlbridge check` gives to it: true where all five channels are done.
+/// Writes a sentence on each line of a text that is shown, in the order of the lines, and then the
+/// answer of `tlbridge check`. Returns true if and only if all five channels are done. `times` has
+/// the time of each beat, or is empty.
 ///
-/// A line has a sentence: whether its beat was accepted, and which far beats it completed, or how
-/// much of the next one is there; or why it was refused, or waits, or was not offered. Below an
-/// accepted one stand the lines of the far beats that it completed, each behind four spaces.
+/// The sentence says whether the beat was accepted. If so, it says which far beats the beat
+/// completed, or how many bytes of the next one are staged. Otherwise it says why the beat was
+/// refused, waits, or was not offered. The lines of the far beats follow, each after four spaces.
 ///
-/// Refused with `Trace` and the text's first fault and its line, or with `OutOfMemory`, before anything is
-/// written. Refused with `Write` where a write fails, is interrupted or takes no byte; after it, it isn't
-/// said how much went out.
+/// Errors, before anything is written: `Trace` with the text's first fault and its line, or
+/// `OutOfMemory`. Also `Write` if a write fails, is interrupted or takes no byte; an unknown number
+/// of bytes may then have been written.
 pub fn explain_to<W: Write>(
     alloc: Global,
     text: &[u8],
     look: &Look,
+    times: &[u8],
     writer: &mut W,
 ) -> Result<bool, TextFault>
     requires few { length text.now ≤ most_bytes }
@@ -293,9 +313,37 @@ pub fn explain_to<W: Write>(
 {
     let look = Look {
         page: false,
+        json: false,
         ..*look
     };
-    let telling = telling_of::<W>(alloc, text, &look, writer)?;
+    let telling = telling_of::<W>(alloc, text, &look, times, writer)?;
     write_all(writer, &telling.answer.text)?;
     Ok(telling.answer.all_done)
+}
+
+/// Writes the outcome of each line of a text as JSON Lines: an object for each line that is shown,
+/// in the order of the lines, and one for the whole trace. Returns true if and only if all five
+/// channels are done. Errors: as for `explain_to`.
+pub fn records_to<W: Write>(
+    alloc: Global,
+    text: &[u8],
+    look: &Look,
+    times: &[u8],
+    writer: &mut W,
+) -> Result<bool, TextFault>
+    requires few { length text.now ≤ most_bytes }
+    ensures ok { IfOk result
+        (ShowsAnswer text.now (W.contents writer.old) (W.contents writer.new)) }
+    ensures err { IfErr result
+        (IsUntold false text.now (W.contents writer.old) (W.contents writer.new)) }
+{
+    let look = Look {
+        page: false,
+        json: true,
+        colour: false,
+        ..*look
+    };
+    let telling = telling_of::<W>(alloc, text, &look, times, writer)?;
+    let all_done = telling.answer.all_done;
+    Ok(all_done)
 }

@@ -1,25 +1,25 @@
-//! What came of a near beat, by the verdict on its channel.
+//! The outcome of a near beat, from the verdict of its channel.
 ghost use Rattle.std.specs.Prelude.{◌≡◌};
 ghost use Rattle.tl_explain.specs.Fates.{fate_beside, fate_of};
 
 use crate::story::Fares;
 use tl_msg::{SideFault, Verdict};
 
-/// What came of a near beat.
+/// The outcome of a near beat.
 #[derive(Clone, Copy)]
 pub enum Fate {
     /// Its side accepted it.
     Accepted,
-    /// It breaks a rule of the link, for good.
+    /// It breaks a rule of the link, and is refused permanently.
     Refused(SideFault),
-    /// It would be accepted once the other channel goes on, which it does not.
+    /// It would be accepted after the other channel advanced, which does not happen.
     Waiting(SideFault),
-    /// A beat before it on its channel was not accepted, so it never came to its turn.
+    /// A beat before it on its channel was not accepted, so it was never offered.
     NotOffered,
 }
 
 impl Fate {
-    /// How a beat fares at which its channel stops.
+    /// Returns the word for the status of a beat at which its channel stops.
     pub fn how(&self) -> Option<&'static str> {
         match self {
             Fate::Refused(_) => Some("was refused"),
@@ -28,7 +28,7 @@ impl Fate {
         }
     }
 
-    /// How a beat fares.
+    /// Returns the status of a beat.
     pub fn fares(&self) -> Fares {
         match self {
             Fate::Accepted => Fares::Accepted,
@@ -39,7 +39,8 @@ impl Fate {
     }
 }
 
-/// What came of a beat with `at` before it, where its channel stops at the one of number `stop`, which fares so.
+/// Returns the outcome of beat number `at` of a channel, if the channel stops at beat number `stop`
+/// with the outcome `fate`.
 fn fate_beside(at: u64, stop: u64, fate: Fate) -> Fate
     ensures { result ≡ fate_beside at stop fate }
 {
@@ -52,7 +53,7 @@ fn fate_beside(at: u64, stop: u64, fate: Fate) -> Fate
     }
 }
 
-/// What came of the beat before which there are `at` on its channel.
+/// Returns the outcome of beat number `at`, from 0, of a channel with this verdict.
 pub fn fate_at(at: u64, verdict: &Verdict) -> Fate
     ensures { result ≡ fate_of at verdict.now }
 {

@@ -1,4 +1,4 @@
-//! The faults of a beat in sentences: which field, what it is, and what it has to be.
+//! The faults of a beat in sentences: the field, its value, and the value that it must have.
 use crate::lane_list::{lanes_of, put_lanes};
 use crate::walk::Walk;
 use crate::words::name_of;
@@ -7,7 +7,7 @@ use tl_msg::{BeatFault, Kind};
 use tl_remarks::Piece::{self, Address, Id, Length, Letter, Number, Text};
 use tl_remarks::{Page, Seen};
 
-/// What is wrong with the opcode.
+/// Returns the sentence on a wrong opcode.
 fn opcode_fault(letter: u8) -> &'static str {
     match letter {
         b'C' => "the opcode is #, but channel # has only the opcodes 0, 1, 2 and 4 to 7",
@@ -16,7 +16,7 @@ fn opcode_fault(letter: u8) -> &'static str {
     }
 }
 
-/// What is wrong with the param, of so many that the message has.
+/// Returns the sentence on a wrong param of a message that has `params` params.
 fn param_fault(params: u8) -> &'static str {
     if params < 2 {
         "the param is #, but # has only the param 0"
@@ -25,7 +25,8 @@ fn param_fault(params: u8) -> &'static str {
     }
 }
 
-/// What is wrong with a field of a beat, but the mask, in a sentence, and what each `#` in it stands for.
+/// Returns the sentence on a wrong field of a beat, except the mask, and the pieces that replace
+/// each `#` in it.
 fn field_fault(beat: &Seen, fault: BeatFault) -> (&'static str, [Piece<'static>; 3]) {
     let none = Text("");
     match fault {
@@ -49,7 +50,7 @@ fn field_fault(beat: &Seen, fault: BeatFault) -> (&'static str, [Piece<'static>;
             (rule, [Number(beat.size as u64), none, none])
         }
         BeatFault::Unaligned => {
-            let rule = "the address # is no multiple of the message's #";
+            let rule = "the address # is not a multiple of the message's #";
             (rule, [Address(beat.address), Length(beat.size), none])
         }
         _ => {
@@ -59,7 +60,8 @@ fn field_fault(beat: &Seen, fault: BeatFault) -> (&'static str, [Piece<'static>;
     }
 }
 
-/// The lanes of a mask that are wrong, where a message has these active lanes, and the rule that it breaks.
+/// Returns the wrong lanes of a mask, if a message has these active lanes, and the rule that it
+/// breaks.
 fn mask_rule(beat: &Seen, lanes: Mask) -> (Mask, &'static str) {
     if beat.kind.is_some_and(Kind::is_partial) {
         let rule = ", but it may have active lanes alone, which are ";
@@ -70,7 +72,7 @@ fn mask_rule(beat: &Seen, lanes: Mask) -> (Mask, &'static str) {
     }
 }
 
-/// Writes what is wrong with the mask on `w` lanes.
+/// Writes the sentence on a wrong mask on `w` lanes.
 fn put_mask(out: &mut Page, beat: &Seen, w: usize) {
     let Some(lanes) = lanes_of(beat.address, beat.size, w) else {
         return out.put_text("the mask is wrong");
@@ -82,7 +84,7 @@ fn put_mask(out: &mut Page, beat: &Seen, w: usize) {
     put_lanes(out, lanes);
 }
 
-/// The fields of a head, which all beats of a burst repeat.
+/// The fields of a head. All beats of a burst repeat them.
 const FIELDS: [&str; 7] = [
     "the opcode",
     "the param",
@@ -93,7 +95,7 @@ const FIELDS: [&str; 7] = [
     "denied",
 ];
 
-/// The same fields of a beat.
+/// Returns the same fields of a beat.
 fn fields_of(beat: &Seen) -> [u64; 7] {
     [
         beat.opcode as u64,
@@ -106,7 +108,8 @@ fn fields_of(beat: &Seen) -> [u64; 7] {
     ]
 }
 
-/// The place of the first one that is not as it was; that of the last one where all before it are.
+/// Returns the index of the first field that has changed; the index of the last field if none
+/// before it has.
 fn changed_field(is: [u64; 7], was: [u64; 7]) -> usize {
     for at in 0..6 {
         if is[at] != was[at] {
@@ -116,7 +119,7 @@ fn changed_field(is: [u64; 7], was: [u64; 7]) -> usize {
     6
 }
 
-/// The field at this place in words.
+/// Returns the field at this index in words.
 fn field_at(at: usize, fields: [u64; 7], version: u8) -> Piece<'static> {
     let field = fields.get(at).copied().unwrap_or(0);
     match at {
@@ -126,7 +129,8 @@ fn field_at(at: usize, fields: [u64; 7], version: u8) -> Piece<'static> {
     }
 }
 
-/// Writes which field of a beat is not that of its burst's first beat, what it is, and what it was.
+/// Writes which field of a beat differs from that of its burst's first beat, its value, and the
+/// first one.
 fn put_change(out: &mut Page, beat: &Seen, walk: &Walk) {
     let (is, was) = (fields_of(beat), fields_of(&walk.first));
     let at = changed_field(is, was);
@@ -141,7 +145,7 @@ fn put_change(out: &mut Page, beat: &Seen, walk: &Walk) {
     );
 }
 
-/// Writes what is wrong with the next near beat of a channel.
+/// Writes the sentence on the fault of the next near beat of a channel.
 pub fn put_beat_fault(out: &mut Page, beat: &Seen, fault: BeatFault, walk: &Walk) {
     match fault {
         BeatFault::Mask => put_mask(out, beat, walk.w),

@@ -4,8 +4,8 @@ use tl_msg::{Beat, SourceId, Verdict};
 use tl_remarks::Piece::{Letter, Number, Text};
 use tl_remarks::{Cursor, Page, Told, accepted};
 
-/// Where a channel stopped: its letter, the line of the first beat that it did not accept, and how that
-/// one fares.
+/// The stop of a channel: its letter, the line of the first beat that it did not accept, and the
+/// status of that beat.
 #[derive(Clone, Copy, Default)]
 pub struct Stop {
     pub letter: u8,
@@ -14,19 +14,19 @@ pub struct Stop {
 }
 
 impl Stop {
-    /// Writes the line, and how its beat fares.
+    /// Writes the line and the status of its beat.
     pub fn put(&self, out: &mut Page) {
         out.say("line # #", &[Number(self.line), Text(self.how)]);
     }
 
-    /// Writes the same behind the channel's letter.
+    /// Writes the same after the channel's letter.
     pub fn put_with_letter(&self, out: &mut Page) {
         out.say(", # since ", &[Letter(self.letter)]);
         self.put(out);
     }
 }
 
-/// A beat that its channel did not accept: its line, and where its channel stopped.
+/// A beat that its channel did not accept: its line, and the stop of its channel.
 #[derive(Clone, Copy)]
 pub struct Held {
     line: u64,
@@ -34,7 +34,7 @@ pub struct Held {
 }
 
 impl Held {
-    /// Writes its line, and how it fares.
+    /// Writes its line and its status.
     pub fn put(&self, out: &mut Page) {
         if self.line == self.stop.line {
             return out.say("# #", &[Number(self.line), Text(self.stop.how)]);
@@ -44,7 +44,7 @@ impl Held {
     }
 }
 
-/// The source of the beat that waits on a channel, where one does.
+/// Returns the source of the beat that waits on a channel, if one waits.
 #[inline(never)]
 pub fn waiting_source<K: Told, const W: usize>(
     verdict: &Verdict,
@@ -56,7 +56,7 @@ pub fn waiting_source<K: Told, const W: usize>(
     }
 }
 
-/// The line of the beat before which there are so many on the channel with this letter.
+/// Returns the line of the beat after the first `before` beats of the channel with this letter.
 fn line_of(letters: &[u8], letter: u8, before: usize) -> u64 {
     let mut cursor = Cursor::default();
     for _ in 0..=before {
@@ -65,7 +65,8 @@ fn line_of(letters: &[u8], letter: u8, before: usize) -> u64 {
     cursor.line()
 }
 
-/// The beat before which there are so many on the channel with this letter, which stopped before it or at it.
+/// Returns the beat after the first `before` beats of the channel with this letter, if the channel
+/// stopped at it or before it.
 fn held_at(letters: &[u8], letter: u8, verdict: &Verdict, before: usize) -> Option<Held> {
     let stopped = accepted(verdict);
     let how = fate_at(stopped as u64, verdict).how()?;
@@ -79,8 +80,8 @@ fn held_at(letters: &[u8], letter: u8, verdict: &Verdict, before: usize) -> Opti
     })
 }
 
-/// The first beat of this source that its channel did not accept, and that asks on A or answers on D;
-/// none where no source is asked for.
+/// Returns the first beat of this source that its channel did not accept, and that is a request on
+/// A or a response on D. Returns `None` if no source is given.
 #[inline(never)]
 pub fn held_of<K: Told, const W: usize>(
     letters: &[u8],

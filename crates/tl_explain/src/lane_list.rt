@@ -2,8 +2,8 @@
 use tl_lanes::{MAX_SIZE, Mask, WIDEST, active, is_width};
 use tl_remarks::Page;
 
-/// The lanes of a bus of `w` bytes that the bytes of a message of `2^size` bytes at this address stand
-/// on. None where there is no such message or no such bus.
+/// Returns the lanes of a message of `2^size` bytes at this address, on a bus of `w` bytes. Returns
+/// `None` if there is no such message or no such bus.
 pub fn lanes_of(address: u64, size: u8, w: usize) -> Option<Mask> {
     if size > MAX_SIZE || !is_width(w) {
         return None;
@@ -11,7 +11,7 @@ pub fn lanes_of(address: u64, size: u8, w: usize) -> Option<Mask> {
     Some(active(address, size, w))
 }
 
-/// Whether a mask has this lane. False past the last one.
+/// Returns whether a mask has this lane; false after the last lane.
 pub fn has_lane(mask: Mask, lane: usize) -> bool {
     lane < WIDEST && (mask >> lane) & 1 == 1
 }

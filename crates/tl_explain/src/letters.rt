@@ -9,8 +9,8 @@ use tl_msg::{ChA, ChB, ChC, ChD, ChE};
 use tl_remarks::Page;
 use tl_trace::{Header, LONGEST_LINE, line_end, line_of};
 
-/// The line with this letter of a beat in which all is 0, on `W` lanes, in a trace of this version, with
-/// its LF; nothing where no channel has the letter.
+/// Returns the line with this letter of a beat of zeros, on `W` lanes, in a trace of this version,
+/// with its LF. Empty if no channel has the letter.
 fn form_on<const W: usize>(letter: u8, version: u8) -> ArrayVec<u8, LONGEST_LINE>
     requires { IsWidth W }
 {
@@ -24,7 +24,7 @@ fn form_on<const W: usize>(letter: u8, version: u8) -> ArrayVec<u8, LONGEST_LINE
     }
 }
 
-/// The form of the lines with this letter in a trace with this header.
+/// Returns the form of the lines with this letter in a trace with this header.
 pub fn form_of(letter: u8, header: &Header) -> ArrayVec<u8, LONGEST_LINE> {
     let width = match letter {
         b'B' | b'D' => header.manager,
@@ -33,12 +33,12 @@ pub fn form_of(letter: u8, header: &Header) -> ArrayVec<u8, LONGEST_LINE> {
     at_width!(width, form_on::<_>(letter, header.version))
 }
 
-/// How long the lines with this letter are in a trace with this header, with their LF.
+/// Returns the length of the lines with this letter in a trace with this header, with their LF.
 fn length_of(letter: u8, header: &Header) -> usize {
     form_of(letter, header).len().max(1)
 }
 
-/// A page with the letters that the lines of a trace with this header begin with, from line 2 on.
+/// Returns the first letters of the lines of a trace with this header, from line 2 on.
 pub fn letters_of(alloc: Global, text: &[u8], header: &Header) -> Page {
     let lengths = [
         length_of(b'A', header),

@@ -1,4 +1,4 @@
-//! A line of another length than its form: which other form it has.
+//! Other forms that a line of the wrong length has.
 use crate::places::{put_blank_end, put_expected};
 use crate::story::LETTERS;
 use std::alloc::Global;
@@ -7,7 +7,7 @@ use tl_remarks::Page;
 use tl_remarks::Piece::{Letter, Number, Text};
 use tl_trace::{Header, header_of_text, id_digits, read};
 
-/// A page with the header of a trace.
+/// Returns a buffer with the header of a trace.
 pub fn header_page(alloc: Global, header: &Header) -> Page {
     let mut page = Page::new(alloc, false);
     page.say(
@@ -21,36 +21,37 @@ pub fn header_page(alloc: Global, header: &Header) -> Page {
     page
 }
 
-/// Whether a text is a trace.
+/// Returns whether a text is a valid trace.
 pub fn is_trace(alloc: Global, text: &[u8]) -> bool {
     read(alloc, text).is_ok()
 }
 
-/// Whether a trace of this header can have this line behind this letter.
+/// Returns whether a trace with this header can have this line, if it began with this letter.
 fn fits(out: &mut Page, alloc: Global, header: &Header, letter: u8, line: &[u8]) -> bool {
     let mut trace = header_page(alloc, header);
     trace.put_bytes(&[b'\n', letter]);
     trace.put_bytes(line.get(1..).unwrap_or(&[]));
     trace.put_bytes(b"\n");
-    out.lacks_a_piece |= trace.lacks_a_piece;
+    out.out_of_memory |= trace.out_of_memory;
     is_trace(alloc, &trace.text)
 }
 
-/// Writes that the line has the form of the other version, in which ids have other digits, if it has.
+/// Writes that the line has the form of the other version, with another number of id digits, if
+/// that is so. Returns whether it is.
 fn put_version(out: &mut Page, alloc: Global, header: &Header, letter: u8, line: &[u8]) -> bool {
     let version = if header.version == 1 { 2 } else { 1 };
     let other = Header { version, ..*header };
     let is_like = fits(out, alloc, &other, letter, line);
     if is_like {
         out.say(
-            "; it has the form of version #, where an id has # digits",
+            "; it has the form of version #, in which an id has # digits",
             &[Number(version as u64), Number(id_digits(version) as u64)],
         );
     }
     is_like
 }
 
-/// The width of the bus on which the line has the form of its channel; 0 where there is none.
+/// Returns the width of the bus on which the line has the form of its channel; 0 if there is none.
 fn width_of(out: &mut Page, alloc: Global, header: &Header, letter: u8, line: &[u8]) -> usize {
     for power in 0..=WIDEST_POWER {
         let width = 1usize << power;
@@ -66,7 +67,7 @@ fn width_of(out: &mut Page, alloc: Global, header: &Header, letter: u8, line: &[
     0
 }
 
-/// The side that sends on the channel with this letter, and its width.
+/// Returns the side that sends on the channel with this letter, and its width.
 fn side_of(header: &Header, letter: u8) -> (&'static str, usize) {
     match letter {
         b'B' | b'D' => ("manager", header.manager),
@@ -74,8 +75,8 @@ fn side_of(header: &Header, letter: u8) -> (&'static str, usize) {
     }
 }
 
-/// Writes that the line has the form of its channel at another width, if it has, and where the header
-/// may have meant bits, that too.
+/// Writes that the line has the form of its channel at another width, if that is so, and whether
+/// the header gave this width in bits. Returns whether the line has that form.
 fn put_width(out: &mut Page, alloc: Global, header: &Header, letter: u8, line: &[u8]) -> bool {
     let width = width_of(out, alloc, header, letter, line);
     if width == 0 {
@@ -94,7 +95,7 @@ fn put_width(out: &mut Page, alloc: Global, header: &Header, letter: u8, line: &
     true
 }
 
-/// Writes that the line has the form of another channel, if it has.
+/// Writes that the line has the form of another channel, if that is so. Returns whether it is.
 fn put_channel(out: &mut Page, alloc: Global, header: &Header, line: &[u8]) -> bool {
     for letter in LETTERS {
         if fits(out, alloc, header, *letter, line) {
@@ -105,25 +106,26 @@ fn put_channel(out: &mut Page, alloc: Global, header: &Header, line: &[u8]) -> b
     false
 }
 
-/// Writes that the line is like one of another version, width or channel, if it is.
+/// Writes that the line has the form of another version, width or channel, if that is so. Returns
+/// whether it is.
 fn put_alike(out: &mut Page, alloc: Global, header: &Header, letter: u8, line: &[u8]) -> bool {
     put_version(out, alloc, header, letter, line)
         || put_width(out, alloc, header, letter, line)
         || put_channel(out, alloc, header, line)
 }
 
-/// Writes that something stands behind the end of a line, of which this is the last byte.
+/// Writes that there are bytes after the end of a line; `last` is the last of them.
 fn put_behind(out: &mut Page, last: u8) {
     if last.is_ascii_graphic() {
-        out.put_text("; nothing may stand behind the last field: a trace has no comments");
+        out.put_text("; nothing may follow the last field: a trace has no comments");
     } else {
         put_blank_end(out, last);
     }
 }
 
-/// Writes that a line has another length than this form, and what it is like: a line of another version,
-/// width or channel, or one with something behind it; else what is wrong at the place where it is none of
-/// the form any more.
+/// Writes that a line has another length than this form, and the likely cause: a line of another
+/// version, width or channel, or one with bytes after its end. Otherwise writes the fault at the
+/// first position that does not fit the form.
 pub fn put_length(out: &mut Page, alloc: Global, text: &[u8], line: &[u8], form: &[u8], at: usize) {
     out.say(
         "the line has # characters and has to have #, in the form below the mark",

@@ -1,25 +1,30 @@
-//! How the sentences are to look, and which are shown.
+//! The options for the display of the sentences, and the choice of lines.
 use tl_msg::SourceId;
 
-/// How the sentences are to look, and which are shown.
+/// The options for the display of the sentences, and the choice of lines.
 #[derive(Clone, Copy, Default)]
 pub struct Look {
     /// Whether each beat has a picture of its lanes.
     pub lanes: bool,
-    /// Whether a page is asked for in place of text: it shows the lanes of each beat.
+    /// Whether a page is requested instead of text. A page shows the lanes of each beat.
     pub page: bool,
-    /// Whether what came of a line is coloured, for a terminal.
+    /// Whether JSON Lines are requested instead of text.
+    pub json: bool,
+    /// Whether the outcome of a line has a colour, for a terminal.
     pub colour: bool,
-    /// Whether it is said what a protocol monitor would remark on accepted beats.
+    /// Whether the remarks of a protocol monitor on accepted beats are written.
     pub remarks: bool,
+    /// Whether the lines are in the order of time.
+    pub in_order: bool,
     /// Which lines are shown.
     pub choice: Choice,
 }
 
-/// Which lines are shown: those that meet all that it asks for, so all where it asks for nothing.
+/// The lines that are shown: those that satisfy all conditions, so all lines if there is no
+/// condition.
 #[derive(Clone, Copy, Default)]
 pub struct Choice {
-    /// Only lines whose beat was not accepted, or of which there are remarks.
+    /// Only lines whose beat was not accepted, or that have remarks.
     pub only_problems: bool,
     /// Only lines from this number on.
     pub from: Option<u64>,

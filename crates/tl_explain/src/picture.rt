@@ -4,44 +4,44 @@ use tl_lanes::{Mask, WIDEST};
 use tl_remarks::Piece::{Byte, Text};
 use tl_remarks::{Page, Piece, Seen};
 
-/// How many lanes stand in a row.
+/// The number of lanes in a row.
 pub const ROW: usize = 16;
 
-/// How many rows the widest bus has.
+/// The number of rows of the widest bus.
 const ROWS: usize = WIDEST / ROW;
 
 /// The most lanes of a bus whose numbers have at most two digits.
 const TWO_DIGITS: usize = 100;
 
-/// What stands on a lane.
+/// The contents of a lane.
 #[derive(Clone, Copy)]
 pub enum Cell {
     /// It is not active.
     Idle,
-    /// It is not active, and the mask has it all the same.
+    /// It is not active, but the mask has it.
     Wrong,
-    /// The mask leaves it out.
+    /// It is active, but the mask does not have it.
     Masked,
     /// It is active, and the message carries no data.
     Empty,
     Byte(u8),
 }
 
-/// What a beat has on its lanes.
+/// The lanes of a beat.
 #[derive(Clone, Copy)]
 pub struct Picture<'a> {
     pub lanes: &'a [u8],
-    /// The lanes that bytes of the message stand on.
+    /// The lanes with bytes of the message.
     active: Mask,
     /// The lanes whose bytes are written; all active ones on a channel without masks.
     mask: Mask,
-    /// The lanes, where the message carries data; else none.
+    /// The lanes, if the message carries data; otherwise empty.
     data: &'a [u8],
 }
 
 impl<'a> Picture<'a> {
-    /// That of a beat with these lanes, where it has a mask or data. `home` is the address by which the
-    /// message's bytes stand on them.
+    /// Returns the picture of a beat with these lanes, if it has a mask or data. `home` is the
+    /// address that determines the lanes of the message's bytes.
     pub fn of(beat: &Seen, lanes: &'a [u8], home: u64) -> Option<Picture<'a>> {
         let (is_masked, has_data) = (beat.is_masked(), beat.carries_data());
         if !is_masked && !has_data {
@@ -56,7 +56,7 @@ impl<'a> Picture<'a> {
         })
     }
 
-    /// What stands on this lane.
+    /// Returns the contents of this lane.
     pub fn cell(&self, lane: usize) -> Cell {
         let (is_active, is_masked) = (has_lane(self.active, lane), has_lane(self.mask, lane));
         match (is_active, is_masked, self.data.get(lane)) {
@@ -68,8 +68,11 @@ impl<'a> Picture<'a> {
         }
     }
 
-    /// How a lane is shown: by its byte, or `##` where the message carries no data; `--` where the
-    /// mask leaves it out, `..` where it is not active, and `!!` where the mask has it all the same.
+    /// Returns the text for a lane:
+    /// - its byte, or `##` if the message carries no data;
+    /// - `--` if it is active but not in the mask;
+    /// - `..` if it is not active;
+    /// - `!!` if it is not active but in the mask.
     fn lane(&self, lane: usize) -> Piece<'static> {
         Text(match self.cell(lane) {
             Cell::Idle => "..",
@@ -80,8 +83,8 @@ impl<'a> Picture<'a> {
         })
     }
 
-    /// The blanks before a byte below the number of its lane, which has room for one digit more than these: for
-    /// as many as that of the bus's last lane has, and two at least.
+    /// Returns the spaces before a byte below the number of its lane. A lane's column is one wider
+    /// than the number of digits of the last lane, and at least three.
     fn blanks(&self) -> &'static str {
         if self.lanes.len() <= TWO_DIGITS {
             " "
@@ -90,7 +93,7 @@ impl<'a> Picture<'a> {
         }
     }
 
-    /// Writes the numbers of so many lanes from `from` on, highest first.
+    /// Writes the numbers of `count` lanes from `from` on, highest first.
     fn put_numbers(&self, out: &mut Page, from: usize, count: usize) {
         let room = self.blanks().len().saturating_add(1);
         for back in 0..count {
@@ -99,7 +102,7 @@ impl<'a> Picture<'a> {
         }
     }
 
-    /// Writes what stands on these lanes.
+    /// Writes the contents of these lanes.
     fn put_lanes(&self, out: &mut Page, from: usize, count: usize) {
         let blanks = self.blanks();
         for back in 0..count {
@@ -108,7 +111,8 @@ impl<'a> Picture<'a> {
         }
     }
 
-    /// Writes the lanes from `from` on, at most a row of them: their numbers, and below them their bytes.
+    /// Writes up to one row of lanes, from lane `from` on: their numbers, and below them their
+    /// bytes.
     fn put_row(&self, out: &mut Page, name: &str, from: usize) {
         let count = self.lanes.len().saturating_sub(from).min(ROW);
         out.put_text("    lane");
@@ -130,8 +134,8 @@ impl<'a> Picture<'a> {
     }
 }
 
-/// Writes the picture of a beat of this name, of four letters, with these bytes on its lanes, where it
-/// has a mask or data. `home` is the address by which the message's bytes stand on them.
+/// Writes the picture of a beat with this name, of four letters, and these bytes on its lanes, if
+/// it has a mask or data. `home` is the address that determines the lanes of the message's bytes.
 pub fn put_picture(out: &mut Page, name: &str, beat: &Seen, lanes: &[u8], home: u64) {
     if let Some(picture) = Picture::of(beat, lanes, home) {
         picture.put(out, name);

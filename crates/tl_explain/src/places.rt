@@ -1,17 +1,17 @@
-//! What is expected at a place of a line, and what stands there.
+//! The expected and the actual byte at a position of a line.
 use tl_remarks::Page;
 use tl_remarks::Piece::{Byte, Letter, Text};
 
-/// What is expected of line 1.
+/// The text on the expected line 1.
 const HEADER: &str =
     "expected the header 'tilelink-trace V client C manager M', where V is the version, 1 or 2, and C and M are bytes, each 1, 2, 4, 8, 16, 32, 64 or, in version 2, 128";
 
-/// What is said of a line 1 that begins with a beat or with a comment.
+/// The texts on a line 1 that begins with a beat or with a comment.
 const BEAT: &str = "; the header is missing: this is the line of a beat";
 
 const COMMENT: &str = "; a trace has no comments";
 
-/// How a line 1 begins of which it can be told why it is no header, and why.
+/// Beginnings of a line 1 that is not a valid header for a known reason, with the reason.
 const NO_HEADERS: &[(&[u8], &str)] = &[
     (
         b"\xef\xbb\xbf",
@@ -51,7 +51,8 @@ const ON_D: &[&str] = &[
 
 const ON_E: &[&str] = &["channel", "sink"];
 
-/// What a byte is called: by its name where a reader may not see it, or not as what it is; else `#` stands for it.
+/// Returns the name of a byte: a word for a byte that is invisible or easily mistaken, otherwise
+/// `#`, which is replaced by the byte.
 fn byte_name(byte: u8) -> &'static str {
     match byte {
         b'\t' => "a tab",
@@ -64,7 +65,7 @@ fn byte_name(byte: u8) -> &'static str {
     }
 }
 
-/// Writes what stands at a place of a line.
+/// Writes the byte at a position of a line.
 fn put_found(out: &mut Page, line: &[u8], at: usize) {
     let Some(byte) = line.get(at) else {
         return out.put_text(", but the line ends here");
@@ -78,7 +79,7 @@ fn put_found(out: &mut Page, line: &[u8], at: usize) {
     out.say(byte_name(*byte), &[piece]);
 }
 
-/// The fields of the lines of a form.
+/// Returns the fields of the lines of a form.
 fn fields_of(form: &[u8]) -> &'static [&'static str] {
     match form.first() {
         Some(b'C') => UNMASKED,
@@ -88,7 +89,7 @@ fn fields_of(form: &[u8]) -> &'static [&'static str] {
     }
 }
 
-/// The name of the field that a place of a form belongs to.
+/// Returns the name of the field at a position of a form.
 fn field_at(form: &[u8], at: usize) -> &'static str {
     let mut field = 0usize;
     for byte in form.get(..at).unwrap_or(form) {
@@ -99,7 +100,7 @@ fn field_at(form: &[u8], at: usize) -> &'static str {
     fields_of(form).get(field).copied().unwrap_or("line")
 }
 
-/// Writes what has to stand at a place of a line of this form, and what stands there.
+/// Writes the expected byte at a position of a line of this form, and the actual one.
 pub fn put_expected(out: &mut Page, line: &[u8], form: &[u8], at: usize) {
     let sentence = match form.get(at) {
         Some(b' ') => "expected a space",
@@ -113,7 +114,7 @@ pub fn put_expected(out: &mut Page, line: &[u8], form: &[u8], at: usize) {
     }
 }
 
-/// Writes which digits may stand at a place of a line of this form, and what stands there.
+/// Writes the digits that are allowed at a position of a line of this form, and the actual one.
 pub fn put_range(out: &mut Page, line: &[u8], form: &[u8], at: usize, largest: u8) {
     let field = Text(field_at(form, at));
     out.say(
@@ -123,7 +124,7 @@ pub fn put_range(out: &mut Page, line: &[u8], form: &[u8], at: usize, largest: u
     put_found(out, line, at);
 }
 
-/// Writes that a line begins with no channel's letter, and what it begins with.
+/// Writes that a line does not begin with the letter of a channel, and its first byte.
 pub fn put_no_channel(out: &mut Page, line: &[u8]) {
     out.put_text("expected a channel's letter, A to E");
     match line.first() {
@@ -134,7 +135,8 @@ pub fn put_no_channel(out: &mut Page, line: &[u8]) {
     }
 }
 
-/// Writes what is expected of line 1, and why it is no header, where that can be told from how it begins or ends.
+/// Writes the expected line 1, and why this line is not a valid header, if its beginning or end
+/// shows that.
 pub fn put_no_header(out: &mut Page, line: &[u8]) {
     out.put_text(HEADER);
     for (begin, why) in NO_HEADERS {
@@ -148,7 +150,7 @@ pub fn put_no_header(out: &mut Page, line: &[u8]) {
     }
 }
 
-/// Writes that a line ends with a byte that one does not see, if it does.
+/// Writes that a line ends with an invisible byte, if it does.
 pub fn put_blank_end(out: &mut Page, last: u8) {
     if let b' ' | b'\t' | b'\r' = last {
         out.say("; the line ends with #", &[Text(byte_name(last))]);

@@ -1,4 +1,5 @@
-//! What a page shows of a trace: its lines with their beats, and which messages belong together.
+//! The contents of a page: the lines of a trace with their beats, and the messages that belong
+//! together.
 ghost use Rattle.std.specs.Io.KnownBytes.{Keeps};
 ghost use Rattle.std.specs.Prelude.{◌≡◌, ◌≤◌, true, length, IfOk, OnOk, IfErr};
 ghost use Rattle.tl_answer.specs.Texts.{IsAnswer};
@@ -15,41 +16,42 @@ use std::io::Write;
 use tl_answer::{Answer, TextFault};
 use tl_remarks::{Exchange, Page};
 
-/// A line of a trace as to which messages belong together.
+/// The messages that belong to the message of a line.
 #[derive(Clone, Copy, Default)]
 pub struct Ties {
-    /// The line of the message that it answers, and of that which answers it; 0 where there is none.
+    /// The line of the message to which it responds, and of its response; 0 if there is none.
     pub asked_in: u64,
     pub answered_in: u64,
     /// Whether the page shows the line by itself, or as the first of several.
     pub is_shown: bool,
-    /// Which exchange begins in it, from 1 on in the order of lines; 0 where none does.
+    /// The number of the exchange that begins in it, from 1 in the order of lines; 0 if none does.
     number: u64,
 }
 
-/// What a page shows of a trace.
+/// The contents of a page on a trace.
 #[derive(Drop)]
 pub struct Scene {
-    /// What is said of the lines that are shown, and where of each of them, in their order.
+    /// The text on the lines that are shown, and the position of each of them, in order.
     said: Page,
     pub items: Vec<Item>,
     /// The beats of all lines.
     pub drawing: Drawing,
-    /// The lines from line 2 on.
+    /// The related messages of each line from line 2 on.
     ties: Vec<Ties>,
     /// The answer of a check.
     pub answer: Answer,
 }
 
-/// How many messages an exchange has at most: a request, its response, and what acknowledges that.
+/// The largest number of messages in an exchange: a request, its response, and the acknowledgement
+/// of that.
 const LONGEST_EXCHANGE: usize = 3;
 
-/// The place of a line among those from line 2 on.
+/// Returns the index of a line among those from line 2 on.
 fn place(line: u64) -> usize {
     (line as usize).wrapping_sub(2)
 }
 
-/// Notes which messages and answers belong together.
+/// Records which messages and responses belong together.
 fn tie(ties: &mut [Ties], exchanges: &[Exchange]) {
     for exchange in exchanges {
         if exchange.is_open() {
@@ -64,14 +66,14 @@ fn tie(ties: &mut [Ties], exchanges: &[Exchange]) {
     }
 }
 
-/// Numbers the exchanges, in the order of their first lines, where these beats are drawn.
+/// Numbers the exchanges in the order of their first lines, from these drawn beats.
 fn number_all(ties: &mut [Ties], beats: &[Drawn]) {
     let mut number = 0u64;
     for beat in beats {
         if beat.is_far | (beat.first_byte != 0) {
             continue;
         }
-        // (no line is that of the message of a beat that was not accepted)
+        // (a beat that was not accepted has no line of its message)
         if let Some(first) = ties.get_mut(place(beat.message)) {
             if first.asked_in == 0 {
                 number = number.saturating_add(1);
@@ -81,7 +83,7 @@ fn number_all(ties: &mut [Ties], beats: &[Drawn]) {
     }
 }
 
-/// Notes which lines are shown.
+/// Records which lines are shown.
 fn note_shown(ties: &mut [Ties], items: &[Item]) {
     for item in items {
         if let Some(line) = ties.get_mut(place(item.line)) {
@@ -90,25 +92,39 @@ fn note_shown(ties: &mut [Ties], items: &[Item]) {
     }
 }
 
-/// Which messages belong together, for the lines from line 2 on, where memory was there for all that was told.
+/// Returns which messages belong together, for `lines` lines from line 2 on. Errors: `AllocError`
+/// if the allocator fails.
+pub fn tied(alloc: Global, lines: usize, exchanges: &[Exchange]) -> Result<Vec<Ties>, AllocError> {
+    let mut ties = vec![in alloc; Ties::default(); lines]?;
+    tie(ties.as_mut_slice(), exchanges);
+    Ok(ties)
+}
+
+/// Returns the messages that belong to the one that begins in this line.
+pub fn ties_at(ties: &[Ties], line: u64) -> Ties {
+    ties.get(place(line)).copied().unwrap_or_default()
+}
+
+/// Returns which messages belong together, for the lines from line 2 on. Errors: `AllocError` if
+/// the allocator fails, or failed for the story.
 fn ties_of(alloc: Global, story: &Story) -> Result<Vec<Ties>, AllocError> {
-    if story.page.lacks_a_piece || story.drawing.lacks_a_piece {
+    if story.page.out_of_memory || story.drawing.out_of_memory {
         return Err(AllocError);
     }
-    let mut ties = vec![in alloc; Ties::default(); story.lines_to_tell()]?;
-    tie(ties.as_mut_slice(), &story.course.requests.exchanges);
+    let mut ties = tied(alloc, story.lines_to_tell(), story.course.requests.ties())?;
     number_all(ties.as_mut_slice(), &story.drawing.beats);
     note_shown(ties.as_mut_slice(), &story.items);
     Ok(ties)
 }
 
 impl Scene {
-    /// What is said from here to there.
+    /// Returns the text from `from` to `to`.
     fn part(&self, from: usize, to: usize) -> &[u8] {
         self.said.text.get(from..to).unwrap_or(&[])
     }
 
-    /// The sentence on the lines of an item, and the remarks on them, a line each.
+    /// Returns the sentence on the lines of an item. [`Scene::remarks`] returns the remarks on
+    /// them, one per line.
     pub fn sentence(&self, item: &Item) -> &[u8] {
         self.part(item.from, item.to)
     }
@@ -117,19 +133,19 @@ impl Scene {
         self.part(item.to, item.end)
     }
 
-    /// What is said of channels that end within a burst, a line each.
+    /// Returns the sentences on channels that end within a burst, one per line.
     pub fn cuts(&self) -> &[u8] {
         let from = self.items.last().map_or(0, |item| item.end);
         self.said.end_from(from)
     }
 
-    /// Which messages belong to the one that begins in this line.
+    /// Returns the messages that belong together with the one that begins in this line.
     pub fn ties(&self, line: u64) -> Ties {
-        self.ties.get(place(line)).copied().unwrap_or_default()
+        ties_at(&self.ties, line)
     }
 
-    /// The exchange that the message belongs to that begins in this line: its number from 1 on, in the
-    /// order of first lines; 0 where there is none.
+    /// Returns the number of the exchange of the message that begins in this line, from 1 in the
+    /// order of first lines; 0 if there is none.
     pub fn exchange(&self, line: u64) -> u64 {
         let mut ties = self.ties(line);
         for _ in 1..LONGEST_EXCHANGE {
@@ -141,7 +157,7 @@ impl Scene {
     }
 }
 
-/// What a page shows of a text of which all is told.
+/// Returns the contents of a page on a text that was explained completely.
 fn scene_with(alloc: Global, telling: Telling) -> Result<Scene, AllocError>
     ensures { IfOk result (λ made. made.answer ≡ telling.answer) }
 {
@@ -156,14 +172,16 @@ fn scene_with(alloc: Global, telling: Telling) -> Result<Scene, AllocError>
     })
 }
 
-/// What a page shows of a text: how each line fares, in sentences, with the beats on their lanes, and the
-/// answer that `tlbridge check` gives to it. Nothing is written yet to where the page shall go.
+/// Returns the contents of a page on a text: a sentence on each line that is shown, the beats with
+/// their lanes, and the answer of `tlbridge check`. Writes nothing. `times` has the time of each
+/// beat, or is empty.
 ///
-/// Refused with `Trace` and the text's first fault and its line, or with `OutOfMemory`.
+/// Errors: `Trace` with the text's first fault and its line, or `OutOfMemory`.
 pub fn scene_of<W: Write>(
     alloc: Global,
     text: &[u8],
     look: &Look,
+    times: &[u8],
     writer: &mut W,
 ) -> Result<Scene, TextFault>
     requires few { length text.now ≤ most_bytes }
@@ -176,8 +194,9 @@ pub fn scene_of<W: Write>(
     let look = Look {
         colour: false,
         page: true,
+        json: false,
         ..*look
     };
-    let telling = telling_of::<W>(alloc, text, &look, writer)?;
+    let telling = telling_of::<W>(alloc, text, &look, times, writer)?;
     Ok(scene_with(alloc, telling)?)
 }

@@ -1,4 +1,4 @@
-//! What came of one line, in a sentence.
+//! The sentence on the outcome of one line.
 use crate::alike::Alike;
 use crate::course::{Came, Course};
 use crate::fate::Fate;
@@ -33,7 +33,8 @@ fn put_busy(out: &mut Page, beat: &Seen, requests: &Requests) {
     }
 }
 
-/// Writes that no request has the source of a beat of D, and the first request that waits.
+/// Writes that no request has the source of a beat of D, and names the first request that waits for
+/// a response.
 fn put_none_sent(out: &mut Page, beat: &Seen, first_open: Option<Message>) {
     out.put_text(": send one on A, or mend the source");
     if let Some(request) = first_open {
@@ -43,7 +44,7 @@ fn put_none_sent(out: &mut Page, beat: &Seen, first_open: Option<Message>) {
     }
 }
 
-/// Writes why no request waits that has the source of a beat of D.
+/// Writes why no request with the source of a beat of D waits for a response.
 fn put_none_waits(out: &mut Page, beat: &Seen, requests: &Requests) {
     if let Some(held) = requests.held.request {
         out.put_text(": that in line ");
@@ -56,7 +57,7 @@ fn put_none_waits(out: &mut Page, beat: &Seen, requests: &Requests) {
     }
 }
 
-/// Writes why a beat of D waits: no request of its source has arrived that it could answer.
+/// Writes why a beat of D waits: no request of its source that waits for a response has arrived.
 fn put_no_request(out: &mut Page, beat: &Seen, requests: &Requests) {
     let source = source_of(beat);
     if let Some(request) = requests.open(Some(beat.source)) {
@@ -85,17 +86,14 @@ fn put_mismatch(out: &mut Page, beat: &Seen, open: Option<Message>) {
     }
 }
 
-/// Writes why the next near beat was not accepted, after a word that says how it fares.
-fn put_fault(
+/// Writes why the next near beat was not accepted.
+fn put_fault_sentence(
     out: &mut Page,
     beat: &Seen,
-    word: Piece<'static>,
     fault: SideFault,
     walk: &Walk,
     requests: &Requests,
 ) {
-    let number = Number(fault.number() as u64);
-    out.say(": #, # #: ", &[word, number, Text(fault.name())]);
     match fault {
         SideFault::Beat(fault) => put_beat_fault(out, beat, fault, walk),
         SideFault::SourceBusy => put_busy(out, beat, requests),
@@ -105,20 +103,19 @@ fn put_fault(
 }
 
 impl Brought {
-    /// Writes which far beats the beat completed, counted from 1.
+    /// Writes which far beats the beat completed, counted from 0.
     pub fn put_far(&self, out: &mut Page) {
-        let (from, to) = (self.from as u64, self.to as u64);
-        if to.saturating_sub(from) == 1 {
+        let (first, last) = (self.from as u64, (self.to as u64).saturating_sub(1));
+        if first == last {
             out.put_text(", far beat ");
-            out.put_number(to);
+            out.put_number(first);
         } else {
-            let first = Number(from.saturating_add(1));
-            out.say(", far beats # to #", &[first, Number(to)]);
+            out.say(", far beats # to #", &[Number(first), Number(last)]);
         }
     }
 }
 
-/// Writes that a beat was accepted, in a message that has no other, and what it brought.
+/// Writes that the only beat of a message was accepted, and its far beats.
 fn put_accepted(out: &mut Page, brought: &Brought) {
     out.put_text(": ");
     out.put_coloured(Colour::Green, "accepted");
@@ -126,9 +123,16 @@ fn put_accepted(out: &mut Page, brought: &Brought) {
 }
 
 impl Course {
-    /// Writes why a beat was not accepted, after a word that says how it fares.
+    /// Writes why a beat was not accepted.
+    pub fn put_fault_sentence(&self, out: &mut Page, beat: &Seen, fault: SideFault) {
+        put_fault_sentence(out, beat, fault, &self.walk, &self.requests);
+    }
+
+    /// Writes why a beat was not accepted, after the word for its status.
     fn put_held(&self, out: &mut Page, beat: &Seen, fault: SideFault, word: Piece<'static>) {
-        put_fault(out, beat, word, fault, &self.walk, &self.requests);
+        let number = Number(fault.number() as u64);
+        out.say(": #, # #: ", &[word, number, Text(fault.name())]);
+        self.put_fault_sentence(out, beat, fault);
     }
 
     /// Writes that a beat was not offered, and why.
@@ -137,7 +141,7 @@ impl Course {
         self.stop_of(beat.letter).unwrap_or_default().put(out);
     }
 
-    /// Writes what came of a beat.
+    /// Writes the outcome of a beat.
     fn put_fate(&self, out: &mut Page, beat: &Seen, came: &Came) {
         match came.fate {
             Fate::Accepted => put_accepted(out, &self.walk.brought),
@@ -157,7 +161,8 @@ impl Course {
         }
     }
 
-    /// Writes the fields of a beat, and what came of it. The sentences on the beats of a message have much alike.
+    /// Writes the fields of a beat and its outcome. The sentences on the beats of a message share
+    /// most of their text.
     fn put_beat(&self, out: &mut Page, alike: &mut Vec<Alike>, beat: &Seen, came: &Came) {
         let walk = &self.walk;
         let is_one_of_several = matches!(came.fate, Fate::Accepted) & (walk.brought.beats > 1);
@@ -172,10 +177,8 @@ impl Course {
         }
     }
 
-    /// Writes what came of the beat of the last line, in a line.
+    /// Writes the outcome of the last line's beat, to follow the number of the line.
     pub fn put_line(&self, out: &mut Page, alike: &mut Vec<Alike>, beat: &Seen, came: &Came) {
-        out.put_text("line ");
-        out.put_bytes(self.count.digits());
         self.put_beat(out, alike, beat, came);
         match came.answers {
             0 => out.put_text("\n"),
@@ -183,7 +186,8 @@ impl Course {
         }
     }
 
-    /// Writes where the lines of the channel end within a burst, if they do.
+    /// If the lines of the channel end within a burst, writes that, and how many of its beats
+    /// exist.
     pub fn put_cut(&self, out: &mut Page) {
         let walk = &self.walk;
         if let Verdict::Cut { .. } = walk.verdict {

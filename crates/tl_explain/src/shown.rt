@@ -5,35 +5,35 @@ use tl_msg::SourceId;
 use tl_remarks::Page;
 use tl_remarks::Piece::Number;
 
-/// What is said of a line that is shown, or of several whose beats were not offered.
+/// The entry of a line that is shown, or of several lines whose beats were not offered.
 #[derive(Clone, Copy, Default)]
 pub struct Item {
-    /// The letter that the line begins with, the first of several.
+    /// The first letter of the line, or of the first of several lines.
     pub letter: u8,
-    /// The number of the line, of the first and of the last of several.
+    /// The number of the line, or of the first and of the last of several lines.
     pub line: u64,
     pub last: u64,
     pub fares: Fares,
-    /// Where the sentence stands in what is said of all, where it ends, and where the remarks on the line
-    /// end, which stand behind it.
+    /// The positions, in the whole text, of the beginning and the end of the sentence, and of the
+    /// end of the remarks on the line, which come after it.
     pub from: usize,
     pub to: usize,
     pub end: usize,
-    /// Which drawn beat is that of the line, before its far beats.
+    /// The index of the line's beat in the drawing; its far beats come after it.
     pub drawn: usize,
 }
 
-/// Lines that are shown one after the other, and whose beats were not offered.
+/// Successive lines that are shown and whose beats were not offered.
 #[derive(Clone, Copy, Default)]
 pub struct Run {
-    /// What is noted of all, but where their sentence ends, if they are several.
+    /// The entry of all these lines, without the end of their sentence if there are several.
     pub item: Item,
     pub count: u64,
-    /// A bit for each channel that has one of them.
+    /// A bit for each channel that has one of these lines.
     channels: u8,
 }
 
-/// The bit of the channel with this letter.
+/// Returns the bit of the channel with this letter.
 fn channel_bit(letter: u8) -> u8 {
     match letter {
         b'A' => 1,
@@ -45,7 +45,7 @@ fn channel_bit(letter: u8) -> u8 {
 }
 
 impl Run {
-    /// Goes on by a line.
+    /// Adds a line.
     pub fn add(&mut self, line: &Item) {
         if self.count == 0 {
             self.item = *line;
@@ -55,7 +55,7 @@ impl Run {
         self.channels |= channel_bit(line.letter);
     }
 
-    /// Whether it has a line of the channel with this letter.
+    /// Returns whether it has a line of the channel with this letter.
     fn has(&self, letter: u8) -> bool {
         self.channels & channel_bit(letter) != 0
     }
@@ -74,7 +74,7 @@ impl Run {
 }
 
 impl Choice {
-    /// Whether it asks for a line, whose beat has this source.
+    /// Returns whether a line, whose beat has this source, is shown.
     pub fn shows(&self, line: &Item, source: SourceId, has_remarks: bool) -> bool {
         let is_of_source = match self.source {
             Some(wanted) => line.letter != b'E' && source == wanted,
@@ -90,7 +90,7 @@ impl Choice {
 }
 
 impl Story {
-    /// Writes what is said of several lines whose beats were not offered, in one sentence.
+    /// Writes one sentence on several lines whose beats were not offered.
     fn put_several(&mut self) {
         self.run.put(&mut self.page);
         for letter in LETTERS {
@@ -101,7 +101,7 @@ impl Story {
         self.page.put_text("\n");
     }
 
-    /// Ends the lines whose beats were not offered, if there are any.
+    /// Ends the run of lines whose beats were not offered, if there is one.
     pub fn end_run(&mut self) {
         if self.run.count == 0 {
             return;

@@ -1,4 +1,4 @@
-//! What is said of the lines of a text, told line by line.
+//! The sentences on the lines of a text, written line by line.
 use crate::alike::Alike;
 use crate::course::Course;
 use crate::drawing::{Drawing, Drawn};
@@ -6,53 +6,59 @@ use crate::fate::Fate;
 use crate::look::{Choice, Look};
 use crate::picture::put_picture;
 use crate::requests::{HeldPair, Requests};
+use crate::scene::{Ties, tied, ties_at};
 use crate::shown::{Item, Run};
+use crate::times::Times;
 use std::alloc::Global;
 use tl_msg::Verdict;
 use tl_remarks::{Noted, Page, Remark, Seen, put_remark};
 use tl_trace::Header;
 
-/// How the beat of a line fares.
+/// The status of the beat of a line.
 #[derive(Clone, Copy, PartialEq, Eq, Default)]
 pub enum Fares {
     #[default]
     Accepted,
     /// It breaks a rule, and its channel stopped at it.
     Refused,
-    /// Its channel stopped at it, which waits for another channel.
+    /// It waits for another channel, and its channel stopped at it.
     Waits,
     /// Its channel stopped before it.
     NotOffered,
 }
 
-/// What is said of the lines of a text, told line by line.
+/// The sentences on the lines of a text, written line by line.
 #[derive(Drop)]
 pub struct Story {
-    /// What is said of the lines that are shown.
+    /// The text on the lines that are shown.
     pub page: Page,
-    /// How far the lines have come.
+    /// The position in the lines.
     pub course: Course,
+    pub times: Times,
     /// The version of the trace.
     pub version: u8,
     /// Which lines are shown.
     choice: Choice,
     /// Whether each beat has a picture of its lanes.
     has_lanes: bool,
-    /// The remarks on the messages, and how many of them are passed.
-    remarks: Vec<Remark>,
+    /// Whether the output is JSON; if so, the related messages of each line from line 2 on.
+    is_json: bool,
+    ties: Vec<Ties>,
+    /// The remarks on the messages, and the number of those up to the current line.
+    pub remarks: Vec<Remark>,
     remarks_passed: usize,
-    /// The letters that the lines begin with, from line 2 on.
+    /// The first letter of each line from line 2 on.
     letters: Vec<u8>,
-    /// Whether the line that is told is shown, and what is noted of it.
+    /// Whether the current line is shown, and its entry.
     is_shown: bool,
     item: Item,
-    /// The last lines that are shown, where their beats were not offered.
+    /// The last lines that are shown, if their beats were not offered.
     pub run: Run,
-    /// What the sentences on the beats of a message have alike, for each channel.
+    /// The common text of the sentences on the beats of a message, for each channel.
     pub alike: Vec<Alike>,
-    /// The line of the beat that is told, or those of the far beats that it completed.
+    /// The line of the current beat, or the lines of the far beats that it completed.
     pub lines: Vec<u8>,
-    /// The beats that are drawn, and, where they are, what is noted of the lines that are shown.
+    /// The beats in the drawing and, if beats are drawn, the entries of the lines that are shown.
     pub drawing: Drawing,
     pub items: Vec<Item>,
 }
@@ -60,21 +66,21 @@ pub struct Story {
 /// The letters of the channels.
 pub const LETTERS: &[u8; 5] = b"ABCDE";
 
-/// The place of the channel with this letter among all five.
+/// Returns the index of the channel with this letter among all five.
 pub fn place(letter: u8) -> usize {
     letter.wrapping_sub(b'A') as usize
 }
 
-/// The line of this number, from 0 on, among lines of so many bytes each.
-fn line_in(lines: &[u8], number: usize, length: usize) -> &[u8] {
+/// Returns line `number`, from 0, of lines of `length` bytes each. Empty if there is no such line.
+pub fn line_in(lines: &[u8], number: usize, length: usize) -> &[u8] {
     let from = number.saturating_mul(length);
     lines.get(from..from.saturating_add(length)).unwrap_or(&[])
 }
 
 impl Story {
-    /// That of a text with this header of which no line is told yet: its lines have these letters, its channels end
-    /// in these verdicts, and this was noted of its messages. It lacks a piece where one of these does, or where
-    /// there is no memory for telling.
+    /// Creates the story of a text with this header; no line has been written yet. Its lines have
+    /// these letters, its channels these verdicts, and its messages these remarks and exchanges. An
+    /// allocation failure, here or recorded in one of these, is recorded in the story.
     #[inline(never)]
     pub fn new(
         alloc: Global,
@@ -84,15 +90,20 @@ impl Story {
         letters: Page,
         noted: Noted,
         held: HeldPair,
+        times: &[u8],
     ) -> Story {
-        let lacks_a_piece = letters.lacks_a_piece | noted.lacks_a_piece;
-        let requests = Requests::new(noted.exchanges, held);
+        let out_of_memory = letters.out_of_memory | noted.out_of_memory;
+        let requests = Requests::new(noted.exchanges, noted.ties, look.in_order, held);
+        let mut page = Page::new(alloc, look.colour);
         let mut story = Story {
-            page: Page::new(alloc, look.colour),
+            times: Times::new(alloc, times, &mut page),
+            page,
             course: Course::new(alloc, header, verdicts, requests),
             version: header.version,
             choice: look.choice,
             has_lanes: look.lanes && !look.page,
+            is_json: look.json,
+            ties: Vec::new(alloc),
             remarks: noted.remarks,
             remarks_passed: 0,
             letters: letters.text,
@@ -105,20 +116,39 @@ impl Story {
             items: Vec::new(alloc),
         };
         story.make_room(alloc);
-        story.page.lacks_a_piece |= lacks_a_piece;
+        story.tie_all(alloc);
+        story.page.out_of_memory |= out_of_memory;
         story
     }
 
-    /// How many lines there are from line 2 on.
+    /// Records which messages belong together, if the output is JSON.
+    fn tie_all(&mut self, alloc: Global) {
+        if !self.is_json {
+            return;
+        }
+        match tied(alloc, self.lines_to_tell(), self.course.requests.ties()) {
+            Ok(ties) => self.ties = ties,
+            Err(_) => self.page.out_of_memory = true,
+        }
+    }
+
+    /// Returns the messages that belong to the one of the last accepted beat, if the output is
+    /// JSON.
+    pub fn ties_of_message(&self) -> Ties {
+        ties_at(&self.ties, self.course.walk.first_line)
+    }
+
+    /// Returns the number of lines from line 2 on.
     pub fn lines_to_tell(&self) -> usize {
         self.letters.len()
     }
 
-    /// Begins the line at this place, from line 2 on, and gives its letter.
+    /// Begins the line at this index, counted from line 2. Returns its letter.
     #[inline(never)]
     pub fn begin_line(&mut self, at: usize) -> u8 {
         let letter = self.letters.get(at).copied().unwrap_or(b'E');
         self.course.begin_line(letter);
+        self.times.advance();
         self.item = Item {
             letter,
             line: self.course.line,
@@ -129,7 +159,7 @@ impl Story {
         letter
     }
 
-    /// The next remark, where it is one on the line.
+    /// Returns the next remark, if it is on the current line.
     fn next_remark(&self) -> Option<Remark> {
         match self.remarks.get(self.remarks_passed) {
             Some(remark) if remark.message.line == self.course.line => Some(*remark),
@@ -137,17 +167,20 @@ impl Story {
         }
     }
 
-    /// Writes what came of the channel's next near beat, which has these bytes on its lanes, if the line is
-    /// shown, and says whether it was accepted.
+    /// Writes the outcome of the channel's next near beat, which has these bytes on its lanes, if
+    /// the line is shown. Returns whether it was accepted.
     pub fn put_near(&mut self, beat: &Seen, lanes: &[u8]) -> bool {
-        let came = self.course.go_on(beat);
+        let came = self.course.advance(beat);
         let accepted = matches!(came.fate, Fate::Accepted);
         self.item.fares = came.fate.fares();
         self.is_shown = self
             .choice
             .shows(&self.item, beat.source, self.next_remark().is_some());
-        if self.is_shown && self.begins_sentence() {
+        if self.is_shown && self.is_json {
+            self.begin_record(beat, lanes, &came);
+        } else if self.is_shown && self.begins_sentence() {
             self.item.from = self.page.len();
+            self.put_line_number();
             self.course
                 .put_line(&mut self.page, &mut self.alike, beat, &came);
             if let (true, Some(home)) = (self.has_lanes, self.course.near_home(beat, accepted)) {
@@ -157,8 +190,19 @@ impl Story {
         accepted
     }
 
-    /// Whether a sentence begins with the line: not where it goes on with lines whose beats were not
-    /// offered. Ends these where it does not.
+    /// Writes the number of the line, and its time if that is known.
+    fn put_line_number(&mut self) {
+        self.page.put_text("line ");
+        self.page.put_bytes(self.course.count.digits());
+        let time = self.times.now();
+        if !time.is_empty() {
+            self.page.put_text(", time ");
+            self.page.put_bytes(time);
+        }
+    }
+
+    /// Returns whether a sentence begins with the line. A beat that was not offered continues the
+    /// sentence of such beats right before it. Any other beat ends that sentence.
     fn begins_sentence(&mut self) -> bool {
         if self.item.fares == Fares::NotOffered {
             return self.run.count == 0;
@@ -169,7 +213,7 @@ impl Story {
         true
     }
 
-    /// Draws the next near beat, whose line is kept.
+    /// Adds the next near beat, whose line is kept, to the drawing.
     pub fn draw_near(&mut self, beat: &Seen, lanes: &[u8], accepted: bool) {
         let (message, first_byte) = if accepted {
             (
@@ -189,27 +233,33 @@ impl Story {
         self.drawing.add(&drawn, lanes, &self.lines);
     }
 
-    /// Whether the far beats are shown, and whether they are on their lanes.
+    /// Returns whether the far beats are shown. [`Story::shows_far_lanes`] returns whether their
+    /// lanes are.
     pub fn shows_far(&self) -> bool {
         self.is_shown || self.drawing.is_wanted
     }
 
     pub fn shows_far_lanes(&self) -> bool {
-        self.has_lanes || self.drawing.is_wanted
+        self.has_lanes || self.drawing.is_wanted || self.is_json
     }
 
-    /// Writes the line of the far beat of this number, from 0 on, among those that the last near beat
-    /// completed, whose lines have so many bytes each. Where beats are drawn, it stands with the beat.
+    /// Writes the line of far beat `number`, from 0, of those that the last near beat completed.
+    /// Each line has `length` bytes. Writes nothing if beats are drawn or the output is JSON,
+    /// because the line is then kept with the beat.
     pub fn put_far_line(&mut self, number: usize, length: usize) {
-        if self.drawing.is_wanted {
+        if self.drawing.is_wanted | self.is_json {
             return;
         }
         self.page.put_text("    ");
         self.page.put_bytes(line_in(&self.lines, number, length));
     }
 
-    /// Draws the same far beat, or writes the picture of its lanes.
+    /// Adds the same far beat to the JSON object or the drawing, or writes the picture of its
+    /// lanes.
     pub fn put_far_lanes(&mut self, number: usize, length: usize, beat: &Seen, lanes: &[u8]) {
+        if self.is_json {
+            return self.add_far(number, length, beat, lanes);
+        }
         if !self.drawing.is_wanted {
             return put_picture(&mut self.page, "far ", beat, lanes, self.course.walk.home);
         }
@@ -225,41 +275,59 @@ impl Story {
             .add(&drawn, lanes, line_in(&self.lines, number, length));
     }
 
-    /// Passes the remarks on the line, and writes them where it is shown.
+    /// Advances past the remarks on the line, and writes them if the line is shown.
     fn put_remarks(&mut self) {
-        for _ in self.remarks_passed..self.remarks.len() {
+        let first = self.remarks_passed;
+        for at in first..self.remarks.len() {
             let Some(remark) = self.next_remark() else {
                 break;
             };
             self.remarks_passed = self.remarks_passed.saturating_add(1);
             if self.is_shown {
-                put_remark(&mut self.page, &remark, self.version);
+                self.put_remark(&remark, at == first);
             }
         }
     }
 
-    /// Notes what is said of a line, or of several.
-    pub fn note(&mut self, item: Item) {
-        if self.drawing.is_wanted {
-            self.page.lacks_a_piece |= self.items.push(item).is_err();
+    /// Writes a remark on the line. `is_first` is true for the first one.
+    fn put_remark(&mut self, remark: &Remark, is_first: bool) {
+        if self.is_json {
+            self.add_remark(remark, is_first);
+        } else {
+            put_remark(&mut self.page, remark, self.version);
         }
     }
 
-    /// Writes the remarks on the line of the next near beat, of which all else is said, and goes on by it.
+    /// Records the entry of a line, or of several lines, if beats are drawn.
+    pub fn note(&mut self, item: Item) {
+        if self.drawing.is_wanted {
+            self.page.out_of_memory |= self.items.push(item).is_err();
+        }
+    }
+
+    /// Writes the remarks on the line of the next near beat, after all other text on it, and
+    /// advances past the line.
     #[inline(never)]
     pub fn end_line(&mut self) {
         self.item.to = self.page.len();
-        self.put_remarks();
-        self.item.end = self.page.len();
-        if self.is_shown {
+        if self.is_shown && self.is_json {
+            self.page.put_text("],\"remarks\":[");
+            self.put_remarks();
+            self.page.put_text("]}\n");
+        } else {
+            self.put_remarks();
+            self.item.end = self.page.len();
             self.end_shown();
         }
         self.course.walk.near = self.course.walk.near.saturating_add(1);
     }
 
-    /// Notes what is said of the line, or adds it to those whose beats were not offered. Several of these
-    /// have one sentence, which is written once all are there.
+    /// Adds the entry of the line, or adds the line to those whose beats were not offered. Several
+    /// of these have one sentence, which is written after the last one.
     fn end_shown(&mut self) {
+        if !self.is_shown {
+            return;
+        }
         if self.item.fares != Fares::NotOffered {
             return self.note(self.item);
         }
@@ -269,14 +337,17 @@ impl Story {
         self.run.add(&self.item);
     }
 
-    /// Writes what is said behind the last line.
+    /// Writes the text after the last line.
     #[inline(never)]
     pub fn end(&mut self) {
+        self.page.out_of_memory |= self.course.out_of_memory;
+        if self.is_json {
+            return self.put_summary();
+        }
         self.end_run();
         for letter in LETTERS {
             self.course.turn_to(*letter);
             self.course.put_cut(&mut self.page);
         }
-        self.page.lacks_a_piece |= self.course.lacks_a_stop;
     }
 }

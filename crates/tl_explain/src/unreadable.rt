@@ -1,4 +1,6 @@
-//! A text that is no trace: its first faulty line, the place of the fault, and what was expected.
+//! A text that is not a valid trace: its first faulty line, the place of the fault, and what was
+//! expected.
+use crate::json::put_string;
 use crate::letters::form_of;
 use crate::likeness::{header_page, is_trace, put_length};
 use crate::places::{put_expected, put_no_channel, put_no_header, put_range};
@@ -9,17 +11,17 @@ use tl_remarks::Page;
 use tl_remarks::Piece::{Number, Text};
 use tl_trace::{Header, LONGEST_LINE, TraceFault, TraceKind, header_of_text, line_end};
 
-/// How many bytes of a line are shown: as many as a line of a trace can have, so that the place of a
-/// beat's fault is one of them.
+/// The number of bytes of a line that are shown: the length of the longest line of a trace, so that
+/// the position of a beat's fault is among them.
 const SHOWN: usize = LONGEST_LINE;
 
-/// How many widths a bus can have: 1, and each the double of the one before.
+/// The number of possible widths of a bus: the powers of two from 1 on.
 const WIDTHS: u32 = WIDEST_POWER + 1;
 
 /// The digits of a line.
 const DIGITS: &[u8; 16] = b"0123456789abcdef";
 
-/// The line of this number, without its LF.
+/// Returns the line with this number, without its LF.
 fn line_at(text: &[u8], number: u64) -> &[u8] {
     let mut rest = text;
     for _ in 1..number {
@@ -30,16 +32,16 @@ fn line_at(text: &[u8], number: u64) -> &[u8] {
     &rest[..end]
 }
 
-/// A trace of one line, in which bytes are tried.
+/// A trace of one line, for trying bytes in it.
 #[derive(Drop)]
 struct Trial {
     trace: Page,
-    /// Where the line begins.
+    /// The position of the line.
     start: usize,
 }
 
 impl Trial {
-    /// The trace of this header whose line is of this form.
+    /// Returns the trace with this header and a line of this form.
     fn new(alloc: Global, header: &[u8], form: &[u8]) -> Trial {
         let mut trace = Page::new(alloc, false);
         trace.put_bytes(header);
@@ -50,7 +52,7 @@ impl Trial {
         Trial { trace, start }
     }
 
-    /// Puts a byte at this place of the line, and says whether that makes a trace.
+    /// Puts a byte at this position of the line. Returns whether the result is a valid trace.
     fn takes(&mut self, alloc: Global, at: usize, byte: u8) -> bool {
         if let Some(place) = self.trace.text.get_mut(self.start.saturating_add(at)) {
             *place = byte;
@@ -58,8 +60,8 @@ impl Trial {
         is_trace(alloc, &self.trace.text)
     }
 
-    /// The first place at which this line is none of the form, of so many bytes at most. Its bytes up
-    /// to that one are put there.
+    /// Returns the first position at which this line does not fit the form, among at most `most`
+    /// bytes. Puts its bytes up to that one into the trial line.
     fn bad_place(&mut self, alloc: Global, line: &[u8], most: usize) -> usize {
         for at in 0..line.len().min(most) {
             if !self.takes(alloc, at, line[at]) {
@@ -69,7 +71,7 @@ impl Trial {
         line.len().min(most)
     }
 
-    /// The largest digit that may stand at this place.
+    /// Returns the largest digit that is allowed at this position.
     fn largest_digit(&mut self, alloc: Global, at: usize) -> u8 {
         let mut largest = b'0';
         for digit in DIGITS {
@@ -81,7 +83,7 @@ impl Trial {
     }
 }
 
-/// How many first bytes a line has in common with a text.
+/// Returns the length of the common beginning of a line and a text.
 fn same_bytes(line: &[u8], text: &[u8]) -> usize {
     let most = line.len().min(text.len());
     for at in 0..most {
@@ -92,7 +94,7 @@ fn same_bytes(line: &[u8], text: &[u8]) -> usize {
     most
 }
 
-/// How many first bytes a line has in common with a header.
+/// Returns the length of the longest common beginning of a line and a valid header.
 fn header_place(out: &mut Page, alloc: Global, line: &[u8]) -> usize {
     let mut most = 0;
     for i in 0..2 * WIDTHS * WIDTHS {
@@ -102,7 +104,7 @@ fn header_place(out: &mut Page, alloc: Global, line: &[u8]) -> usize {
             manager: 1 << (i % WIDTHS),
         };
         let page = header_page(alloc, &header);
-        out.lacks_a_piece |= page.lacks_a_piece;
+        out.out_of_memory |= page.out_of_memory;
         // not every version has every width
         if header_of_text(&page.text).is_some() {
             most = same_bytes(line, &page.text).max(most);
@@ -111,7 +113,8 @@ fn header_place(out: &mut Page, alloc: Global, line: &[u8]) -> usize {
     most
 }
 
-/// Writes the first bytes of a line, each that is no printable ASCII as a question mark.
+/// Writes the first bytes of a line. A byte that is not printable ASCII is written as a question
+/// mark.
 fn put_shown(out: &mut Page, line: &[u8]) {
     out.put_text("    ");
     for byte in line.get(..SHOWN).unwrap_or(line) {
@@ -123,7 +126,7 @@ fn put_shown(out: &mut Page, line: &[u8]) {
     out.put_text("\n");
 }
 
-/// Writes a line below what was expected of it, and a mark below this place of it.
+/// Writes a line, and below it a mark under this position.
 fn put_marked(out: &mut Page, line: &[u8], at: usize) {
     out.put_text("\n");
     put_shown(out, line);
@@ -134,16 +137,17 @@ fn put_marked(out: &mut Page, line: &[u8], at: usize) {
     out.put_text("^\n");
 }
 
-/// The first place at which a line is none of this form, and the largest digit that may stand there.
+/// Returns the first position at which a line does not fit this form, and the largest digit that is
+/// allowed there.
 fn bad_place(out: &mut Page, alloc: Global, text: &[u8], line: &[u8], form: &[u8]) -> (usize, u8) {
     let mut trial = Trial::new(alloc, line_at(text, 1), form);
-    out.lacks_a_piece |= trial.trace.lacks_a_piece;
+    out.out_of_memory |= trial.trace.out_of_memory;
     let at = trial.bad_place(alloc, line, form.len());
     (at, trial.largest_digit(alloc, at))
 }
 
-/// The place of a line's fault, and the largest digit that may stand there. The form is empty where the line has
-/// none.
+/// Returns the position of a line's fault, and the largest digit that is allowed there. The form is
+/// empty if the line has none.
 fn place_of(
     out: &mut Page,
     alloc: Global,
@@ -159,7 +163,7 @@ fn place_of(
     }
 }
 
-/// Writes what was expected of a line of this form, and gives the place of its fault.
+/// Writes what was expected in a line of this form. Returns the position of its fault.
 fn put_fault(
     out: &mut Page,
     alloc: Global,
@@ -180,7 +184,8 @@ fn put_fault(
     at
 }
 
-/// The form of a line's channel, where the line is not the first one and its channel is known.
+/// Returns the form of a line's channel. Empty if the line is the first one or its channel is not
+/// known.
 fn form_at(text: &[u8], number: u64, line: &[u8]) -> ArrayVec<u8, LONGEST_LINE> {
     match (header_of_text(text), line.first()) {
         (Some(header), Some(letter)) if number != 1 => form_of(*letter, &header),
@@ -188,8 +193,44 @@ fn form_at(text: &[u8], number: u64, line: &[u8]) -> ArrayVec<u8, LONGEST_LINE> 
     }
 }
 
-/// The faulty line of a text, with a mark below the place of its fault, and what was expected there;
-/// below the mark the form of the line, where it has another length.
+/// Writes the first bytes of a line as a string.
+fn put_line_string(out: &mut Page, line: &[u8]) {
+    put_string(out, line.get(..SHOWN).unwrap_or(line));
+}
+
+/// Returns the fault of a text that is not a valid trace as a line of JSON. Errors: `AllocError` if
+/// the allocator fails. The object has
+/// - the line, number and name of the fault, and what was expected;
+/// - the place in the line, counted from 0, and the first bytes of the line;
+/// - the form of the line, if its length is wrong.
+pub fn fault_record(alloc: Global, text: &[u8], fault: &TraceFault) -> Result<Vec<u8>, AllocError> {
+    let line = line_at(text, fault.line);
+    let form = form_at(text, fault.line, line);
+    let form = form.as_slice().trim_ascii_end();
+    let mut said = Page::new(alloc, false);
+    let at = put_fault(&mut said, alloc, text, line, form, fault.kind);
+    let mut out = Page::new(alloc, false);
+    let number = fault.number() as u64;
+    out.say(
+        "{\"line\":#,\"fault\":{\"number\":#,\"name\":\"#\",\"said\":",
+        &[Number(fault.line), Number(number), Text(fault.name())],
+    );
+    put_string(&mut out, &said.text);
+    let place = Number(at.min(SHOWN) as u64);
+    out.say("},\"place\":#,\"text\":", &[place]);
+    put_line_string(&mut out, line);
+    if let TraceKind::Length = fault.kind {
+        out.put_text(",\"form\":");
+        put_line_string(&mut out, form);
+    }
+    out.put_text("}\n");
+    out.out_of_memory |= said.out_of_memory;
+    out.into_text()
+}
+
+/// Returns the fault of a text that is not a valid trace in words: what was expected, the faulty
+/// line, a mark below the place of the fault, and the form of the line if its length is wrong.
+/// Errors: `AllocError` if the allocator fails.
 pub fn show_fault(alloc: Global, text: &[u8], fault: &TraceFault) -> Result<Vec<u8>, AllocError> {
     let line = line_at(text, fault.line);
     let form = form_at(text, fault.line, line);

@@ -1,4 +1,4 @@
-//! How far the lines of one channel have come.
+//! The position in the lines of one channel.
 ghost use Rattle.std.specs.Prelude.{◌≤◌};
 
 use crate::fate::{Fate, fate_at};
@@ -6,55 +6,61 @@ use tl_lanes::MAX_SIZE;
 use tl_msg::Verdict;
 use tl_remarks::Seen;
 
-/// How far the lines of one channel have come.
+/// The position in the lines of one channel.
 #[derive(Clone, Copy)]
 pub struct Walk {
-    /// The channel's letter, and what it ends in.
+    /// The channel's letter, and its verdict.
     pub letter: u8,
     pub verdict: Verdict,
-    /// The bytes of the bus that the near beats stand on, and of that of the far beats.
+    /// The width, in bytes, of the bus of the near beats, and of that of the far beats.
     pub w: usize,
     pub v: usize,
-    /// The near beats before the next one.
+    /// The number of near beats before the next one.
     pub near: usize,
-    /// The far beats that are whole, and those before the message that is open, or was last.
+    /// The number of complete far beats, and of those before the current or last message.
     pub far: usize,
     pub far_before: usize,
-    /// How many beats of the open burst were accepted; 0 where none is open.
+    /// The number of accepted beats of the unfinished burst; 0 if there is none.
     pub index: u32,
-    /// How many bytes of the next far beat are there.
+    /// The number of bytes of the next far beat so far.
     pub staged: usize,
-    /// How many beats the message has that is open, or was last.
+    /// The number of beats of the current or last message.
     pub beats: usize,
-    /// The first beat of the message that is open, or was last.
+    /// The first beat of the current or last message.
     pub first: Seen,
     /// The line of that beat.
     pub first_line: u64,
-    /// The address by which the bytes of that message stand on lanes: its own, and on D that of the
-    /// request that it answers.
+    /// The address that determines the lanes of that message's bytes: its own, and on D that of its
+    /// request.
     pub home: u64,
-    /// What the last accepted beat brought.
+    /// The result of the last accepted beat.
     pub brought: Brought,
 }
 
-/// What an accepted beat brought.
+/// The result of an accepted beat.
 #[derive(Clone, Copy, Default)]
 pub struct Brought {
-    /// Which beat of its message it is, from 1, and how many these are.
+    /// The number of the beat in its message, from 1, and the number of beats of the message.
     pub beat: u32,
     pub beats: usize,
-    /// The far beats that it completed: from this one on, up to that one.
+    /// The range `from..to`, counted from 0, of the far beats that it completed.
     pub from: usize,
     pub to: usize,
-    /// How many bytes of the next far beat are there, of how many.
+    /// The number of bytes of the next far beat so far, and the number that completes it.
     pub staged: usize,
     pub whole: usize,
-    /// Which byte of its message is its first one.
+    /// The index, in its message, of its first byte.
     pub first_byte: usize,
 }
 
 impl Brought {
-    /// The far beat, from 1 on, of which bytes are there; 0 where the beat completed one.
+    /// Returns the number of the beat in its message, from 0.
+    pub fn place(&self) -> u64 {
+        (self.beat as u64).saturating_sub(1)
+    }
+
+    /// Returns the number, from 1, of the far beat of which bytes are staged; 0 if the beat
+    /// completed a far beat.
     pub fn staged_far(&self) -> u64 {
         if self.from < self.to {
             return 0;
@@ -64,8 +70,8 @@ impl Brought {
 }
 
 impl Walk {
-    /// None of the lines of the channel with this letter, which ends in this verdict, and goes from a bus
-    /// of `w` bytes to one of `v`.
+    /// Returns the position before the first line of the channel with this letter and this verdict,
+    /// from a bus of `w` bytes to one of `v`.
     pub fn new(letter: u8, verdict: &Verdict, w: usize, v: usize) -> Walk {
         Walk {
             letter,
@@ -85,13 +91,13 @@ impl Walk {
         }
     }
 
-    /// What came of the next near beat.
+    /// Returns the outcome of the next near beat.
     pub fn fate(&self) -> Fate {
         fate_at(self.near as u64, &self.verdict)
     }
 
-    /// Which byte of its message is the first one of the far beat of this number, from 0 on, among those that
-    /// the last accepted beat completed.
+    /// Returns the index, in its message, of the first byte of far beat `number`, from 0, of those
+    /// that the last accepted beat completed.
     pub fn far_byte(&self, number: usize) -> usize {
         let before = self.brought.from.saturating_sub(self.far_before);
         before
@@ -99,7 +105,7 @@ impl Walk {
             .saturating_mul(self.brought.whole)
     }
 
-    /// Goes on by the next near beat, which was accepted and stands in this line.
+    /// Advances by the next near beat, which was accepted and is in this line. Returns its result.
     pub fn accept(&mut self, beat: &Seen, line: u64) -> Brought {
         if self.index == 0 {
             self.first = *beat;
@@ -129,8 +135,9 @@ impl Walk {
     }
 }
 
-/// How many bytes an accepted beat brings from a bus of `w` bytes, how many a far beat of its message
-/// has on one of `v`, and how many beats its message has. Without data each beat counts as one byte.
+/// Returns the number of bytes in an accepted beat on a bus of `w` bytes, in a far beat of its
+/// message on one of `v`, and the number of beats of its message. Without data, each beat counts as
+/// one byte.
 fn bytes(beat: &Seen, w: usize, v: usize) -> (usize, usize, usize)
     ensures { 1 ≤ result.1 }
 {

@@ -2,7 +2,7 @@
 use tl_remarks::Piece::{self, Id, Name, Opcode, Text};
 use tl_remarks::{Page, Seen};
 
-/// The message's name, as the standard spells it.
+/// Returns the message's name, as the standard spells it.
 pub fn name_of(beat: &Seen) -> Piece<'static> {
     match beat.kind {
         Some(kind) => Name(kind),
@@ -11,12 +11,12 @@ pub fn name_of(beat: &Seen) -> Piece<'static> {
     }
 }
 
-/// Its source.
+/// Returns a beat's source.
 pub fn source_of(beat: &Seen) -> Piece<'static> {
     Id(beat.source, beat.version)
 }
 
-/// What is said of a beat that is denied or corrupt.
+/// Returns the words for a beat that is denied or corrupt.
 fn flags_of(beat: &Seen) -> &'static str {
     match (beat.denied, beat.corrupt) {
         (false, false) => "",
@@ -26,7 +26,7 @@ fn flags_of(beat: &Seen) -> &'static str {
     }
 }
 
-/// Writes behind a colon its channel, its message, and the fields by which one knows it.
+/// Writes, after a colon, a beat's channel, its message, and the fields that identify it.
 fn put_head(out: &mut Page, beat: &Seen) {
     out.put_bytes(&[b':', b' ', beat.letter, b' ']);
     out.put(name_of(beat));
@@ -44,7 +44,7 @@ fn put_head(out: &mut Page, beat: &Seen) {
     }
 }
 
-/// The same, and whether the beat is denied or corrupt.
+/// Writes the same, and whether the beat is denied or corrupt.
 pub fn put_fields(out: &mut Page, beat: &Seen) {
     put_head(out, beat);
     out.put_text(flags_of(beat));

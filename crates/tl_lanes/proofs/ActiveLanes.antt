@@ -35,7 +35,7 @@ pub lane-from_is_active : (a z w l : ℕ) → is_active a z w l ≡ true → IsA
 lane-from_is_active a z w l e =
     lane-from_any a z w l (Any-from_list_any (λ i. lane_of a i w == l) (range_with_len 0 (bytes_per_beat z w)) e)
 
--- the test tells whether a lane is active
+-- the test is true if and only if a lane is active
 pub is_active-true : (a z w l : ℕ) → (is_active a z w l ≡ true) ↔ IsActive a z w l
 is_active-true a z w l = (lane-from_is_active a z w l, λ (i, lt, e). is_active-from_lane a z w l i lt e)
 
@@ -69,7 +69,7 @@ bit_at-active_mask a z w l h =
     ))
     (cases_lt l w)
 
--- Where byte 0 stands on lane s, and the p bytes of a beat end before the end of the bus, the active lanes are one run.
+-- If byte 0 is on lane s, and the p bytes of a beat do not pass the end of the bus, the active lanes are one run.
 pub active_mask-run : (a z w s p : ℕ) → IsWidth w → s ≡ lane_of a 0 w → p ≡ bytes_per_beat z w → s + p ≤ w →
     active_mask a z w ≡ 2 ^ (s + p) - 2 ^ s
 active_mask-run a z w s p h first count fits =
@@ -85,7 +85,7 @@ active_mask-run a z w s p h first count fits =
     (λ i few e. let plain : lane_of a i w ≡ s + i = lane-before_end a i w s h first (omega arith) in omega arith)) in
     omega arith
 
--- Where they go round it, the active lanes are a run up to the end and one from lane 0 on.
+-- If they wrap around the end, the active lanes are a run up to the end and a run from lane 0 on.
 pub active_mask-round : (a z w s p : ℕ) → IsWidth w → s ≡ lane_of a 0 w → p ≡ bytes_per_beat z w → w ≤ s + p →
     active_mask a z w ≡ 2 ^ w - 2 ^ s + (2 ^ (s + p - w) - 1)
 active_mask-round a z w s p h first count long =

@@ -4,7 +4,7 @@ use Rattle.std.proofs.Common.{length-set}
 use Rattle.tl_lanes.specs.Lanes.{lane_of, IsWidth}
 use Rattle.tl_lanes.proofs.Widths.{lane-lt, lanes_differ}
 
--- what the first k copies leave
+-- the state after the first k copies
 pub record Moved (from to old : List ℕ) (at w v k : ℕ) : Type 0 where
   pub size : length to ≡ v
   pub moved : (j : ℕ) → j < k → get_or to (lane_of at j v) 0 ≡ get_or from (lane_of at j w) 0

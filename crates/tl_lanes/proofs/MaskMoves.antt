@@ -13,7 +13,7 @@ use Rattle.tl_lanes.specs.Lanes.{lane_of, IsWidth}
 use Rattle.tl_lanes.proofs.Masks.{mask_width}
 use Rattle.tl_lanes.proofs.Widths.{lane-lt_widest, lanes_differ}
 
--- what the first k copied bits leave
+-- the state after the first k copied bits
 pub record BitsMoved (from to old : ℕ) (at w v k : ℕ) : Type 0 where
   pub moved : (j : ℕ) → j < k → bit_at to (lane_of at j v) ≡ bit_at from (lane_of at j w)
   pub kept : (x : ℕ) → x < WIDEST → ((j : ℕ) → j < k → lane_of at j v ≢ x) → bit_at to x ≡ bit_at old x

@@ -8,7 +8,7 @@ use Rattle.std.proofs.Math.Pow.{pow_mono, pow-lt}
 use mir.Syntax.{w64}
 use Rattle.tl_lanes.specs.Lanes.{IsWidth, bytes_per_beat}
 
--- below its one bit a power of two has zeros alone
+-- a power of two has only zeros below its one bit
 zeros-below : (k : ℕ) → k < 64 → trailing_zeros w64 (2 ^ k) ≡ k
 zeros-below k lt =
     let place = trailing_zeros w64 (2 ^ k) in

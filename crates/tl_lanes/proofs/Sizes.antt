@@ -1,4 +1,4 @@
--- How values stand in memory: to how many bytes a type is aligned, and how far a place is rounded up.
+-- The layout of values in memory: the alignment of a type, and how far a position is rounded up.
 use Rattle.std.proofs.Common.{◌≤◌, ◌+◌, ◌%◌, ◌-◌, ℕ, arith}
 use Rattle.std.proofs.Math.Nat.{mod-le}
 use prog.Memory.{up, align, aligns, alignss}

@@ -1,11 +1,11 @@
-//! Masks of lanes that stand side by side.
+//! Masks of contiguous lanes.
 
 ghost use Rattle.std.specs.Prelude.{◌≡◌, ◌≤◌, ◌<◌, ◌+◌, ◌-◌, ◌^◌};
 ghost use Rattle.tl_lanes.specs.declared.limits.TheConstants.{WIDEST};
 
 use crate::limits::{Mask, WIDEST};
 
-// The mask of the lowest `count` lanes.
+// Returns the mask of the lowest `count` lanes.
 pub(crate) fn ones(count: usize) -> Mask
     requires { count ≤ WIDEST }
     ensures { result ≡ 2 ^ count - 1 }
@@ -17,7 +17,7 @@ pub(crate) fn ones(count: usize) -> Mask
     }
 }
 
-// The mask of `count` lanes from lane `first` on.
+// Returns the mask of `count` lanes, starting at lane `first`.
 pub(crate) fn run_of_lanes(first: usize, count: usize) -> Mask
     requires inside { first < WIDEST }
     requires room { first + count ≤ WIDEST }

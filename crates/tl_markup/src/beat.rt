@@ -4,6 +4,9 @@ use tl_explain::{Cell, Drawing, Drawn, Picture, ROW};
 use tl_remarks::Page;
 use tl_remarks::Piece::{Byte, Number, Text};
 
+/// The number of lanes in a row of a narrow column.
+const NARROW_ROW: usize = 8;
+
 /// Writes a lane.
 fn put_cell(out: &mut Page, cell: Cell) {
     match cell {
@@ -19,19 +22,16 @@ fn put_cell(out: &mut Page, cell: Cell) {
     }
 }
 
-/// Writes the lanes of a picture, highest first, in rows.
+/// Writes the lanes of a picture, highest first. The style breaks them into rows.
 fn put_cells(out: &mut Page, picture: &Picture<'_>) {
     let width = picture.lanes.len();
     for back in 0..width {
-        if (back > 0) & (back % ROW == 0) {
-            out.put_text("</tr><tr>");
-        }
         put_cell(out, picture.cell(width - 1 - back));
     }
 }
 
-/// Writes which bytes of its message a beat has on so many lanes: from which byte on, on which lane that
-/// one stands, and how many they are.
+/// Writes which bytes of its message a beat has on `width` lanes: the index of the first byte, its
+/// lane, and the number of bytes.
 fn put_bytes(out: &mut Page, drawn: &Drawn, width: usize) {
     let first = (drawn.home.unwrap_or(0) as usize).wrapping_add(drawn.first_byte);
     let length = 1usize.wrapping_shl(drawn.beat.size as u32);
@@ -46,7 +46,21 @@ fn put_bytes(out: &mut Page, drawn: &Drawn, width: usize) {
     );
 }
 
-/// Writes the lanes of a beat, where it has any to show.
+/// Ends the tag of a table with its number of lanes, and the number of lanes in a row of a narrow
+/// column and of a wide one.
+fn put_row_style(out: &mut Page, width: usize) {
+    let (narrow, wide) = (width.min(NARROW_ROW), width.min(ROW));
+    out.say(
+        " style=\"--width:#;--row:#;--wide:#\"><tbody><tr>",
+        &[
+            Number(width as u64),
+            Number(narrow as u64),
+            Number(wide as u64),
+        ],
+    );
+}
+
+/// Writes the lanes of a beat, if it has any to show.
 fn put_lanes(out: &mut Page, drawing: &Drawing, drawn: &Drawn) {
     let Some(picture) = drawing.picture(drawn) else {
         return;
@@ -56,12 +70,12 @@ fn put_lanes(out: &mut Page, drawing: &Drawing, drawn: &Drawn) {
     if drawn.message != 0 {
         put_bytes(out, drawn, width);
     }
-    out.say(" style=\"--width:#\"><tbody><tr>", &[Number(width as u64)]);
+    put_row_style(out, width);
     put_cells(out, &picture);
     out.put_text("</tr></tbody></table>");
 }
 
-/// Writes a beat: its line, and its lanes where it has any to show.
+/// Writes a beat: its line, and its lanes if it has any to show.
 pub fn put_beat(out: &mut Page, drawing: &Drawing, drawn: &Drawn) {
     let side = Text(if drawn.is_far { "far" } else { "near" });
     out.say(

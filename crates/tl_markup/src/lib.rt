@@ -1,4 +1,4 @@
-//! The markup of a page that shows what came of a trace: its beats side by side, with the sentences on them.
+//! The markup of a page on a trace: its beats side by side, with the sentences on them.
 #![tactic(auto)]
 
 mod beat;

@@ -2,13 +2,13 @@
 use crate::row::put_rows;
 use crate::sentence::put_paragraphs;
 use crate::style::{BEGINNING, END, LEGEND, SCRIPT, STYLE};
-use crate::summary::{put_answer, put_columns, put_heads};
+use crate::summary::{put_answer, put_columns, put_heads, put_problems};
 use crate::text::{ascii, put_escaped};
 use std::alloc::{AllocError, Global};
 use tl_explain::Scene;
 use tl_remarks::Page;
 
-/// A page up to what it shows.
+/// Returns a page up to its contents.
 fn begun(alloc: Global) -> Page {
     let mut out = Page::new(alloc, false);
     out.put_bytes(BEGINNING);
@@ -16,9 +16,10 @@ fn begun(alloc: Global) -> Page {
     out
 }
 
-/// Writes what a page shows, and what comes after it.
+/// Writes the contents of a page, and the part after them.
 fn put_scene(out: &mut Page, scene: &Scene) {
     put_answer(out, scene);
+    put_problems(out, scene);
     put_columns(out, scene);
     put_heads(out, scene);
     out.put_text("<div class=\"row\">");
@@ -30,7 +31,7 @@ fn put_scene(out: &mut Page, scene: &Scene) {
     out.put_bytes(END);
 }
 
-/// The page that shows this, which is let go of.
+/// Returns the page of a trace. Errors: `AllocError` if the allocator fails.
 pub fn markup_of(alloc: Global, scene: Scene) -> Result<Vec<u8>, AllocError> {
     let mut out = begun(alloc);
     put_scene(&mut out, &scene);
@@ -38,7 +39,8 @@ pub fn markup_of(alloc: Global, scene: Scene) -> Result<Vec<u8>, AllocError> {
     out.into_text()
 }
 
-/// The page of a text that is no trace, of which this is said.
+/// Returns the page of a text that is not a valid trace. `said` is the output of `show_fault` for
+/// that text. Errors: `AllocError` if the allocator fails.
 pub fn fault_markup(alloc: Global, said: &[u8]) -> Result<Vec<u8>, AllocError> {
     let mut out = begun(alloc);
     out.put_text("<header><h1>No trace</h1></header><main><pre class=\"fault\">");

@@ -1,4 +1,4 @@
-//! The lines of a trace: those of different channels side by side, where they follow each other so.
+//! The lines of a trace. Successive lines of different channels are side by side.
 use crate::beat::put_beat;
 use crate::sentence::{put_link, put_paragraphs, put_sentence};
 use crate::text::{ascii, halves, put_escaped};
@@ -6,10 +6,10 @@ use tl_explain::{Drawn, Fares, Item, Scene};
 use tl_remarks::Page;
 use tl_remarks::Piece::{Letter, Number, Text};
 
-/// How many colours there are for messages.
+/// The number of colours for exchanges.
 const HUES: u64 = 12;
 
-/// The class of a line whose beat fares so.
+/// Returns the class of a line whose beat has this status.
 fn fares_class(fares: Fares) -> &'static str {
     match fares {
         Fares::Accepted => "accepted",
@@ -19,13 +19,13 @@ fn fares_class(fares: Fares) -> &'static str {
     }
 }
 
-/// The sentence on the lines of an item.
+/// Returns the sentence on the lines of an item.
 fn sentence_of<'a>(scene: &'a Scene, item: &Item) -> &'a str {
     ascii(scene.sentence(item)).trim_ascii()
 }
 
-/// Writes what is said of a line: its beat, the beat's fields, and what came of it. The sentence has these
-/// behind each other, with `: ` and `, ` between them.
+/// Writes the text of a line: its beat, the beat's fields, and its outcome. In the sentence these
+/// follow each other, separated by `: ` and `, `.
 fn put_said(out: &mut Page, scene: &Scene, sentence: &str) {
     let (line, said) = halves(sentence, ": ");
     let (beat, came) = halves(said, ": ");
@@ -40,7 +40,7 @@ fn put_said(out: &mut Page, scene: &Scene, sentence: &str) {
     put_sentence(out, scene, came);
 }
 
-/// Writes in which line the answer to a message begins, where there is one.
+/// Writes the line in which the response to a message begins, if there is one.
 fn put_answered(out: &mut Page, scene: &Scene, item: &Item) {
     let ties = scene.ties(item.line);
     if scene.ties(ties.answered_in).is_shown {
@@ -50,7 +50,7 @@ fn put_answered(out: &mut Page, scene: &Scene, item: &Item) {
     out.put_text("</p>");
 }
 
-/// Ends the tag of a line with the exchange that its beats belong to, and in which colour that is known.
+/// Ends the tag of a line with the exchange of its beats, and the colour of that exchange.
 fn put_exchange(out: &mut Page, scene: &Scene, beats: &[Drawn]) {
     let exchange = match beats.first() {
         Some(beat) => scene.exchange(beat.message),
@@ -94,7 +94,7 @@ fn put_run(out: &mut Page, scene: &Scene, item: &Item) {
     out.put_text("</p>");
 }
 
-/// Writes all lines. A row goes on as long as each line is of a channel behind that of the one before.
+/// Writes all lines. A row continues while each line is of a channel after that of the line before.
 pub fn put_rows(out: &mut Page, scene: &Scene) {
     let mut last = 0;
     for item in &scene.items {

@@ -10,7 +10,7 @@ pub fn put_link(out: &mut Page, line: u64) {
     out.say("#\">line #</a>", &[Number(line), Number(line)]);
 }
 
-/// The number that a text begins with, and how many digits it has.
+/// Returns the number at the beginning of a text, and its number of digits.
 fn number_in(text: &str) -> (u64, usize) {
     let bytes = text.as_bytes();
     let mut number = 0u64;
@@ -24,8 +24,8 @@ fn number_in(text: &str) -> (u64, usize) {
     (number, bytes.len())
 }
 
-/// Writes `line ` before a text, with its number as a link where the text begins with that of a line on the
-/// page: gives what is left of the text.
+/// Writes `line ` before a text. If the text begins with the number of a line on the page, writes
+/// that number as a link. Returns the rest of the text.
 fn put_line<'a>(out: &mut Page, scene: &Scene, text: &'a str) -> &'a str {
     let (line, digits) = number_in(text);
     if !scene.ties(line).is_shown {
@@ -36,7 +36,7 @@ fn put_line<'a>(out: &mut Page, scene: &Scene, text: &'a str) -> &'a str {
     text.get(digits..).unwrap_or("")
 }
 
-/// Writes a sentence, in which each line that the page has is a link.
+/// Writes a sentence in which each line on the page is a link.
 pub fn put_sentence(out: &mut Page, scene: &Scene, sentence: &str) {
     let mut rest = sentence;
     for _ in 0..sentence.len() {
@@ -49,7 +49,7 @@ pub fn put_sentence(out: &mut Page, scene: &Scene, sentence: &str) {
     }
 }
 
-/// Writes sentences, a line each, as paragraphs that begin so.
+/// Writes sentences, one per line, as paragraphs with this beginning.
 pub fn put_paragraphs(out: &mut Page, scene: &Scene, begin: &'static str, sentences: &[u8]) {
     for sentence in ascii(sentences).lines() {
         out.put_text(begin);

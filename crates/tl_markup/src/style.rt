@@ -1,4 +1,4 @@
-//! What each page has, whatever the trace: how it looks, and what follows a byte.
+//! The parts of every page: its style, and the script that follows a byte.
 
 /// The beginning of a page. It may load nothing.
 pub const BEGINNING: &[u8] = br#"<!DOCTYPE html>
@@ -9,10 +9,10 @@ pub const BEGINNING: &[u8] = br#"<!DOCTYPE html>
 <meta http-equiv="Content-Security-Policy" content="default-src 'none'; style-src 'unsafe-inline'; script-src 'unsafe-inline'; img-src data:">
 <meta name="color-scheme" content="light dark">
 <link rel="icon" href="data:,">
-<title>What came of each beat: tlexplain</title>
+<title>What happened to each beat: tlexplain</title>
 "#;
 
-/// How it looks: in light and dark, and on paper.
+/// The style: light, dark, and on paper.
 pub const STYLE: &[u8] = br#"<style>
 :root {
   --paper: #fbfbf9; --card: #fff; --ink: #1d1f23; --faint: #5d626b; --line: #dcdde0;
@@ -34,15 +34,16 @@ code, pre, td { font-family: ui-monospace, monospace; }
 pre { margin: .75rem 0 1.25rem; font-size: 13px; overflow-x: auto; }
 .fault { color: var(--bad); }
 a { color: inherit; text-decoration-color: var(--faint); text-underline-offset: .15em; }
-main { --cell: 1.7rem; --column: max(17rem, calc(var(--lanes) * var(--cell) + 2rem)); width: max(100%, calc(var(--count) * (var(--column) + .75rem))); }
+main { --cell: 1.45rem; --column: 13.5rem; width: max(100%, calc(var(--count) * (var(--column) + .75rem))); }
 .row { display: grid; grid-template-columns: repeat(var(--count), minmax(var(--column), 34rem)); gap: .75rem; align-items: start; margin-bottom: .75rem; content-visibility: auto; contain-intrinsic-size: auto 9rem; }
 .heads { position: sticky; top: 0; z-index: 1; background: var(--paper); border-bottom: 1px solid var(--line); content-visibility: visible; padding: .4rem 0; }
 h2 { font-size: 1.1rem; font-weight: 600; }
 h2 small { font-size: .85rem; margin-left: .4rem; }
 .A { grid-column: var(--A); } .B { grid-column: var(--B); } .C { grid-column: var(--C); } .D { grid-column: var(--D); } .E { grid-column: var(--E); }
-.beat { --tint: oklch(var(--light) var(--strength) calc(var(--hue) * 150)); --rim: oklch(var(--edge) .13 calc(var(--hue) * 150)); background: var(--card); border: 1px solid var(--line); border-left: 4px solid var(--rim, var(--line)); border-radius: 6px; padding: .55rem .75rem .65rem; scroll-margin-top: 4rem; transition: opacity .15s; }
+.problems { margin: .75rem 0 1.25rem; } .problems h2 { font-size: 1rem; } .problems ul { padding-left: 1.2rem; max-height: 12rem; overflow-y: auto; }
+.beat { container-type: inline-size; --tint: oklch(var(--light) var(--strength) calc(var(--hue) * 150)); --rim: oklch(var(--edge) .13 calc(var(--hue) * 150)); background: var(--card); border: 1px solid var(--line); border-left: 4px solid var(--rim, var(--line)); border-radius: 6px; padding: .55rem .75rem .65rem; scroll-margin-top: 4rem; transition: opacity .15s; }
 .beat:not([data-exchange]) { border-left-color: var(--line); --tint: var(--line); }
-h3 { font-size: 1rem; font-weight: 600; display: flex; justify-content: space-between; gap: 1rem; }
+h3 { font-size: .95rem; font-weight: 600; display: flex; flex-wrap: wrap; justify-content: space-between; gap: 0 1rem; }
 .fields { color: var(--faint); }
 .refused { border-color: var(--bad); } .refused .came { color: var(--bad); }
 .waits { border-color: var(--slow); } .waits .came, .remark, .cut { color: var(--slow); }
@@ -53,10 +54,13 @@ h3 { font-size: 1rem; font-weight: 600; display: flex; justify-content: space-be
 .cut { margin-top: .75rem; }
 figure { margin-top: .45rem; }
 figcaption { display: flex; gap: .5rem; align-items: baseline; font-size: 12px; }
-figcaption code { overflow-wrap: anywhere; font-size: 11px; }
+figcaption code { overflow: hidden; white-space: nowrap; text-overflow: ellipsis; font-size: 11px; }
+.beat:focus figcaption code { white-space: normal; overflow-wrap: anywhere; }
 em { color: var(--bad); font-style: normal; font-weight: 600; }
-table { margin: .15rem 0 0 calc((var(--lanes) - min(var(--width), 16)) * var(--cell) - 2px); border-spacing: 2px; counter-reset: lane var(--width); }
-td { counter-increment: lane -1; width: calc(var(--cell) - 2px); text-align: center; font-size: 12px; line-height: 1.2; padding: 1px 0 2px; border-radius: 3px; border: 1px solid transparent; background: var(--tint); }
+table, tr { display: contents; }
+tbody { display: grid; grid-template-columns: repeat(var(--row), calc(var(--cell) - 2px)); justify-content: end; gap: 2px; margin-top: .15rem; counter-reset: lane var(--width); }
+@container (min-width: 26rem) { tbody { grid-template-columns: repeat(var(--wide), calc(var(--cell) - 2px)); } }
+td { counter-increment: lane -1; text-align: center; font-size: 12px; line-height: 1.2; padding: 1px 0 2px; border-radius: 3px; border: 1px solid transparent; background: var(--tint); }
 td::before { content: counter(lane); display: block; font-size: 9px; color: var(--faint); }
 .empty::after { content: "\2022"; } .idle::after { content: "\00b7"; color: var(--faint); }
 .idle, .masked, .wrong { background: none; border-color: var(--line); }
@@ -74,6 +78,7 @@ output:empty { display: none; }
   body { font-size: 10px; padding: 0; } main { --cell: 1.3rem; zoom: .8; }
   .row { content-visibility: visible; break-inside: avoid; } .heads { position: static; }
   * { print-color-adjust: exact; } output { display: none; }
+  figcaption code { white-space: normal; overflow-wrap: anywhere; } .problems ul { max-height: none; }
 }
 @media (prefers-reduced-motion: reduce) { * { transition: none; } }
 </style>
@@ -81,15 +86,16 @@ output:empty { display: none; }
 <body>
 "#;
 
-/// What the marks on lanes mean, and how to find one's way.
+/// The legend of the marks on lanes, and help for navigation.
 pub const LEGEND: &[u8] = br#"</main>
-<footer class="legend"><p>Lanes stand highest first, each byte below its number; a colour is that of an exchange.
+<footer class="legend"><p>Lanes are highest first, each byte below its number. Beats count from 0. Beats of one exchange have the same colour.
 <span class="mark sample">7f</span> a byte <span class="mark sample">&bull;</span> active, without data <span class="mark">&middot;</span> not active <span class="mark">--</span> left out by the mask <span class="mark">!!</span> in the mask, but not active</p>
-<p>Point at a byte, or press Left and Right on a beat, to follow it across the bridge; Up and Down go along a channel. A click or Enter keeps what belongs together in sight, Escape lets it go.</p></footer>
+<p>Point at a byte, or press Left and Right on a beat, to follow it across the bridge; Up and Down go along a channel. Click or press Enter to keep the highlight, and Escape to clear it.</p></footer>
 <output aria-live="polite"></output>
 "#;
 
-/// What follows a byte to the other side, and a message to its answer. Links work without it.
+/// The script that follows a byte to the other side, and a message to its response. Links work
+/// without it.
 pub const SCRIPT: &[u8] = br#"<script>
 (() => {
   const all = (of, what) => [...of.querySelectorAll(what)];

@@ -1,10 +1,12 @@
-//! What a page says of the whole trace.
+//! The parts of a page on the whole trace.
+use crate::sentence::{put_link, put_sentence};
 use crate::text::{ascii, halves, put_escaped};
-use tl_explain::{ROW, Scene};
+use tl_explain::{Fares, Item, Scene};
 use tl_remarks::Page;
 use tl_remarks::Piece::{Letter, Number, Text};
 
-/// The channels: the letter of each, what stands before its report in an answer, and which way its beats go.
+/// The channels: the letter of each, the text before its report in an answer, and the direction of
+/// its beats.
 const CHANNELS: &[(u8, &str, &str); 5] = &[
     (b'A', "= A ", "client to manager"),
     (b'B', "= B ", "manager to client"),
@@ -13,7 +15,7 @@ const CHANNELS: &[(u8, &str, &str); 5] = &[
     (b'E', "= E ", "client to manager"),
 ];
 
-/// Whether the channel with this letter has a line on the page.
+/// Returns whether the channel with this letter has a line on the page.
 fn is_shown(scene: &Scene, letter: u8) -> bool {
     for item in &scene.items {
         if (item.line == item.last) & (item.letter == letter) {
@@ -23,20 +25,7 @@ fn is_shown(scene: &Scene, letter: u8) -> bool {
     false
 }
 
-/// How many lanes stand in the longest row.
-fn longest_row(scene: &Scene) -> usize {
-    let mut most = 1;
-    for item in &scene.items {
-        for beat in scene.drawing.beats_at(item.drawn) {
-            if let Some(picture) = scene.drawing.picture(beat) {
-                most = picture.lanes.len().min(ROW).max(most);
-            }
-        }
-    }
-    most
-}
-
-/// Writes where each channel that has a line stands, and how many lanes there is room for.
+/// Writes the column of each channel that has a line.
 pub fn put_columns(out: &mut Page, scene: &Scene) {
     let mut count = 0u64;
     out.put_text("<main style=\"");
@@ -46,13 +35,10 @@ pub fn put_columns(out: &mut Page, scene: &Scene) {
             out.say("--#:#;", &[Letter(*letter), Number(count)]);
         }
     }
-    out.say(
-        "--count:#;--lanes:#\">",
-        &[Number(count.max(1)), Number(longest_row(scene) as u64)],
-    );
+    out.say("--count:#\">", &[Number(count.max(1))]);
 }
 
-/// Writes the head of a channel: which way it goes, and how it ended, as its report says behind this mark.
+/// Writes the head of a channel: its direction, and its verdict, from the report after this mark.
 fn put_head(out: &mut Page, answer: &str, letter: u8, mark: &str, way: &str) {
     let (_, report) = halves(answer, mark);
     out.say(
@@ -75,9 +61,50 @@ pub fn put_heads(out: &mut Page, scene: &Scene) {
     out.put_text("</div>");
 }
 
-/// Writes the answer to the trace, and at its side what the header says.
+/// Writes the answer to the trace, and beside it the contents of the header.
 pub fn put_answer(out: &mut Page, scene: &Scene) {
-    out.put_text("<header><h1>What came of each beat</h1><pre class=\"answer\">");
+    out.put_text("<header><h1>What happened to each beat</h1><pre class=\"answer\">");
     put_escaped(out, ascii(&scene.answer.text));
     out.put_text("</pre></header>");
+}
+
+/// The number of faults and remarks after which their list ends.
+const MOST_LISTED: usize = 200;
+
+/// Writes the fault of a line and the remarks on it, each as an item of a list. Returns the number
+/// of items.
+fn put_problems_of(out: &mut Page, scene: &Scene, item: &Item) -> usize {
+    let mut count = 0usize;
+    if matches!(item.fares, Fares::Refused | Fares::Waits) {
+        out.put_text("<li>");
+        put_sentence(out, scene, ascii(scene.sentence(item)).trim_ascii());
+        out.put_text("</li>");
+        count = 1;
+    }
+    for remark in ascii(scene.remarks(item)).lines() {
+        out.put_text("<li>");
+        put_link(out, item.line);
+        out.put_text(", ");
+        put_sentence(out, scene, remark.trim_ascii());
+        out.put_text("</li>");
+        count = count.saturating_add(1);
+    }
+    count
+}
+
+/// Writes a list of the faults and remarks of all lines, or that there are none. A list ends after
+/// the line with which it reaches `MOST_LISTED` items, and then says that there may be others.
+pub fn put_problems(out: &mut Page, scene: &Scene) {
+    let mut count = 0usize;
+    out.put_text("<nav class=\"problems\"><h2>Faults and remarks</h2><ul>");
+    for item in &scene.items {
+        if count < MOST_LISTED {
+            count = count.saturating_add(put_problems_of(out, scene, item));
+        }
+    }
+    out.put_text(match count {
+        0 => "<li>none</li></ul></nav>",
+        MOST_LISTED.. => "<li>and perhaps others below</li></ul></nav>",
+        _ => "</ul></nav>",
+    });
 }

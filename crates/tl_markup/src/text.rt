@@ -1,19 +1,20 @@
-//! Text that is no markup.
+//! Text without markup.
 use tl_remarks::Page;
 
-/// Writes a text, whatever it holds, where no markup is meant.
+/// Writes any text, escaped so that none of it is read as markup.
 pub fn put_escaped(out: &mut Page, text: &str) {
     if tl_escape::put_escaped(&mut out.text, text.as_bytes()).is_err() {
-        out.lacks_a_piece = true;
+        out.out_of_memory = true;
     }
 }
 
-/// A text of bytes that are ASCII; else nothing.
+/// Returns the bytes as text if they are ASCII, and otherwise an empty text.
 pub fn ascii(text: &[u8]) -> &str {
     std::str::from_utf8(text).unwrap_or("")
 }
 
-/// What stands before and behind the first of these marks; all of a text that has none stands before it.
+/// Returns the parts of a text before and after the first of these marks. If there is none, all of
+/// the text is before it.
 pub fn halves<'a>(text: &'a str, mark: &str) -> (&'a str, &'a str) {
     text.split_once(mark).unwrap_or((text, ""))
 }

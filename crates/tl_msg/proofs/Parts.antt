@@ -1,4 +1,4 @@
--- The first fault of a beat, part by part: there is none exactly where each part of the test holds.
+-- The first fault of a beat, part by part: there is none if and only if each part of the test holds.
 use Rattle.std.proofs.Common.{◌≡◌, ℕ, true, None}
 use Rattle.tl_msg.specs.Rules.{Rules}
 use Rattle.tl_msg.specs.Firsts.{unless, ◌or_else◌}

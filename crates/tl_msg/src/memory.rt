@@ -1,4 +1,4 @@
-//! Want of memory.
+//! The out-of-memory error.
 ghost use Rattle.std.specs.Prelude.{◌≡◌, Some, codes};
 ghost use Rattle.tl_msg.specs.Names.{numbered};
 
@@ -7,19 +7,19 @@ use std::alloc::{AllocError, AllocFailed};
 use std::fmt;
 use thiserror::Error;
 
-/// 13: a growth was refused (number and name are this project's choice).
+/// 13: an allocation failed (number and name are this project's choice).
 #[derive(Clone, Copy, PartialEq, Eq, Debug, Error)]
 pub struct OutOfMemory;
 
 impl OutOfMemory {
-    /// The fault's number, 13 (this project's choice).
+    /// Returns the number of the fault, 13 (this project's choice).
     pub fn number(&self) -> u8
         ensures { result ≡ 13 }
     {
         13
     }
 
-    /// The fault's name (this project's choice).
+    /// Returns the name of the fault (this project's choice).
     pub fn name(&self) -> &'static str
         ensures { result.now ≡ codes "OutOfMemory" }
     {

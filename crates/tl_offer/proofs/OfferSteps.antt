@@ -1,4 +1,4 @@
--- What a channel does within a round: what is read of its list, and why a beat waits.
+-- The steps of a channel within a round: the beat that is read from its list, and the reason why it waits.
 use Rattle.tl_offer.proofs.Names.{◌≡◌, ◌⊎◌, ◌≢◌, ℕ, Bool, true, false, Option, Some, List, [], ◌∷◌, length, inl, inr, refl, sym, ap, ◌∙◌}
 use Rattle.tl_offer.proofs.Names.{slice_get_read, nat_lt, slice_get, slice_index_or, Rules, BeatOf, SideFault, World, Pipe}
 use Rattle.tl_offer.proofs.Names.{IsReady, true_less, Does, Done, Cut, Refused, Offered, Accepted, NotReady, Stopped}
@@ -21,7 +21,7 @@ not_ready r p x h unready = staged_or_closed x.stage x.closed (λ e. unready (h.
 
 module _ {H : Type 0} (r : Rules H) {w v : ℕ} (bs : List (BeatOf H w)) (n : ℕ) (answer : BeatOf H w → Option SideFault)
     (home : BeatOf H w → ℕ) (x y : World H w v) where
-  -- what is taken is not an offer's doing
+  -- an offer does not change the beats taken
   pub does-taken : (o : Offered) (accepted : List (BeatOf H w)) → Does r bs n answer home x o accepted y → y.taken ≡ x.taken
   does-taken Accepted accepted (b, at, ok, one, made) = ap (λ z. z.taken) made
   does-taken NotReady accepted (b, at, full, none, made) = ap (λ z. z.taken) made

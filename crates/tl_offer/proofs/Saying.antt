@@ -1,4 +1,4 @@
--- What tells whether a channel is ready.
+-- The test whether a channel is ready.
 use Rattle.tl_offer.proofs.Names.{◌≡◌, ◌↔◌, Bool, true, false, Option, refl, sym, subst, IsTrue}
 use Rattle.std.specs.Bool.{then_some}
 use Rattle.tl_offer.specs.Inner.Saying.{Says}

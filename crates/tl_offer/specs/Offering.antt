@@ -1,5 +1,5 @@
 -- A bridge or a side offers the next beat of one of its channels. Only contracts of the runs cite these words.
-use Rattle.std.proofs.Common.{◌≡◌, ◌≢◌, ◌⊎◌, ◌++◌, ℕ, true, Option, None, Some, List, [], ◌∷◌, Result, Ok, Err, map, refl, ap, ◌∙◌, append-nil}
+use Rattle.std.proofs.Common.{◌≡◌, ◌≢◌, ◌⊎◌, ◌++◌, ℕ, true, false, Option, None, Some, List, [], ◌∷◌, Result, Ok, Err, map, refl, ap, ◌∙◌, append-nil}
 use Rattle.std.specs.Prelude.{slice_get}
 use Rattle.tl_msg.specs.Rules.{Rules}
 use Rattle.tl_msg.specs.Tables.{rules_a, rules_b, rules_c, rules_d, rules_e}
@@ -21,7 +21,8 @@ use Rattle.tl_offer.specs.declared.offered.Offered.{Offered}
 use Rattle.tl_offer.specs.declared.offered.Offered.TheVariants.{Accepted, NotReady, Stopped}
 use Rattle.tl_offer.specs.declared.offered.Stop.TheVariants.{Done, Cut, Refused}
 
--- what becomes of a beat that is offered, and of a channel that has none left, by the answer to the offer and to the close
+-- the outcome of a beat that is offered, and of a channel that has none left, from the result of the offer and of the
+-- close
 abbrev pub offer_outcome : Result (Unit {0}) SideFault → Offered
 offer_outcome (Ok _) = Accepted
 offer_outcome (Err fault) = Stopped (Refused fault)
@@ -30,7 +31,7 @@ abbrev pub close_outcome : Result (Unit {0}) EndFault → Offered
 close_outcome (Ok _) = Stopped Done
 close_outcome (Err _) = Stopped Cut
 
--- how many beats a channel accepts in a round
+-- the number of beats that a channel accepts in a round
 abbrev pub steps : Offered → ℕ
 steps Accepted = 1
 steps NotReady = 0
@@ -44,9 +45,18 @@ refused_by (Stopped (Refused fault)) = Some fault
 refused_by (Stopped Done) = None
 refused_by (Stopped Cut) = None
 
+-- a beat was offered: it was accepted, or refused for a fault
+abbrev pub IsOffered : Offered → Type 0
+IsOffered Accepted = Unit {0}
+IsOffered NotReady = ⊥
+IsOffered (Stopped (Refused fault)) = Unit {0}
+IsOffered (Stopped Done) = ⊥
+IsOffered (Stopped Cut) = ⊥
+
 module _ {H : Type 0} (r : Rules H) {w v : ℕ} (bs : List (BeatOf H w)) (n : ℕ) where
-  -- What becomes of the next beat of a list of which n beats were accepted, where the channel's side answers this to a beat and the home of a
-  -- message that it opens is this: which beats are accepted, and the crossing after it
+  -- The effect on the next beat of a list of which n beats were accepted, if `answer` is the reason why the channel's
+  -- side refuses a beat and `home` the home of a message that the beat begins: the accepted beats, and the crossing
+  -- afterwards
   abbrev pub Does : (answer : BeatOf H w → Option SideFault) → (home : BeatOf H w → ℕ) → (x : World H w v) → Offered →
       (accepted : List (BeatOf H w)) →
       (y : World H w v) → Type 0
@@ -61,35 +71,37 @@ module _ {H : Type 0} (r : Rules H) {w v : ℕ} (bs : List (BeatOf H w)) (n : �
   Does answer home x (Stopped Cut) accepted y =
       (slice_get bs n ≡ None) × (rest_of r w x.accepted ≢ []) × (accepted ≡ []) × (y ≡ x)
 
--- what offers on a channel do to a side S that stands for pasts P
+-- the effect of offers on a channel on a side S that represents pasts P
 pub record Offering (S P H : Type 0) (w v : ℕ) : Type 1 where
   pub rules : Rules H
   pub Stands : S → P → Type 0
-  -- what no offer changes is the same
+  -- the parts that no offer changes are the same
   pub Same : S → S → Type 0
   -- the channel's crossing
   pub crossing : P → World H w v
-  -- what the side answers to a beat, and the home of a message that the beat opens
+  -- the reason why the side refuses a beat, and the home of a message that the beat begins
   pub answer : P → BeatOf H w → Option SideFault
   pub home : P → BeatOf H w → ℕ
-  -- the past with these beats accepted, in all but the crossing, and the past with this crossing
+  -- the past with these beats accepted, except for the crossing, and the past with this crossing
   pub note : List (BeatOf H w) → P → P
   pub put : World H w v → P → P
-  -- it is as it was with no beat, and with its own crossing
+  -- it is unchanged by no beat, and by its own crossing
   pub noted : (x : P) → note [] x ≡ x
   pub kept : (x : P) → put (crossing x) x ≡ x
 
--- the next beat of a list was offered, of which n beats were accepted, if it might be
+-- the next beat of a list, of which n beats were accepted, was offered if the channel was ready
 pub record OffersNext {S P H : Type 0} {w v : ℕ} (k : Offering S P H w v) (bs : List (BeatOf H w)) (n : ℕ) (s : S)
     (o : Offered) (s' : S) : Type 0 where
   pub same : k.Same s s'
   pub does : (x : P) → k.Stands s x → (accepted : List (BeatOf H w)) × (y : World H w v) × k.Stands s' (k.put y (k.note accepted x)) ×
       Does k.rules bs n (k.answer x) (k.home x) (k.crossing x) o accepted y
+  -- a beat is offered only if nothing is staged and the channel isn't closed
+  pub ready : IsOffered o → (x : P) → k.Stands s x → ((k.crossing x).stage ≡ []) × ((k.crossing x).closed ≡ false)
 
 module _ {S P H : Type 0} {w v : ℕ} (r : Rules H) (Stands : S → P → Type 0) (Same : S → S → Type 0)
     (crossing : P → World H w v) (put : World H w v → P → P)
     (kept : (x : P) → put (crossing x) x ≡ x) where
-  -- a channel that nothing couples to another one
+  -- a channel that does not depend on another channel
   abbrev pub alone : Offering S P H w v
   alone = record {
     rules = r;
@@ -104,7 +116,7 @@ module _ {S P H : Type 0} {w v : ℕ} (r : Rules H) (Stands : S → P → Type 0
     kept = kept;
   }
 
-  -- a channel of a side whose answers and homes are those that its history says, in which each beat is an event
+  -- a channel of a side whose results and homes depend on its history, in which each beat is an event
   abbrev pub coupled : {n : ℕ} (event : BeatOf H w → Event n) (history : P → List (Event n)) (tell : List (Event n) → P → P) →
       ((x : P) → tell (history x) x ≡ x) →
       (answer : List (Event n) → BeatOf H w → Option SideFault) (home : List (Event n) → BeatOf H w → ℕ) → Offering S P H w v
@@ -142,7 +154,7 @@ module _ {C M : ℕ} where
   on_bridge_e = on_bridge rules_e (λ x. x.e) (λ y x. record x { e = y }) (λ _. refl)
 
 module _ {A : Type 0} {C M : ℕ} where
-  -- a side's ends of the rings are as they were
+  -- a side's ends of the rings are unchanged
   pub record SameClientEnds (s s' : ClientState A C M) : Type 0 where
     pub a : s'.a.producer ≡ s.a.producer
     pub b : s'.b.consumer ≡ s.b.consumer

@@ -1,4 +1,4 @@
--- The widths of both sides. Only contracts of the runs cite this word.
+-- The widths of both sides. Only contracts of the runs use this definition.
 use Rattle.std.specs.Prelude.{ℕ}
 use Rattle.tl_lanes.specs.Lanes.{IsWidth}
 

@@ -1,5 +1,5 @@
-//! What becomes of the next beat of a channel's list: a bridge in one thread, or a side in its own, offers it where the
-//! channel is ready, and closes the channel where none is left.
+//! The outcome of the next beat of a channel's list. A bridge in one thread, or a side in its own,
+//! offers the beat if the channel is ready, and closes the channel if no beat is left.
 #![tactic(auto)]
 
 mod offered;

@@ -1,11 +1,12 @@
-//! What becomes of the next beat of a channel.
+//! The outcome of the next beat of a channel.
 ghost use Rattle.std.specs.Prelude.{◌≡◌, ◌≢◌, ◌↔◌, IsTrue};
 ghost use Rattle.tl_offer.specs.Offering.{close_outcome, offer_outcome, refused_by, steps};
 
 use tl_msg::SideFault;
 use tl_ring::EndFault;
 
-/// Why a channel of a run offers no more: the words of its verdict (this project's choice).
+/// The reason why a channel of a run offers no more beats, as its verdict says it (this project's
+/// choice).
 #[derive(Clone, Copy)]
 pub enum Stop {
     /// No beat is left, and no burst is unfinished: the channel is closed.
@@ -16,19 +17,20 @@ pub enum Stop {
     Refused(SideFault),
 }
 
-/// What becomes of the next beat of a channel in a round of a run (this project's choice).
+/// The outcome of the next beat of a channel in a round of a run (this project's choice).
 #[derive(Clone, Copy)]
 pub enum Offered {
     /// It is accepted.
     Accepted,
-    /// It is not offered, since the beats before it are still staged.
+    /// It is not offered, because the beats before it are still staged.
     NotReady,
     /// It is refused, or there is none.
     Stopped(Stop),
 }
 
 impl Offered {
-    /// What becomes of a beat, by the answer to its offer: accepted, or stopped where it is refused.
+    /// Returns the outcome of a beat from the result of its offer: accepted, or stopped if it is
+    /// refused.
     pub fn from_offer(answer: Result<(), SideFault>) -> Offered
         ensures { result ≡ offer_outcome answer }
     {
@@ -38,8 +40,8 @@ impl Offered {
         }
     }
 
-    /// What becomes of a channel that has no beat left, by the answer to its close: stopped, as done,
-    /// or as cut where the close is refused.
+    /// Returns the outcome of a channel that has no beat left, from the result of closing it:
+    /// stopped as done, or as cut if the close is refused.
     pub fn from_close(answer: Result<(), EndFault>) -> Offered
         ensures { result ≡ close_outcome answer }
     {
@@ -49,7 +51,7 @@ impl Offered {
         }
     }
 
-    /// Whether the beat is accepted.
+    /// Returns whether the beat is accepted.
     pub fn is_accepted(&self) -> bool
         ensures { IsTrue result ↔ (steps self.now ≢ 0) }
     {
@@ -59,7 +61,7 @@ impl Offered {
         }
     }
 
-    /// The fault for which the beat is refused, if it is.
+    /// Returns the fault for which the beat is refused, or `None`.
     pub fn refused_by(&self) -> Option<SideFault>
         ensures { result ≡ refused_by self.now }
     {
@@ -69,7 +71,7 @@ impl Offered {
         }
     }
 
-    /// How many beats were accepted.
+    /// Returns the number of beats accepted, 0 or 1.
     pub fn steps(&self) -> usize
         ensures { result ≡ steps self.now }
     {

@@ -1,4 +1,4 @@
-//! The next beat of a list is offered by the calls of its channel.
+//! Offers of the next beat of a list, by the calls of its channel.
 ghost use Rattle.std.specs.Prelude.{ℕ, List};
 ghost use Rattle.tl_offer.specs.declared.offered.Offered.{Offered};
 ghost use Rattle.tl_offer.specs.Widths.{AreWidths};
@@ -13,8 +13,9 @@ use crate::ready::{
 use tl_msg::{BeatOf, HeadA, HeadB, HeadC, HeadD, HeadE};
 use tl_sides::{ClientSide, ManagerSide, SyncBridge};
 
-// What becomes of the next beat of a list, of which `$at` were accepted, by the calls of its channel.
-// (No generic function, since its callers would owe the sizes of each thing that offers.)
+// The outcome of the next beat of a list, of which `$at` were accepted, by the calls of its
+// channel. (Not a generic function: its callers would have to prove the sizes of each type that
+// offers.)
 macro_rules! next_offer {
     ($side:ident, $beats:ident, $at:ident, $ready:ident, $offer:ident, $close:ident) => {{
         if $at >= $beats.len() {
@@ -27,17 +28,18 @@ macro_rules! next_offer {
     }};
 }
 
-/// What offers beats `B` on one of its channels, one after another: a bridge in one thread, or a side in its own.
+/// A holder that offers beats `B` on one of its channels, one after another: a bridge in one
+/// thread, or a side in its own.
 pub trait Offers<B> {
     // whether it may offer
     ghost CanOffer: { Type 0 };
 
-    // `new` is what `old` becomes where the next beat of a list was offered, of which so many were
-    // accepted before, and this became of it
+    // `new` is `old` after the next beat of a list, of which `at` were accepted before, was offered
+    // with this outcome
     ghost Becomes: { (beats : List B) → (at : ℕ) → (old : Self) → Offered → (new : Self) → Type 0 };
 
-    /// Offers the next beat of a list, of which `at` were accepted, where the channel is ready. Where
-    /// no beat is left, closes the channel (this project's choice).
+    /// Offers the next beat of a list, of which `at` were accepted, if the channel is ready. If no
+    /// beat is left, closes the channel (this project's choice). Returns the outcome.
     fn offer_next(&mut self, beats: &[B], at: usize) -> Offered
         requires { CanOffer }
         ensures { Becomes beats.now at self.old result self.new };

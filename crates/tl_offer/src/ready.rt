@@ -1,5 +1,6 @@
-//! Whether each channel takes a beat now. Where the answer is `Some`, that it does is a fact word for word, as
-//! its offer requires it: the checker finds it so without an answer of ours.
+//! Tests whether each channel is ready for a beat. If the result is `Some`, the fact that it is
+//! ready has the very words that its offer requires, so the checker finds it without a proof of
+//! ours.
 ghost use Rattle.tl_ring.specs.Ends.{as_pipe};
 ghost use Rattle.tl_ring.specs.Pipe.{IsReady};
 ghost use Rattle.tl_offer.specs.Inner.Saying.{Says};

@@ -1,7 +1,9 @@
-//! From the bytes that come in to what is said of them, in sentences or as a page for a browser: one file,
-//! which asks for nothing else.
+//! From the input bytes to their explanation, in sentences or as a page for a browser: one file
+//! that loads nothing else.
 #![tactic(auto)]
 
+mod fault;
 mod run;
 
+pub use fault::ExplainFault;
 pub use run::run_explain;

@@ -1,10 +1,10 @@
-//! Messages and their answers.
+//! Matching of messages with their responses.
 use crate::fits::rule_of;
 use crate::remark::{Message, Noted, Rule};
 use tl_msg::Verdict;
 
-/// The channel that answers the messages of this one.
-fn answered_on(letter: u8) -> u8 {
+/// Returns the channel that carries the responses to the messages of this one.
+pub fn answered_on(letter: u8) -> u8 {
     match letter {
         b'B' => b'C',
         b'D' => b'E',
@@ -12,7 +12,7 @@ fn answered_on(letter: u8) -> u8 {
     }
 }
 
-/// Whether all beats of a channel were accepted. One of which some were not may lack messages.
+/// Returns whether all beats of a channel were accepted. If not, messages may be missing.
 fn is_whole(verdicts: &[Verdict; 5], letter: u8) -> bool {
     matches!(
         verdicts.get(letter.wrapping_sub(b'A') as usize),
@@ -20,8 +20,8 @@ fn is_whole(verdicts: &[Verdict; 5], letter: u8) -> bool {
     )
 }
 
-/// Remarks on the answers from this place on whose rank is below this one, which answer nothing, and gives the
-/// place behind them.
+/// Adds remarks on the responses from index `from` on whose rank is below `rank`, because they
+/// respond to nothing. Returns the index after them.
 fn pass_unasked(
     answers: &[Message],
     from: usize,
@@ -40,9 +40,10 @@ fn pass_unasked(
     answers.len()
 }
 
-/// Notes which answer is that of which message, and remarks on both, in the order of their ranks, where the channels
-/// end with these verdicts. Within a rank the first one is answered by the first answer, and so on: an id is free
-/// for another message once the one before it is answered.
+/// Records which response belongs to which message, and remarks on both, in the order of their
+/// ranks. `verdicts` are those of the channels. Within a rank the first message is matched with the
+/// first response, and so on, because an id is free for another message after the one before it has
+/// its response.
 pub fn judge(asks: &[Message], answers: &[Message], verdicts: &[Verdict; 5], noted: &mut Noted) {
     let mut at = 0;
     for ask in asks {

@@ -1,16 +1,17 @@
-//! Which answer fits which message.
+//! The rules for a response to a message.
 use crate::remark::{Message, Rule};
 use tl_msg::Kind;
 
-/// The params of a Grant and of a probe, a cap: at most this may be kept.
+/// The caps toT and toB, params of a Grant and of a probe: the most permission that may be kept.
 const TO_T: u8 = 0;
 
 const TO_B: u8 = 1;
 
-/// The param of an Acquire that asks for permission to read, from none.
+/// The param of an Acquire that requests permission to read, from none.
 pub const N_TO_B: u8 = 0;
 
-/// Whether one message may answer the other (TileLink: the response of each message).
+/// Returns whether a message of kind `answer` may respond to one of kind `ask` (TileLink: the
+/// response of each message).
 fn may_answer(ask: Kind, answer: Kind) -> bool {
     match ask {
         Kind::PutFullData | Kind::PutPartialData => matches!(answer, Kind::AccessAck),
@@ -26,14 +27,14 @@ fn may_answer(ask: Kind, answer: Kind) -> bool {
     }
 }
 
-/// Whether a Grant gives what an Acquire asks for: to grow NtoB a cap toB or toT, else toT (TileLink:
-/// Grant).
+/// Returns whether a Grant gives the permission that an Acquire requests: for NtoB a cap toB or
+/// toT, otherwise toT (TileLink: Grant).
 fn is_granted(growth: u8, cap: u8) -> bool {
     cap == TO_T || (growth == N_TO_B && cap == TO_B)
 }
 
-/// How much a report keeps: 0 none, 1 permission to read, 2 to write, too (TileLink: shrink and report
-/// permissions).
+/// Returns the permission that a report keeps: 0 for none, 1 to read, 2 to read and write
+/// (TileLink: shrink and report permissions).
 fn kept(report: u8) -> u8 {
     match report {
         0 | 4 => 1,
@@ -42,7 +43,7 @@ fn kept(report: u8) -> u8 {
     }
 }
 
-/// How much a probe leaves (TileLink: cap permissions).
+/// Returns the permission that a probe leaves (TileLink: cap permissions).
 fn left(cap: u8) -> u8 {
     match cap {
         TO_T => 2,
@@ -51,7 +52,7 @@ fn left(cap: u8) -> u8 {
     }
 }
 
-/// What is to be remarked on an answer to this message.
+/// Returns the rule that a response to this message breaks, or `None`.
 pub fn rule_of(ask: &Message, answer: &Message) -> Option<Rule> {
     let (Some(asked), Some(answered)) = (ask.kind, answer.kind) else {
         return None;

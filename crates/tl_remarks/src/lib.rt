@@ -1,9 +1,11 @@
-//! What a protocol monitor would remark on the beats that a bridge lets pass: which message answers
-//! which, and what of it does not fit; and the page that these and other sentences are written on.
+//! The remarks that a protocol monitor would make on the beats that a bridge accepts: which
+//! response belongs to which message, and what is wrong with it. Also the text buffer into which
+//! these and other sentences are written.
 #![tactic(auto)]
 
 mod exchange;
 mod fits;
+mod in_order;
 mod lines;
 mod notes;
 mod page;
@@ -16,4 +18,4 @@ pub use notes::{accepted, notes_of};
 pub use page::{Colour, Page, Piece};
 pub use remark::{Exchange, Message, Noted, Remark, Rule};
 pub use seen::{Seen, Told, seen_of};
-pub use sentences::put_remark;
+pub use sentences::{put_remark, put_sentence_of};

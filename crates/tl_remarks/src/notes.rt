@@ -3,6 +3,7 @@ ghost use Rattle.tl_lanes.specs.Lanes.{IsWidth};
 
 use crate::exchange::judge;
 use crate::fits::N_TO_B;
+use crate::in_order::{Stops, judge_in_order};
 use crate::lines::Cursor;
 use crate::remark::{Exchange, Message, Noted, Remark, Rule};
 use crate::seen::{Seen, Told, seen_of};
@@ -10,18 +11,21 @@ use std::alloc::Global;
 use tl_msg::{Beat, ChA, ChB, ChC, ChD, ChE, Kind, Verdict};
 use tl_trace::Script;
 
-/// What was noted of the beats that were accepted.
+/// The messages of the accepted beats.
 #[derive(Drop)]
 struct Notes {
-    /// Messages that are answered, and those that answer them: a Grant is of both.
+    /// Messages that need a response, and the responses: a Grant is one of both.
     asks: Vec<Message>,
     answers: Vec<Message>,
+    /// The line at which each channel stops, and the messages that begin in these lines.
+    stops: Stops,
+    stopped: Vec<Message>,
     noted: Noted,
 }
 
-/// The letter of the channel whose messages are answered, in the exchange that the message of a beat is of: a
-/// request of A and its response on D, a probe or request of B and its answer on C, a release of C and its
-/// ReleaseAck on D, or a Grant of D and its GrantAck on E.
+/// Returns the letter of the channel of the first message in the exchange that a beat belongs to: a
+/// request on A and its response on D, a probe or request on B and its response on C, a release on
+/// C and its ReleaseAck on D, or a Grant on D and its GrantAck on E.
 fn asked_on(beat: &Seen) -> u8 {
     match (beat.letter, beat.kind) {
         (b'E', _) => b'D',
@@ -31,7 +35,7 @@ fn asked_on(beat: &Seen) -> u8 {
     }
 }
 
-/// The message of a beat, in the exchange whose messages are answered on this channel.
+/// Returns the message of a beat, in the exchange whose first message is on channel `asked_on`.
 fn message_of(beat: &Seen, line: u64, asked_on: u8) -> Message {
     Message {
         line,
@@ -47,10 +51,12 @@ fn message_of(beat: &Seen, line: u64, asked_on: u8) -> Message {
             beat.source
         },
         address: beat.address,
+        is_accepted: true,
     }
 }
 
-/// What is remarked on a beat, whatever comes before and behind it. A message without data has but one.
+/// Returns the rule that a beat breaks, independent of the beats before and after it. A message
+/// without data has only one beat.
 fn rule_alone(beat: &Seen) -> Option<Rule> {
     match beat.kind {
         Some(Kind::AcquirePerm) if beat.param == N_TO_B => Some(Rule::PermToRead),
@@ -68,10 +74,11 @@ impl Notes {
         } else {
             self.answers.push(message)
         };
-        self.noted.lacks_a_piece |= added.is_err();
+        self.noted.out_of_memory |= added.is_err();
     }
 
-    /// Adds a beat, and the message that it begins where `begins` says so: a Grant also as one that is answered.
+    /// Adds a beat, and if `begins` is true the message that it begins. A Grant is also added as a
+    /// message that needs a response.
     fn add_beat(&mut self, beat: &Seen, line: u64, begins: bool) {
         let message = message_of(beat, line, asked_on(beat));
         self.noted.push_remark(rule_alone(beat), &message, &message);
@@ -83,20 +90,65 @@ impl Notes {
         }
     }
 
-    /// Remarks on all messages and their answers, which are brought into the order of their ranks, and brings
-    /// remarks and exchanges into that of lines.
-    fn judge(&mut self, verdicts: &[Verdict; 5]) {
+    /// Records that a channel stops at this beat, and the message that it begins if `begins` is
+    /// true.
+    fn add_stop(&mut self, beat: &Seen, line: u64, begins: bool) {
+        if let Some(stop) = self.stops.get_mut(beat.letter.wrapping_sub(b'A') as usize) {
+            *stop = line;
+        }
+        if begins {
+            let message = Message {
+                is_accepted: false,
+                ..message_of(beat, line, asked_on(beat))
+            };
+            self.noted.out_of_memory |= self.stopped.push(message).is_err();
+        }
+    }
+
+    /// Sorts messages and responses by rank. Within a rank they stay in the order of lines.
+    fn sort_messages(&mut self) {
         let asks = self.asks.sort_by_key(Message::rank);
         let answers = self.answers.sort_by_key(Message::rank);
-        judge(&self.asks, &self.answers, verdicts, &mut self.noted);
+        self.noted.out_of_memory |= asks.and(answers).is_err();
+    }
+
+    /// Sorts the remarks by line, and the exchanges by the line of the response.
+    fn sort_noted(&mut self) {
         let remarks = self.noted.remarks.sort_by_key(Remark::line);
         let exchanges = self.noted.exchanges.sort_by_key(Exchange::answer);
-        let are_sorted = asks.and(answers).and(remarks).and(exchanges);
-        self.noted.lacks_a_piece |= are_sorted.is_err();
+        let ties = self.noted.ties.sort_by_key(Exchange::answer);
+        self.noted.out_of_memory |= remarks.and(exchanges).and(ties).is_err();
+    }
+
+    /// Matches messages and responses in the order of time, and adds remarks on both. The messages
+    /// at which channels stop take part.
+    fn judge_in_order(&mut self) {
+        for at in 0..self.stopped.len() {
+            if let Some(message) = self.stopped.get(at).copied() {
+                self.add(message);
+            }
+        }
+        self.sort_messages();
+        judge_in_order(&self.asks, &self.answers, &self.stops, &mut self.noted);
+    }
+
+    /// Matches messages and responses as the bridge does, and adds remarks on both. If `in_order`
+    /// is true, matches them in the order of time as well, and adds only the remarks of that
+    /// matching.
+    fn judge(&mut self, verdicts: &[Verdict; 5], in_order: bool) {
+        self.sort_messages();
+        let wants_remarks = self.noted.wants_remarks;
+        self.noted.wants_remarks &= !in_order;
+        judge(&self.asks, &self.answers, verdicts, &mut self.noted);
+        self.noted.wants_remarks = wants_remarks;
+        if in_order {
+            self.judge_in_order();
+        }
+        self.sort_noted();
     }
 }
 
-/// How many beats of a channel were accepted.
+/// Returns the number of beats of a channel that were accepted.
 pub fn accepted(verdict: &Verdict) -> usize {
     match *verdict {
         Verdict::Done { near, .. } | Verdict::Cut { near, .. } => near as usize,
@@ -104,7 +156,7 @@ pub fn accepted(verdict: &Verdict) -> usize {
     }
 }
 
-/// Adds the beats of a channel that were accepted.
+/// Adds the accepted beats of a channel.
 fn add_channel<K: Told, const W: usize>(
     notes: &mut Notes,
     letters: &[u8],
@@ -113,7 +165,8 @@ fn add_channel<K: Told, const W: usize>(
 ) {
     let mut cursor = Cursor::default();
     let mut left = 0usize;
-    for at in 0..accepted(verdict).min(beats.len()) {
+    let stop = accepted(verdict).min(beats.len());
+    for at in 0..stop {
         let seen = seen_of::<K, W>(&beats[at], 1);
         cursor.seek(letters, seen.letter);
         let begins = left == 0;
@@ -123,9 +176,14 @@ fn add_channel<K: Told, const W: usize>(
         left = left.saturating_sub(1);
         notes.add_beat(&seen, cursor.line(), begins);
     }
+    if let Some(beat) = beats.get(stop) {
+        let seen = seen_of::<K, W>(beat, 1);
+        cursor.seek(letters, seen.letter);
+        notes.add_stop(&seen, cursor.line(), left == 0);
+    }
 }
 
-/// Adds the beats of all channels that were accepted.
+/// Adds the accepted beats of all channels.
 fn add_script<const C: usize, const M: usize>(
     notes: &mut Notes,
     letters: &[u8],
@@ -142,27 +200,36 @@ fn add_script<const C: usize, const M: usize>(
     add_channel::<ChE, C>(notes, letters, e, &script.e);
 }
 
-/// The remarks on the accepted messages of a script whose channels end with these verdicts, from A to E, where
-/// remarks are wanted; and which of the messages answers which. `letters` are those of the text that tells the
-/// script.
+/// Returns which accepted messages of a script belong together, and the remarks on them if
+/// `wants_remarks` is true. `verdicts` are those of the channels, from A to E. `letters` are the
+/// first bytes of the lines from line 2 on.
 ///
-/// Messages and answers are matched by their order within source, sink, or source and address. That one
-/// has no partner is remarked only where no beat of the partner's channel was held back.
+/// Messages and responses are matched by their order within source, sink, or source and address. A
+/// missing partner gets a remark only if all beats of its channel were accepted.
+///
+/// If `in_order` is true, the lines are in the order of time. A response then belongs to the last
+/// message before it with its id. An id that is used again before its response gets a remark. If
+/// that response is late but not missing, messages share the id, and a response belongs to the
+/// first of them that it fits. A channel is judged up to the line at which it, or the channel of its
+/// responses, stops.
 pub fn notes_of<const C: usize, const M: usize>(
     alloc: Global,
     letters: &[u8],
     script: &Script<C, M>,
     verdicts: &[Verdict; 5],
     wants_remarks: bool,
+    in_order: bool,
 ) -> Noted
     requires { IsWidth C × IsWidth M }
 {
     let mut notes = Notes {
         asks: Vec::new(alloc),
         answers: Vec::new(alloc),
+        stops: [u64::MAX; 5],
+        stopped: Vec::new(alloc),
         noted: Noted::new(alloc, wants_remarks),
     };
     add_script::<C, M>(&mut notes, letters, script, verdicts);
-    notes.judge(verdicts);
+    notes.judge(verdicts, in_order);
     notes.noted
 }

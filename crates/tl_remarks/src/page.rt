@@ -1,4 +1,4 @@
-//! Text that is written piece by piece.
+//! A text buffer that is written incrementally.
 use itoa::Buffer;
 use std::alloc::{AllocError, Global};
 use tl_lanes::MAX_SIZE;
@@ -17,7 +17,7 @@ pub enum Colour {
 #[derive(Clone, Copy)]
 pub enum Piece<'a> {
     Text(&'a str),
-    /// A text in a colour, where the page has colours.
+    /// A text in a colour, if the page has colours.
     Coloured(Colour, &'a str),
     Letter(u8),
     Number(u64),
@@ -26,17 +26,17 @@ pub enum Piece<'a> {
     Address(u64),
     /// A source or a sink, with the digits that it has in a trace of this version.
     Id(SourceId, u8),
-    /// How long a message of this size is.
+    /// The length of a message of this size.
     Length(u8),
     /// The name of a message, as the standard spells it.
     Name(Kind),
-    /// An opcode of which there is no message.
+    /// An opcode that no message has.
     Opcode(u8),
 }
 
 use Piece::{Address, Byte, Coloured, Id, Length, Letter, Name, Number, Opcode, Text};
 
-/// The hexadecimal digits, and how many of them a number has at most.
+/// The hexadecimal digits, and the largest number of them in a number.
 const DIGITS: &[u8; 16] = b"0123456789abcdef";
 
 const MOST_DIGITS: usize = 16;
@@ -65,34 +65,34 @@ const NAMES: &[&str; 20] = &[
     "ReleaseAck",
 ];
 
-/// The last decimal digit of a number.
+/// Returns the last decimal digit of a number.
 fn decimal(number: u64) -> u8 {
     b'0' + (number % 10) as u8
 }
 
-/// Text that is written piece by piece. Whether memory was there for all pieces is asked once, at the
-/// end.
+/// A text buffer that is written incrementally. Allocation failures are recorded and reported once,
+/// at the end.
 #[derive(Drop)]
 pub struct Page {
-    /// What was written, but for what was let go of.
+    /// The text that was written, without the parts that were removed.
     pub text: Vec<u8>,
     has_colours: bool,
-    pub lacks_a_piece: bool,
+    pub out_of_memory: bool,
 }
 
 impl Page {
-    /// No text. Coloured pieces have their colours where this says so.
+    /// Creates an empty buffer. If `has_colours` is true, coloured pieces have their colours.
     pub fn new(alloc: Global, has_colours: bool) -> Page {
         Page {
             text: Vec::new(alloc),
             has_colours,
-            lacks_a_piece: false,
+            out_of_memory: false,
         }
     }
 
-    /// The whole text, where memory was there for all of it.
+    /// Returns the whole text. Errors: `AllocError` if an allocation failed for a part of it.
     pub fn into_text(self) -> Result<Vec<u8>, AllocError> {
-        if self.lacks_a_piece {
+        if self.out_of_memory {
             return Err(AllocError);
         }
         Ok(self.text)
@@ -101,7 +101,7 @@ impl Page {
     /// Writes bytes.
     #[inline(always)]
     pub fn put_bytes(&mut self, bytes: &[u8]) {
-        self.lacks_a_piece |= self.text.extend_from_slice(bytes).is_err();
+        self.out_of_memory |= self.text.extend_from_slice(bytes).is_err();
     }
 
     /// Writes a word.
@@ -122,7 +122,7 @@ impl Page {
         }
     }
 
-    /// Writes a number in decimal digits behind a blank, and behind more where it has fewer digits than so many.
+    /// Writes a space, then the number in decimal, right-aligned in at least `room` columns.
     pub fn put_column(&mut self, number: u64, room: usize) {
         let mut buffer = Buffer::new();
         let digits = buffer.format(number).as_bytes();
@@ -132,7 +132,7 @@ impl Page {
         self.put_bytes(digits);
     }
 
-    /// Writes a number in hexadecimal digits, so many at least.
+    /// Writes a number in hexadecimal, with at least `least` digits.
     fn put_hex(&mut self, number: u64, least: usize) {
         let mut digits = [b'0'; MOST_DIGITS];
         let (mut rest, mut first) = (number, 0);
@@ -160,7 +160,7 @@ impl Page {
         self.put_hex(id as u64, id_digits(version));
     }
 
-    /// Writes a word in a colour, of a terminal.
+    /// Writes a word in a colour of the terminal.
     #[inline(never)]
     fn put_in_colour(&mut self, colour: Colour, word: &str) {
         self.put_bytes(b"\x1b[");
@@ -170,7 +170,7 @@ impl Page {
         self.put_bytes(b"\x1b[0m");
     }
 
-    /// Writes a word in a colour, where the page has colours.
+    /// Writes a word, in a colour if the page has colours.
     #[inline(always)]
     pub fn put_coloured(&mut self, colour: Colour, word: &str) {
         if self.has_colours {
@@ -180,7 +180,7 @@ impl Page {
         }
     }
 
-    /// Writes how long a message of this size is.
+    /// Writes the length of a message of this size.
     pub fn put_length(&mut self, size: u8) {
         match size {
             0 => self.put_bytes(b"1 byte"),
@@ -215,8 +215,8 @@ impl Page {
         }
     }
 
-    /// Writes a sentence, in which each `#` stands for the next of these pieces; those behind the last `#` are left
-    /// out.
+    /// Writes a sentence, with each `#` replaced by the next of these pieces. Pieces after the last
+    /// `#` are ignored.
     pub fn say(&mut self, sentence: &str, pieces: &[Piece<'_>]) {
         let mut rest = sentence;
         for piece in pieces {
@@ -230,17 +230,17 @@ impl Page {
         self.put_text(rest);
     }
 
-    /// How many bytes there are.
+    /// Returns the number of bytes.
     pub fn len(&self) -> usize {
         self.text.len()
     }
 
-    /// What was written from here on.
+    /// Returns the text from offset `from` on.
     pub fn end_from(&self, from: usize) -> &[u8] {
         self.text.get(from..).unwrap_or(&[])
     }
 
-    /// Takes back all but so many first bytes.
+    /// Shortens the text to its first `length` bytes.
     pub fn truncate(&mut self, length: usize) {
         self.text.truncate(length);
     }

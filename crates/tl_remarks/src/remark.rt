@@ -1,30 +1,32 @@
-//! What is remarked, and which messages belong together.
+//! Remarks, and the messages that belong together.
 use std::alloc::Global;
 use tl_msg::Kind;
 
-/// A message whose first beat was accepted, in an exchange of a message and its answer.
+/// A message of an exchange: one that needs a response, or its response.
 #[derive(Clone, Copy)]
 pub struct Message {
     /// The line of its first beat, and the letter of its channel.
     pub line: u64,
     pub letter: u8,
-    /// The letter of the channel whose messages are answered in the exchange.
+    /// The letter of the channel of the first message in the exchange.
     pub asked_on: u8,
-    /// None on E.
+    /// `None` on E.
     pub kind: Option<Kind>,
     pub param: u8,
-    /// It is of `2^size` bytes.
+    /// The message has `2^size` bytes.
     pub size: u8,
     pub denied: bool,
-    /// The source or sink by which the message and its answer know each other.
+    /// The source or sink by which the message and its response are matched.
     pub id: u16,
     /// 0 on D and E.
     pub address: u64,
+    /// Whether its first beat was accepted.
+    pub is_accepted: bool,
 }
 
 impl Message {
-    /// By what it and its answer know each other, as a number: by their id, and those of B and C by their
-    /// address, too.
+    /// Returns the key by which a message and its response are matched, as a number: their id, and
+    /// on B and C also their address.
     pub(crate) fn rank(&self) -> u128 {
         let address = if self.asked_on == b'B' {
             self.address
@@ -35,28 +37,55 @@ impl Message {
     }
 }
 
-/// What is remarked on a message, by the SiFive TileLink Specification 1.8.
+/// The rules behind the remarks on a message, by the SiFive TileLink Specification 1.8.
 #[derive(Clone, Copy)]
 pub enum Rule {
-    /// It is no response to its partner, the request that it answers.
+    /// It is not a response of the right kind for its partner, the matched request.
     OtherResponse,
-    /// It grants less than its partner asks for.
+    /// It grants less than its partner requests.
     OtherCap,
-    /// It reports that more is kept than its partner leaves.
+    /// It reports that more permission is kept than its partner leaves.
     LeavesMore,
-    /// Nothing answers it.
+    /// It has no response, or none before its partner, which has the same id.
     NotAnswered,
-    /// There is nothing that it could answer.
+    /// There is no message to which it could respond.
     AnswersNothing,
-    /// A ReleaseAck that is denied.
+    /// It is a ReleaseAck that is denied.
     DeniedAck,
-    /// Data that are denied and not corrupt.
+    /// It has data that are denied and not corrupt.
     DeniedData,
-    /// An AcquirePerm that asks for permission to read.
+    /// It is an AcquirePerm that requests permission to read.
     PermToRead,
+    /// Its id is still in use by its partner, which has no response yet.
+    IdInUse,
 }
 
-/// A remark on a message. A rule of one message has that as its partner, too.
+/// The names of the rules, in the order of [`Rule`].
+const NAMES: &[&str; 9] = &[
+    "OtherResponse",
+    "OtherCap",
+    "LeavesMore",
+    "NotAnswered",
+    "AnswersNothing",
+    "DeniedAck",
+    "DeniedData",
+    "PermToRead",
+    "IdInUse",
+];
+
+impl Rule {
+    /// Returns the number of the rule, from 1.
+    pub fn number(self) -> u8 {
+        (self as u8).saturating_add(1)
+    }
+
+    /// Returns the name of the rule.
+    pub fn name(self) -> &'static str {
+        NAMES[self as usize]
+    }
+}
+
+/// A remark on a message. If its rule is about one message, that message is also the partner.
 #[derive(Clone, Copy)]
 pub struct Remark {
     pub rule: Rule,
@@ -65,55 +94,60 @@ pub struct Remark {
 }
 
 impl Remark {
-    /// The line of its message.
+    /// Returns the line of its message.
     pub(crate) fn line(&self) -> u64 {
         self.message.line
     }
 }
 
-/// A message, and the line in which its answer begins.
+/// A message, and the line in which its response begins.
 #[derive(Clone, Copy)]
 pub struct Exchange {
     pub ask: Message,
-    /// `u64::MAX` where nothing answers the message.
+    /// `u64::MAX` if the message has no response.
     pub answer: u64,
 }
 
 impl Exchange {
-    /// Whether nothing answers the message.
+    /// Returns whether the message has no response.
     pub fn is_open(&self) -> bool {
         self.answer == u64::MAX
     }
 
-    /// The line of the answer.
+    /// Returns the line of the response.
     pub(crate) fn answer(&self) -> u64 {
         self.answer
     }
 }
 
-/// What was found of the messages of a trace. Whether memory was there for all of it is asked once, at the end.
+/// The remarks and exchanges of the messages of a trace. Allocation failures are recorded and
+/// reported once, at the end.
 #[derive(Drop)]
 pub struct Noted {
-    /// The remarks in the order of their lines; none where none are wanted.
+    /// The remarks in the order of their lines; empty if none are wanted.
     pub remarks: Vec<Remark>,
-    /// In the order of the lines of their answers, and behind these the open ones.
+    /// The exchanges in the order of the lines of their responses, followed by those without a
+    /// response.
     pub exchanges: Vec<Exchange>,
+    /// The exchanges of accepted messages, matched in the order of time. Empty if it is not known.
+    pub ties: Vec<Exchange>,
     pub(crate) wants_remarks: bool,
-    pub lacks_a_piece: bool,
+    pub out_of_memory: bool,
 }
 
 impl Noted {
-    /// Nothing yet.
+    /// Returns an empty value.
     pub(crate) fn new(alloc: Global, wants_remarks: bool) -> Noted {
         Noted {
             remarks: Vec::new(alloc),
             exchanges: Vec::new(alloc),
+            ties: Vec::new(alloc),
             wants_remarks,
-            lacks_a_piece: false,
+            out_of_memory: false,
         }
     }
 
-    /// Adds a remark, where there is one, and remarks are wanted.
+    /// Adds a remark, if there is one and remarks are wanted.
     pub(crate) fn push_remark(&mut self, rule: Option<Rule>, message: &Message, partner: &Message) {
         if let (Some(rule), true) = (rule, self.wants_remarks) {
             let remark = Remark {
@@ -121,13 +155,22 @@ impl Noted {
                 message: *message,
                 partner: *partner,
             };
-            self.lacks_a_piece |= self.remarks.push(remark).is_err();
+            self.out_of_memory |= self.remarks.push(remark).is_err();
         }
     }
 
-    /// Adds a message, whose answer begins in this line.
+    /// Adds a message whose response begins in line `answer`.
     pub(crate) fn push_exchange(&mut self, ask: &Message, answer: u64) {
         let exchange = Exchange { ask: *ask, answer };
-        self.lacks_a_piece |= self.exchanges.push(exchange).is_err();
+        self.out_of_memory |= self.exchanges.push(exchange).is_err();
+    }
+
+    /// Adds a message whose response, matched in the order of time, begins in line `answer`. Does
+    /// nothing if the message was not accepted.
+    pub(crate) fn push_tie(&mut self, ask: &Message, answer: u64) {
+        let exchange = Exchange { ask: *ask, answer };
+        if ask.is_accepted {
+            self.out_of_memory |= self.ties.push(exchange).is_err();
+        }
     }
 }

@@ -1,4 +1,4 @@
-//! A beat as remarks and sentences speak of it, whichever its channel.
+//! The fields of a beat of any channel, for remarks and sentences.
 ghost use Rattle.std.specs.Prelude.{◌≤◌};
 
 use tl_lanes::{MAX_SIZE, Mask};
@@ -7,14 +7,14 @@ use tl_msg::{
 };
 use tl_trace::HeadText;
 
-/// The fields of a beat, but its lanes. What its channel does not have is 0.
+/// The fields of a beat, without its lanes. A field that its channel does not have is 0.
 #[derive(Clone, Copy, Default)]
 pub struct Seen {
-    /// The version of its trace, which says how many digits an id has.
+    /// The version of its trace, which determines the number of digits of an id.
     pub version: u8,
     /// `A` to `E`.
     pub letter: u8,
-    /// The message of the opcode, where the channel has one. None on E.
+    /// The message of the opcode, if the channel has one; `None` on E.
     pub kind: Option<Kind>,
     pub opcode: u8,
     pub param: u8,
@@ -28,9 +28,9 @@ pub struct Seen {
     pub corrupt: bool,
 }
 
-/// A channel of whose beats sentences speak.
+/// A channel whose beats can be described in sentences.
 pub trait Told: HeadText {
-    /// The fields of a head.
+    /// Returns the fields of a head.
     fn seen(head: Self::Head) -> Seen;
 }
 
@@ -94,7 +94,7 @@ impl Told for ChE {
     }
 }
 
-/// The fields of a beat of a trace of this version.
+/// Returns the fields of a beat of a trace of this version.
 pub fn seen_of<K: Told, const W: usize>(beat: &Beat<K, W>, version: u8) -> Seen {
     Seen {
         version,
@@ -105,22 +105,22 @@ pub fn seen_of<K: Told, const W: usize>(beat: &Beat<K, W>, version: u8) -> Seen 
 }
 
 impl Seen {
-    /// Whether its message carries data.
+    /// Returns whether its message carries data.
     pub fn carries_data(&self) -> bool {
         self.kind.is_some_and(Kind::carries_data)
     }
 
-    /// Whether its channel has masks.
+    /// Returns whether its channel has masks.
     pub fn is_masked(&self) -> bool {
         matches!(self.letter, b'A' | b'B')
     }
 
-    /// Whether it is a response that answers a request of A: any on D but ReleaseAck.
+    /// Returns whether it is a response to a request of A: any message of D except ReleaseAck.
     pub fn answers_request(&self) -> bool {
         self.letter == b'D' && !matches!(self.kind, Some(Kind::ReleaseAck))
     }
 
-    /// How many beats its message has on a bus of `w` bytes.
+    /// Returns the number of beats of its message on a bus of `w` bytes.
     pub fn beats(&self, w: usize) -> usize
         ensures { 1 ≤ result }
     {

@@ -1,4 +1,4 @@
-//! Remarks in sentences.
+//! The sentences of remarks.
 use crate::page::Piece::{self, Coloured, Id, Name, Number, Text};
 use crate::page::{Colour, Page};
 use crate::remark::{Message, Remark, Rule};
@@ -11,8 +11,8 @@ const CAPS: &[&str] = &["toT", "toB", "toN"];
 
 const REPORTS: &[&str] = &["TtoB", "TtoN", "BtoN", "TtoT", "BtoB", "NtoN"];
 
-/// What is remarked, in the order of [`Rule`].
-const SENTENCES: &[&str; 8] = &[
+/// The sentence of each rule, in the order of [`Rule`].
+const SENTENCES: &[&str; 9] = &[
     "it is no response to #, in line # (TileLink 1.8: #)",
     "it grants #, but #, in line #, asks for # (TileLink 1.8: Grant)",
     "it reports #, but #, in line #, leaves # (TileLink 1.8: ProbeAck)",
@@ -21,14 +21,18 @@ const SENTENCES: &[&str; 8] = &[
     "a ReleaseAck cannot be denied (TileLink 1.8: #)",
     "data that are denied have to be corrupt (TileLink 1.8: #)",
     "it gives no data, and so it asks for NtoT or BtoT, and not for NtoB (TileLink 1.8: #)",
+    "# # is still in use by #, in line # (TileLink 1.8: #)",
 ];
 
-/// The word of a param.
+/// The sentence on a message that has no response before its partner, which has the same id.
+const NOT_BEFORE: &str = "no # # answers it before line # uses the # again (TileLink 1.8: #)";
+
+/// Returns the word for a param; `?` if there is none.
 fn word(words: &[&'static str], param: u8) -> Piece<'static> {
     Text(words.get(param as usize).copied().unwrap_or("?"))
 }
 
-/// The name of a message: one without an opcode is a GrantAck.
+/// Returns the name of a message. A message without an opcode is a GrantAck.
 fn name(message: &Message) -> Piece<'static> {
     match message.kind {
         Some(kind) => Name(kind),
@@ -36,7 +40,7 @@ fn name(message: &Message) -> Piece<'static> {
     }
 }
 
-/// What answers a message, and by which id both know each other.
+/// Returns the name of the response to a message, and the id by which they are matched.
 fn answer_to(message: &Message) -> &'static str {
     match message.kind {
         Some(Kind::Grant | Kind::GrantData) => "GrantAck of sink",
@@ -46,7 +50,8 @@ fn answer_to(message: &Message) -> &'static str {
     }
 }
 
-/// What a message answers, and by which id both know each other.
+/// Returns the name of the message to which a response belongs, and the id by which they are
+/// matched.
 fn asked_by(message: &Message) -> &'static str {
     match message.kind {
         None => "Grant of sink",
@@ -56,32 +61,60 @@ fn asked_by(message: &Message) -> &'static str {
     }
 }
 
-/// What the sentence of a remark speaks of, in a trace of this version; pieces that it does not have are of no
-/// account. (The partner of a remark on one message is that message.)
-fn pieces_of(remark: &Remark, version: u8) -> [Piece<'static>; 4] {
+/// Returns whether the partner of a remark is in another line.
+fn is_before(remark: &Remark) -> bool {
+    remark.partner.line != remark.message.line
+}
+
+/// Returns the name of the id by which a message and its response are matched.
+fn id_name(message: &Message) -> Piece<'static> {
+    Text(if message.asked_on == b'D' {
+        "sink"
+    } else {
+        "source"
+    })
+}
+
+/// Returns the pieces for the sentence of a remark, in a trace of this version. Pieces that the
+/// sentence does not have are arbitrary. (A remark on one message has that message as its partner.)
+fn pieces_of(remark: &Remark, version: u8) -> [Piece<'static>; 5] {
     let (message, partner) = (&remark.message, &remark.partner);
     let (asked, line) = (name(partner), Number(partner.line));
     let id = Id(message.id, version);
     match remark.rule {
-        Rule::OtherResponse => [asked, line, asked, asked],
+        Rule::OtherResponse => [asked, line, asked, asked, asked],
         Rule::OtherCap => {
             let cap = word(CAPS, message.param);
-            [cap, asked, line, word(GROWTHS, partner.param)]
+            [cap, asked, line, word(GROWTHS, partner.param), asked]
         }
         Rule::LeavesMore => {
             let report = word(REPORTS, message.param);
-            [report, asked, line, word(CAPS, partner.param)]
+            [report, asked, line, word(CAPS, partner.param), asked]
         }
-        Rule::NotAnswered => [Text(answer_to(message)), id, asked, asked],
-        Rule::AnswersNothing => [Text(asked_by(message)), id, asked, asked],
-        Rule::DeniedAck | Rule::DeniedData | Rule::PermToRead => [asked, asked, asked, asked],
+        Rule::NotAnswered if is_before(remark) => {
+            let answer = Text(answer_to(message));
+            [answer, id, line, id_name(message), name(message)]
+        }
+        Rule::NotAnswered => [Text(answer_to(message)), id, asked, asked, asked],
+        Rule::AnswersNothing => [Text(asked_by(message)), id, asked, asked, asked],
+        Rule::IdInUse => [id_name(message), id, asked, line, name(message)],
+        Rule::DeniedAck | Rule::DeniedData | Rule::PermToRead => [asked; 5],
     }
 }
 
-/// Writes a remark on a message of a trace of this version, in a line.
+/// Writes the sentence of a remark. The `version` of the trace determines the number of digits of
+/// an id.
+pub fn put_sentence_of(out: &mut Page, remark: &Remark, version: u8) {
+    let sentence = match remark.rule {
+        Rule::NotAnswered if is_before(remark) => NOT_BEFORE,
+        rule => SENTENCES[rule as usize],
+    };
+    out.say(sentence, &pieces_of(remark, version));
+}
+
+/// Writes a remark as a line. The `version` of the trace determines the number of digits of an id.
 pub fn put_remark(out: &mut Page, remark: &Remark, version: u8) {
     out.say("    #: ", &[Coloured(Colour::Yellow, "remark")]);
-    let sentence = SENTENCES[remark.rule as usize];
-    out.say(sentence, &pieces_of(remark, version));
+    put_sentence_of(out, remark, version);
     out.put_text("\n");
 }

@@ -1,4 +1,5 @@
--- Each call of an outbox keeps what it stands for, and that tells every crossing that its beats are parted in.
+-- Each call of an outbox keeps the history that it represents, and that gives every crossing among whose parts its
+-- beats are divided.
 use Rattle.tl_ring.proofs.Names.{◌≡◌, ◌≤◌, ◌<◌, ◌^◌, ℕ, zero, suc, true, false, List, [], ◌∷◌, ◌++◌, length, take, drop, refl, sym, ap, subst, ◌∙◌}
 use Rattle.tl_ring.proofs.Names.{append_assoc, append-nil, drop-append_seam, IsWidth, IsBeat, Rules, BeatOf, IsAdmitted, rest_of, homes_with, due}
 use Rattle.tl_ring.proofs.Names.{Outgoing, HasSent, as_sent, World, empty, inbox_room, IsReached, Crosses, RestIs}
@@ -9,7 +10,7 @@ use Rattle.tl_ring.proofs.Reached.{reached_new, reached_offered, reached_shut}
 use Rattle.tl_ring.proofs.Parting.{into_taken, reached_parted}
 use Rattle.tl_ring.proofs.Crossings.{crosses}
 
--- where inbox and ring are empty, all that was sent was taken
+-- if inbox and ring are empty, all beats that were sent were taken
 pub none_on_the_way : {X : Type 0} (taken inbox ring : List X) → inbox ≡ [] → ring ≡ [] → taken ++ inbox ++ ring ≡ taken
 none_on_the_way taken inbox ring no_inbox no_ring =
     ap (λ t. taken ++ inbox ++ t) no_ring ∙ append-nil (taken ++ inbox) ∙ ap (λ t. taken ++ t) no_inbox ∙ append-nil taken

@@ -8,7 +8,7 @@ use Rattle.tl_burst.specs.Messages.{Message}
 use Rattle.tl_ring.proofs.Moves.{cut_moves, cut_moves_after}
 use Rattle.tl_ring.proofs.OneMore.{one_more, due_grows, whole_due}
 
--- a prefix, and what a list has behind it, is the list
+-- a prefix, followed by the rest of the list, is the list
 rest_behind : {X : Type 0} (xs ys : List X) → IsPrefix xs ys → xs ++ drop (length xs) ys ≡ ys
 rest_behind xs ys (zs, e) =
     ap (λ t. xs ++ drop (length xs) t) (sym e) ∙ ap (λ t. xs ++ t) (drop-append_seam xs zs) ∙ e

@@ -1,4 +1,5 @@
--- Each call of a sending end takes it to where its crossing is after the same event, and a meeting makes one crossing of both ends.
+-- Each call of a sending end has the effect of the same event on its crossing, and a meeting makes one crossing of both
+-- ends.
 use Rattle.tl_ring.proofs.Names.{◌≡◌, ◌≤◌, ◌<◌, ◌+◌, ℕ, true, false, List, [], ◌∷◌, ◌++◌, length, take, drop, min, refl, sym, ap, subst, ◌∙◌, arith}
 use Rattle.tl_ring.proofs.Names.{⊎_elim, append_assoc, length-append, cases_lt, Rules, BeatOf, rest_of, homes_with, Outgoing, HasSent, World, empty}
 use Rattle.tl_ring.proofs.Names.{offered, shut, inbox_room, Crosses}
@@ -15,7 +16,7 @@ use Rattle.tl_ring.proofs.Boxes.{none_on_the_way, has_more_sent}
 use Rattle.tl_ring.proofs.PipeSteps.{stands_of, stands_new, stands_offered, stands_shut}
 
 module _ {H : Type 0} (r : Rules H) {w v : ℕ} where
-  -- what holds at every moment goes on to another parting of the same beats
+  -- the property that holds at every moment also holds for another division of the same beats
   pub Crosses-parted : (x : World H w v) → (taken inbox ring : List (BeatOf H v)) → x.taken ++ x.inbox ++ x.ring ≡ taken ++ inbox ++ ring →
       x.ring ≡ [] → x.inbox ≡ [] → length inbox ≤ inbox_room → length ring ≤ x.room → Crosses r x →
       Crosses r (record x { ring = ring; inbox = inbox; taken = taken })
@@ -85,7 +86,7 @@ module _ {K A H : Type 0} (r : Rules H) {w v : ℕ} (partial_masked : (h : H) �
       }
 
 module _ {K A H : Type 0} (r : Rules H) {w v : ℕ} where
-  -- what a meeting makes of both ends
+  -- the effect of a meeting on both ends
   pub meets_of : (s s' : Sending K A H v) (t t' : Taking K A H v) (x : World H w v) (taken : List (BeatOf H v)) → Met s t s' t' →
       length t'.inbox ≤ inbox_room → Sends r s x → Takes t taken → Meets r s' t' x taken
   meets_of s s' t t' x taken met held h takes =
@@ -111,7 +112,7 @@ module _ {K A H : Type 0} (r : Rules H) {w v : ℕ} where
         crosses = Crosses-parted r x taken t'.inbox (known_items t') all (sym p.ring) (sym p.inbox) held fits p.crosses;
       }
 
--- what was known to be there is moved, or there was no room for more
+-- the beats known to be there are moved, or there was no room for more
 pub least_moved : {X : Type 0} (known moved left : List X) (k room : ℕ) → IsPrefix known (moved ++ left) → length moved ≡ k →
     (k < room → length left ≡ 0) →
     min (length known) room ≤ k
@@ -205,7 +206,7 @@ module _ {K A H : Type 0} {v : ℕ} where
     all_free = omega (arith, places.1, counts);
   }
 
-  -- beats came out of the ring into the inbox
+  -- beats moved from the ring into the inbox
   pub fetched_of : (t : Taking K A H v) (c : Consumer (BeatOf H v) A (LawfulAt K v H)) (inbox moved : List (BeatOf H v)) (k : ℕ) →
       rtrb.SameConsumer t.consumer c →
       length moved ≡ k → inbox ≡ t.inbox ++ moved → rtrb.received c ≡ received t ++ moved → IsPrefix (known_items t) (moved ++ rtrb.known_items c) →
@@ -224,7 +225,7 @@ module _ {K A H : Type 0} {v : ℕ} where
       f.received ∙ ap (λ l. l ++ f.moved) takes ∙ append_assoc taken t.inbox f.moved ∙ ap (λ l. taken ++ l) (sym f.inbox)
 
 module _ {K A H : Type 0} (r : Rules H) {w v : ℕ} where
-  -- and that is a meeting for whatever they stood for
+  -- and that is a meeting for whatever crossing they represented
   pub meeting_of : (s : Sending K A H v) (t : Taking K A H v) (p : Producer (BeatOf H v) A (LawfulAt K v H))
       (c : Consumer (BeatOf H v) A (LawfulAt K v H)) (count : ℕ) →
       ArePair s t → rtrb.ProducerLooked s.producer p → rtrb.ConsumerLooked t.consumer c → count ≡ length (rtrb.known_items c) →
@@ -238,7 +239,7 @@ module _ {K A H : Type 0} (r : Rules H) {w v : ℕ} where
       let met = met_of s t p c count pair sees seen counts fifo places in
       (met, λ x taken sends takes. meets_of r s (record s { producer = p }) t (record t { consumer = c }) x taken met held sends takes)
 
-  -- the receipt of an end shows what the end stands for, and its ring is no larger than the end's
+  -- the receipt of an end shows the crossing that the end represents, and its ring is no larger than the end's
   pub shows_of : (s : Sending K A H v) (e : Ended K A H v) (x : World H w v) → Finishes s e → s.stage ≡ [] → s.closed ≡ true → Sends r s x →
       Shows r e x
   shows_of s e x finishes none_staged closed h = record {
@@ -258,7 +259,7 @@ module _ {K A H : Type 0} (r : Rules H) {w v : ℕ} where
     crosses = h.pipe.crosses;
   }
 
-  -- what the taking end learns of it
+  -- the facts that it shows the taking end
   pub shown_of : (e e' : Ended K A H v) (t t' : Taking K A H v) (x : World H w v) (taken : List (BeatOf H v)) → IsReceiptOf e t →
       LookedAfter e t e' t' →
       length t'.inbox ≤ inbox_room → Shows r e x → Takes t taken → Shown r e' t' x taken

@@ -1,5 +1,5 @@
 -- A field takes no more bytes of memory than its struct, and a beat takes few.
-use Rattle.tl_ring.proofs.Names.{ℕ, zero, suc, ◌+◌, ◌*◌, ◌≤◌, ◌<◌, max, arith, IsWidth, ROOM}
+use Rattle.tl_ring.proofs.Names.{ℕ, zero, suc, ◌+◌, ◌*◌, ◌≤◌, ◌<◌, max, arith, IsWidth, STAGE_CAPACITY}
 use Rattle.tl_lanes.proofs.Masks.{mask_width}
 use Rattle.tl_lanes.proofs.Widths.{width_bounds}
 use Rattle.tl_lanes.proofs.Sizes.{align-small, up_le}
@@ -35,7 +35,7 @@ inner_small t k j n small = part_small (part t k) j n (part_small t k n small)
 abbrev pub mask_bytes : ℕ
 mask_bytes = size (ty_int mask_width)
 
--- a beat fits in memory: its mask begins where a head of any channel has ended
+-- a beat fits in memory: its mask begins after a head of any channel
 pub beat_small : (w : ℕ) → IsWidth w → up mask_bytes (up 1 (mask_bytes + mask_bytes + w * 1) + 1) < 9223372036854775808
 beat_small w width =
     let most = (width_bounds w width).1 in
@@ -43,7 +43,8 @@ beat_small w width =
     let whole = up_le mask_bytes (up 1 (mask_bytes + mask_bytes + w * 1) + 1) in
     omega arith
 
--- the bytes of a beat of width w, and of a queue of such beats, where a head has s bytes, is aligned to a, and lies at a multiple of x
+-- the bytes of a beat of width w, and of a queue of such beats, if a head has s bytes, is aligned to a, and is at a
+-- multiple of x
 abbrev beat_bytes : (a x s w : ℕ) → ℕ
 beat_bytes a x s w = up (max a mask_bytes) (up 1 (up 1 (up mask_bytes (up x 0 + s) + mask_bytes) + w * 1) + 1)
 
@@ -65,7 +66,7 @@ abbrev queue_bytes : (a x s w : ℕ) → ℕ
 queue_bytes a x s w =
     let m1 : ℕ = max (max (max a mask_bytes) 1) 8 in
     let m2 : ℕ = max (max a mask_bytes) 1 in
-    up (max m1 8) (up 8 (up m1 0 + up m1 (up 1 (up 8 (up m2 0 + up m2 (up (max a mask_bytes) 0 + ROOM * beat_bytes a x s w)) + 8) + 0)) + 8)
+    up (max m1 8) (up 8 (up m1 0 + up m1 (up 1 (up 8 (up m2 0 + up m2 (up (max a mask_bytes) 0 + STAGE_CAPACITY * beat_bytes a x s w)) + 8) + 0)) + 8)
 
 -- one of its beats takes no more
 pub beat_in_queue : (head place : Ty) (w n : ℕ) → queue_bytes (align head) (align place) (size head) w < n →
@@ -75,7 +76,7 @@ beat_in_queue head place w n small =
     let beat : ℕ = beat_bytes a (align place) (size head) w in
     let m1 : ℕ = max (max (max a mask_bytes) 1) 8 in
     let m2 : ℕ = max (max a mask_bytes) 1 in
-    let items : ℕ = up (max a mask_bytes) 0 + ROOM * beat in
+    let items : ℕ = up (max a mask_bytes) 0 + STAGE_CAPACITY * beat in
     let one = up-ge m2 items in
     let two = up-ge 8 (up m2 0 + up m2 items) in
     let three = up-ge 1 (up 8 (up m2 0 + up m2 items) + 8) in

@@ -30,21 +30,21 @@ take_of_two n front back = ⊎_elim
     append-nil (take n front) ∙ sym (take-append-le n front back inside))
     (cases_lt (length front) n)
 
--- the first n of two lists joined, where the first list has them all
+-- the first n of two lists joined, if the first list has them all
 pub take_of_first : {X : Type 0} (n : ℕ) (front back : List X) → n ≤ min n (length front) → take (min n (length front)) front ≡ take n (front ++ back)
 take_of_first n front back all =
     let none : n - min n (length front) ≡ 0 = omega arith in
     sym (append-nil (take (min n (length front)) front)) ∙ ap (λ k. take (min n (length front)) front ++ take k back) (sym none) ∙
     take_of_two n front back
 
--- a list has no element exactly where it is empty
+-- a list has no element if and only if it is empty
 pub none_in_one : {X : Type 0} (xs : List X) (n : ℕ) → n ≡ length xs → ((n == 0) ≡ true) ↔ (xs ≡ [])
 none_in_one xs n count = ⊎_elim
     (λ (t, z). (λ _. nil_from_length xs (omega arith), λ _. t))
     (λ (t, some). (λ u. absurd (cc), λ x. let a : length xs ≡ 0 = ap length x in absurd (some (omega arith))))
     (eqb_tells n 0)
 
--- three lists have no element together exactly where each is empty
+-- three lists together have no element if and only if each is empty
 pub none_in_three : {X : Type 0} (xs ys zs : List X) (n : ℕ) → n ≡ length xs + length ys + length zs →
     ((n == 0) ≡ true) ↔ ((xs ≡ []) × (ys ≡ []) × (zs ≡ []))
 none_in_three xs ys zs n e = ⊎_elim
@@ -76,7 +76,7 @@ no_ring_size ring answer exact refused = ⊎_elim
     (cases_lt MAX_RING ring))
     (cases_lt ring 1)
 
--- so RingSize is answered of it
+-- so RingSize is returned for it
 pub refused_size : (ring : ℕ) (answer : Bool) → (answer ≡ true) ↔ ((1 ≤ ring) × (ring ≤ MAX_RING)) → answer ≡ false →
     (RingSize ≡ RingSize) ↔ ((ring ≡ 0) ⊎ (MAX_RING < ring))
 refused_size ring answer exact refused = (λ same. no_ring_size ring answer exact refused, λ size. refl)

@@ -1,4 +1,5 @@
--- What the proofs of this crate name most, of the library and of the definitions, passed on by one module.
+-- The names that the proofs of this crate use most, from the library and from the definitions, re-exported by one
+-- module.
 pub use Rattle.std.proofs.Common.{◌≡◌, ◌≤◌, ◌<◌, ◌∷◌, ◌++◌, Option, None, Some, List, [], length, drop, ◌⊎◌, ◌||◌, Bool, true, false, inl, inr}
 pub use Rattle.std.proofs.Common.{get_or, subst, refl, sym, ap, arith, ◌^◌, ℕ, zero, suc, take, ◌∙◌, append_assoc, append-nil, ◌+◌, ◌-◌, min}
 pub use Rattle.std.proofs.Common.{length-append, ⊎_elim, ◌*◌, max, ◌↔◌, ◌==◌, ◌&&◌, cond, map, slice_index, replicate, rules, lit<, not}
@@ -22,4 +23,4 @@ pub use Rattle.tl_ring.specs.Crossing.{World, empty, inbox_room, IsReached, Even
 pub use Rattle.tl_ring.specs.Crossing.{shut, effect, IsPossible, Run, done, happens, fails}
 pub use Rattle.tl_ring.specs.Laws.{Crosses}
 pub use Rattle.tl_ring.specs.contracts.pipe.SyncPipe.{the_row}
-pub use Rattle.tl_ring.specs.declared.queue.TheConstants.{ROOM}
+pub use Rattle.tl_ring.specs.declared.queue.TheConstants.{STAGE_CAPACITY}

@@ -33,7 +33,7 @@ module _ {H : Type 0} (r : Rules H) where
 
 module _ {H : Type 0} (r : Rules H) {w v : ℕ} (near : IsWidth w) (far : IsWidth v)
     (partial_masked : (h : H) → r.partial h ≡ true → r.masked ≡ true) where
-  -- the beats alone tell how many homes there are
+  -- the beats by themselves determine the number of homes
   same_count : {bs : List (BeatOf H w)} {homes homes' : List ℕ} {ms ms' : List (Message H)} {rest rest' : List (BeatOf H w)} →
       Handed r w bs homes ms rest → Handed r w bs homes' ms' rest' → length homes ≡ length homes'
   same_count {ms = ms} {ms' = ms'} {rest = rest} {rest' = rest'} h h' =
@@ -48,7 +48,7 @@ module _ {H : Type 0} (r : Rules H) {w v : ℕ} (near : IsWidth w) (far : IsWidt
       homes-count r w v near far partial_masked h ∙ ap (λ n. n + cond (length rest == 0) 0 1) whole ∙
       ap (λ t. length ms' + cond (length t == 0) 0 1) same ∙ sym (homes-count r w v near far partial_masked h')
 
-  -- handed beats and an admitted one are handed, with one more home where it opens a message
+  -- handed beats and an admitted one are handed, with one more home if it opens a message
   pub one_more : ChannelLaws r → {bs : List (BeatOf H w)} {homes : List ℕ} {ms : List (Message H)} {rest : List (BeatOf H w)} →
       Handed r w bs homes ms rest →
       (b : BeatOf H w) (home : ℕ) → IsBeat r b → r.lane_address b.head home < 2 ^ 64 → IsAdmitted r bs b →
@@ -57,7 +57,7 @@ module _ {H : Type 0} (r : Rules H) {w v : ℕ} (near : IsWidth w) (far : IsWidt
       let before : IsHanded r bs = record { homes = homes; messages = ms; rest = rest; handed = handed } in
       none-handed r w near laws b home handed is_beat (admitted-none r w near laws bs b before admitted) small
 
-  -- what was due stays due
+  -- beats that were due stay due
   pub due_grows : {bs : List (BeatOf H w)} {homes : List ℕ} {ms : List (Message H)} {rest : List (BeatOf H w)} → Handed r w bs homes ms rest →
       (b : BeatOf H w) (home : ℕ) → IsHandedWith r (bs ++ b ∷ []) (homes_with r bs homes b home) →
       IsPrefix (due r w v bs homes) (due r w v (bs ++ b ∷ []) (homes_with r bs homes b home))
@@ -69,7 +69,7 @@ module _ {H : Type 0} (r : Rules H) {w v : ℕ} (near : IsWidth w) (far : IsWidt
       let P : List ℕ → Type 0 = λ t. IsPrefix (due r w v bs t) (due r w v (bs ++ b ∷ []) (homes_with r bs homes b home)) in
       subst P same earlier.due_first
 
-  -- of whole messages their layouts are due
+  -- the beats due for whole messages are their layouts
   pub whole_due : {bs : List (BeatOf H w)} {homes : List ℕ} {ms : List (Message H)} {rest : List (BeatOf H w)} → Handed r w bs homes ms rest →
       rest ≡ [] → due r w v bs homes ≡ layouts r v ms
   whole_due {homes = homes} {ms = ms} handed over =

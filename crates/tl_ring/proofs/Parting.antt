@@ -1,5 +1,5 @@
--- How far the taking end has come is of no matter to the sending end: a crossing that can be reached can be reached with the
--- beats that went into its ring parted otherwise among the ring, the inbox and what was taken.
+-- The sending end does not depend on how far the taking end has come: if a crossing can be reached, so can the one in
+-- which the beats that entered its ring are divided differently among the ring, the inbox and the beats taken.
 use Rattle.tl_ring.proofs.Names.{◌≡◌, ◌≤◌, ◌<◌, ◌+◌, ◌-◌, ℕ, zero, suc, List, [], ◌∷◌, ◌++◌, length, take, drop, min, refl, sym, ap, subst, ◌∙◌}
 use Rattle.tl_ring.proofs.Names.{arith, ⊎_elim, append_assoc, append-nil, length-append, length-take, length-drop, take_all, drop_all, take-append-le}
 use Rattle.tl_ring.proofs.Names.{drop-append-le, cases_lt, drop-append_seam, take-append_seam, Rules, BeatOf, World, Event, offer, push, pop}
@@ -12,12 +12,12 @@ module _ {H : Type 0} {w v : ℕ} where
   abbrev through : World H w v → List (BeatOf H v)
   through x = x.taken ++ x.inbox ++ x.ring
 
-  -- the same crossing where these beats went into the ring: the first t of them were taken, and p of them fetched
+  -- the same crossing, if these beats entered the ring, the first t of them were taken, and p of them fetched
   abbrev parted : (t p : ℕ) → List (BeatOf H v) → World H w v → World H w v
   parted t p all x = record x { ring = drop p all; inbox = drop t (take p all); taken = take t all }
 
 module _ {H : Type 0} (r : Rules H) {w v : ℕ} where
-  -- one staged beat goes on: into the ring, through it into the inbox, or to the taker
+  -- one staged beat moves on: into the ring, through it into the inbox, or to the receiver
   into_ring : (x : World H w v) (b : BeatOf H v) (more : List (BeatOf H v)) → x.stage ≡ b ∷ more → length x.ring < x.room →
       IsReached r x → IsReached r (record x { stage = more; ring = x.ring ++ b ∷ [] })
   into_ring x b more staged fits h =
@@ -89,7 +89,7 @@ module _ {H : Type 0} (r : Rules H) {w v : ℕ} where
       subst P e (into_ring (parted t p all x) b more staged (omega arith) h))
       (cases_lt (length all) p)
 
-  -- so many staged beats went into the ring
+  -- several staged beats entered the ring
   more_sent : (t p : ℕ) → t ≤ p → p ≤ t + inbox_room → (k : ℕ) (stage all : List (BeatOf H v)) (x : World H w v) → x.stage ≡ stage → 1 ≤ x.room →
       length all + min k (length stage) ≤ p + x.room → IsReached r (parted t p all x) →
       IsReached r (parted t p (all ++ take k stage) (record x { stage = drop k stage }))
@@ -109,7 +109,7 @@ module _ {H : Type 0} (r : Rules H) {w v : ℕ} where
       let joined : (all ++ b ∷ []) ++ take k more ≡ all ++ (b ∷ take k more) = append_assoc all (b ∷ []) (take k more) in
       subst (λ all'. IsReached r (parted t p all' (record x { stage = drop k more }))) joined next
 
-  -- what each event adds to the beats that went into the ring
+  -- the beats that each event adds to those that entered the ring
   grows : (x : World H w v) (e : Event H w) → length (through x) ≤ length (through (effect r x e))
   grows x (offer b home) = omega arith
   grows x (push k) =
@@ -137,7 +137,8 @@ module _ {H : Type 0} (r : Rules H) {w v : ℕ} where
       (omega (arith, now, later.0), later.1 ∙ same_room x e)
   grows_run (fails x y e es never run) = grows_run run
 
-  -- each event but a push leaves the beats that went into the ring, so it is the same event or none where they are parted otherwise
+  -- each event except a push leaves the beats that entered the ring, so it is the same event, or none, if they are
+  -- divided differently
   parted_effect : (t p : ℕ) → t ≤ p → p ≤ t + inbox_room → (x : World H w v) (e : Event H w) → IsPossible r x e → 1 ≤ x.room →
       length (through (effect r x e)) ≤ p + x.room → IsReached r (parted t p (through x) x) →
       IsReached r (parted t p (through (effect r x e)) (effect r x e))

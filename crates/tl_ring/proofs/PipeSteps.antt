@@ -1,4 +1,4 @@
--- Each call of a pipe takes it to where its crossing is after the same event.
+-- Each call of a pipe has the effect of the same event on its crossing.
 use Rattle.tl_ring.proofs.Names.{◌≡◌, ◌≤◌, ◌+◌, ◌-◌, ℕ, true, false, List, [], ◌∷◌, ◌++◌, length, take, drop, min, refl, sym, ap, subst, ◌∙◌, arith}
 use Rattle.tl_ring.proofs.Names.{append_assoc, append-nil, length-append, length-take, length-drop, drop-append_seam, Rules, BeatOf, rest_of}
 use Rattle.tl_ring.proofs.Names.{homes_with, due, Outgoing, HasSent, World, empty, offered, pushed, popped, took, shut, inbox_room}
@@ -7,7 +7,8 @@ use Rattle.tl_ring.proofs.Boxes.{has_more_sent, has_closed, reached_by, crosses_
 use Rattle.tl_ring.proofs.Moves.{cut_moves, cut_moves_after}
 
 module _ {H : Type 0} (r : Rules H) {w v : ℕ} (partial_masked : (h : H) → r.partial h ≡ true → r.masked ≡ true) where
-  -- what a pipe stands for is what its outbox does, whose beats are parted among what was taken, the inbox and the ring
+  -- a pipe represents a crossing if its outbox represents its history, with the sent beats divided among the beats
+  -- taken, the inbox and the ring
   pub stands_of : (p : Pipe H v) (x : World H w v) → 1 ≤ x.room → p.room ≡ x.room → p.stage ≡ x.stage → p.ring ≡ x.ring → p.inbox ≡ x.inbox →
       p.closed ≡ x.closed → length x.ring ≤ x.room → length x.inbox ≤ inbox_room →
       HasSent r (outbox_of p) x.accepted x.homes (x.taken ++ x.inbox ++ x.ring) → StandsFor r p x
@@ -28,7 +29,7 @@ module _ {H : Type 0} (r : Rules H) {w v : ℕ} (partial_masked : (h : H) → r.
   stands_new p size some h room none_staged no_ring no_inbox still =
       stands_of p (empty {w = w} size) some room none_staged no_ring no_inbox still (omega arith) (omega arith) h
 
-  -- what an outbox that was empty has staged is what an offer makes due
+  -- the beats that an empty outbox has staged after an offer are those that the offer makes due
   pub staged_of : (x : World H w v) (b : BeatOf H w) (home : ℕ) (o o' : Outgoing H v) → o.stage ≡ [] →
       HasSent r o x.accepted x.homes (x.taken ++ x.inbox ++ x.ring) →
       HasSent r o' (x.accepted ++ b ∷ []) (homes_with r x.accepted x.homes b home) (x.taken ++ x.inbox ++ x.ring) →

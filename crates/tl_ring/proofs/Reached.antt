@@ -1,4 +1,4 @@
--- A list of events goes on by what a call of a pipe does: an event, or nothing.
+-- A list of events is extended by the effect of a call of a pipe: an event, or nothing.
 use Rattle.tl_ring.proofs.Names.{◌≡◌, ◌≤◌, ◌-◌, ℕ, Bool, zero, suc, true, false, List, [], ◌∷◌, ◌++◌, length, take, drop, min, refl, sym, ap, subst}
 use Rattle.tl_ring.proofs.Names.{◌∙◌, arith, append-nil, Rules, BeatOf, rest_of, World, Event, offer, push, pop, take_one, close, empty, offered}
 use Rattle.tl_ring.proofs.Names.{pushed, popped, took, shut, effect, IsPossible, inbox_room, Run, done, happens, fails, IsReached}
@@ -29,7 +29,7 @@ module _ {H : Type 0} (r : Rules H) {w v : ℕ} where
       subst (λ (y : World H w v). IsReached r y) same h
   reached_popped (suc k) x fits h = record { events = h.events ++ pop (suc k) ∷ []; run = run_then h.run (pop (suc k)) (omega arith, fits) }
 
-  -- where the inbox is empty a take is no event
+  -- if the inbox is empty, a take is no event
   took_nothing : (x : World H w v) → x.inbox ≡ [] → x ≡ took x
   took_nothing x none =
       let taken : x.taken ≡ x.taken ++ take 1 x.inbox = sym (append-nil x.taken) ∙ ap (λ t. x.taken ++ take 1 t) (sym none) in

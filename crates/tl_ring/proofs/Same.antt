@@ -15,7 +15,7 @@ module _ {K A H : Type 0} {v : ℕ} where
   pub same_take_then : (a b c : Taking K A H v) → SameTake a b → SameTake b c → SameTake a c
   same_take_then a b c e f = ((f.0.0 ∙ e.0.0, f.0.1 ∙ e.0.1, f.0.2 ∙ e.0.2, f.0.3 ∙ e.0.3), f.1 ∙ e.1)
 
-  -- two ends stay a pair while each goes on by itself
+  -- two ends stay a pair while each advances by itself
   pub still_pair : (s s' : Sending K A H v) (t t' : Taking K A H v) → SameSend s s' → SameTake t t' → ArePair s t → ArePair s' t'
   still_pair s s' t t' send take pair = (
     take.0.0 ∙ pair.0 ∙ sym send.0.0,

@@ -1,4 +1,4 @@
--- How many pumps and fetches bring a beat to where it can be taken.
+-- The number of pumps and fetches until a beat can be taken.
 use Rattle.tl_ring.proofs.Names.{◌≡◌, ◌≤◌, ◌<◌, ◌+◌, ◌*◌, ◌-◌, ◌↔◌, ◌++◌, ℕ, zero, suc, List, [], ◌∷◌, length, take, drop, min, refl, sym, ap, subst, ◌∙◌}
 use Rattle.tl_ring.proofs.Names.{arith, ⊎_elim, cases_lt, drop-append_seam, length-take, length-drop, drop-drop, drop_all, take_all, nil_from_length}
 use Rattle.tl_ring.proofs.Names.{Rules, BeatOf, homes_with, due, World, offered, inbox_room, slice_get, Some}
@@ -32,7 +32,7 @@ take_both n m xs = ⊎_elim
     take_all n (take m xs) (omega (arith, short, more)) ∙ ap (λ k. take k xs) (sym one))
     (cases_lt n m)
 
--- what stands in the inbox after one pump and one fetch
+-- the beats in the inbox after one pump and one fetch
 abbrev now_in_ring : {X : Type 0} (room : ℕ) (ring stage : List X) → List X
 now_in_ring room ring stage = ring ++ take (min (length stage) (room - length ring)) stage
 
@@ -40,7 +40,7 @@ abbrev inbox_then : {X : Type 0} (room : ℕ) (inbox ring stage : List X) → Li
 inbox_then room inbox ring stage =
     inbox ++ take (min (length (now_in_ring room ring stage)) (inbox_room - length inbox)) (now_in_ring room ring stage)
 
--- where nothing stood in ring and inbox before
+-- the same, if ring and inbox were empty before
 from_empty : {X : Type 0} (room : ℕ) (stage : List X) → inbox_then room [] [] stage ≡ take (min room inbox_room) stage
 from_empty room stage =
     let none : room - 0 ≡ room = omega arith in
@@ -52,7 +52,7 @@ first_of : {X : Type 0} (n : ℕ) (x : X) (xs : List X) → 1 ≤ n → slice_ge
 first_of zero x xs some = absurd (omega (arith, some))
 first_of (suc n) x xs some = refl
 
--- rounded up: so many rings hold a list exactly where it is no longer than they are together
+-- rounded up: a number of rings holds a list if and only if it is no longer than they are together
 rings_hold : (room count n : ℕ) → 1 ≤ room → (count ≤ n * room) ↔ (rings_for room count ≤ n)
 rings_hold room count n some =
     let next : (n + 1) * room ≡ n * room + room = grind arith in (

@@ -1,4 +1,4 @@
--- Every list of events leads to a world: whether an event is possible can be told.
+-- Every list of events leads to a world: it is decidable whether an event is possible.
 use Rattle.tl_ring.proofs.Names.{◌≡◌, ◌≤◌, ◌<◌, ◌-◌, ◌^◌, ℕ, suc, Bool, true, false, Option, None, Some, List, [], ◌∷◌, length, min, refl, ⊎_elim}
 use Rattle.tl_ring.proofs.Names.{inl, inr, arith, ◌⊎◌, All, cases_lt, All-nil, All-cons, All-head, All-tail, IsWidth, IsBeat, Rules, BeatOf, IsHanded}
 use Rattle.tl_ring.proofs.Names.{IsAdmitted, rest_of, fault_after, ChannelLaws, faults-exact, World, Event, offer, push, pop, take_one, close, effect}
@@ -15,7 +15,7 @@ both (inl p) (inl q) = inl (p, q)
 both (inl p) (inr never) = inr (λ pq. never pq.1)
 both (inr never) q = inr (λ pq. never pq.0)
 
--- five facts, of which the last can be told where the third holds
+-- five facts, the last of which is decidable if the third holds
 all_five : {P Q S T U : Type 0} → Known P → Known Q → Known S → Known T → (S → Known U) → Known (P × Q × S × T × U)
 all_five (inl p) (inl q) (inl s) (inl t) u = ⊎_elim (λ last. inl (p, q, s, t, last)) (λ never. inr (λ all. never all.4)) (u s)
 all_five (inl p) (inl q) (inl s) (inr never) u = inr (λ all. never all.3)

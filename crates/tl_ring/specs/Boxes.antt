@@ -1,4 +1,4 @@
--- What a contract sees of a sender's outbox and of a taker's inbox, which know no ring.
+-- The logical view of a sender's outbox and of a receiver's inbox. Neither depends on a ring.
 use Rattle.std.specs.Prelude.{◌≡◌, ◌≤◌, ℕ, Bool, true, false, List, [], ◌++◌, All}
 use Rattle.tl_lanes.specs.Lanes.{IsWidth}
 use Rattle.tl_msg.specs.Rules.{Rules}
@@ -10,27 +10,27 @@ use Rattle.tl_convert.specs.Converting as converting
 use Rattle.tl_convert.specs.Due.{due}
 use Rattle.tl_ring.specs.Crossing.{World, IsReached}
 
--- an outbox as it is now: it keeps no history
+-- the current state of an outbox, without its history
 pub record Outgoing (H : Type 0) (v : ℕ) : Type 0 where
-  -- where its converter is in a burst
+  -- the position of its converter in a burst
   pub converter : Progress H v
   -- the far beats that wait to be sent
   pub stage : List (BeatOf H v)
   pub closed : Bool
 
--- a beat may be offered: nothing is staged and the outbox isn't closed
+-- a beat may be offered: nothing is staged and the outbox is not closed
 abbrev pub IsOpen : {H : Type 0} {v : ℕ} → Outgoing H v → Type 0
 IsOpen o = (o.stage ≡ []) × (o.closed ≡ false)
 
--- no beat may be offered any more, and all that was made due was sent
+-- no more beats may be offered, and all beats that became due were sent
 abbrev pub IsSentOut : {H : Type 0} {v : ℕ} → Outgoing H v → Type 0
 IsSentOut o = (o.closed ≡ true) × (o.stage ≡ [])
 
--- beats that are lawful each by itself
+-- beats of which each is lawful by itself
 abbrev pub AreLawful : {H : Type 0} → Rules H → {v : ℕ} → List (BeatOf H v) → Type 0
 AreLawful r bs = All (λ b. IsLawfulBeat r b) bs
 
--- the crossing through a ring of so many beats whose other end took each beat as soon as it was sent
+-- the crossing through a ring of `room` beats, if the other end took each beat as soon as it was sent
 abbrev pub as_sent : {H : Type 0} {w v : ℕ} → (room : ℕ) → Outgoing H v → (accepted : List (BeatOf H w)) → (homes : List ℕ) →
     (sent : List (BeatOf H v)) → World H w v
 as_sent room o accepted homes sent = record {
@@ -50,15 +50,15 @@ pub record HasSent {H : Type 0} (r : Rules H) {w v : ℕ} (o : Outgoing H v) (ac
     (sent : List (BeatOf H v)) : Type 0 where
   pub near : IsWidth w
   pub far : IsWidth v
-  -- its converter was fed what was accepted
+  -- its converter was fed the accepted beats
   pub converter : converting.StandsFor r o.converter accepted homes
-  -- what was sent, and what is staged, is the far layout of what was accepted
+  -- the beats sent, followed by those staged, are the far layout of the accepted beats
   pub beats : sent ++ o.stage ≡ due r w v accepted homes
-  -- once closed, whole messages alone
+  -- once closed, only whole messages were accepted
   pub closed_whole : o.closed ≡ true → rest_of r w accepted ≡ []
   -- a list of events leads there
   pub reached : (room : ℕ) → 1 ≤ room → IsReached r (as_sent room o accepted homes sent)
 
--- of the beats that came to an inbox, these were taken, and the others stand in it
+-- the beats received in an inbox are those taken, followed by those still in it
 abbrev pub HasTaken : {X : Type 0} → (inbox received taken : List X) → Type 0
 HasTaken inbox received taken = received ≡ taken ++ inbox

@@ -1,19 +1,20 @@
--- The crossing of one channel as a world with events, in any order (this project's choice; the ring after Rocket Chip's TLAsyncCrossing).
+-- The crossing of one channel as a state with events, in any order (this project's choice; the ring is modelled on
+-- Rocket Chip's TLAsyncCrossing).
 use Rattle.std.specs.Prelude.{◌≡◌, ◌-◌, ◌≤◌, ◌<◌, ◌^◌, ℕ, Bool, true, false, List, [], ◌∷◌, ◌++◌, length, take, drop, min}
 use Rattle.tl_msg.specs.Beats.{IsBeat}
 use Rattle.tl_msg.specs.Rules.{Rules}
 use Rattle.tl_msg.specs.declared.beat.BeatOf.{BeatOf}
 use Rattle.tl_burst.specs.Handing.{IsAdmitted, rest_of, homes_with}
 use Rattle.tl_convert.specs.Due.{due}
-use Rattle.tl_ring.specs.declared.queue.TheConstants.{ROOM}
+use Rattle.tl_ring.specs.declared.queue.TheConstants.{STAGE_CAPACITY}
 
--- how many beats an inbox holds
+-- the capacity of an inbox in beats
 abbrev pub inbox_room : ℕ
-inbox_room = ROOM
+inbox_room = STAGE_CAPACITY
 
--- where the beats of one channel stand: on w lanes until they are accepted, on v lanes from then on
+-- the beats of one channel by their place: on w lanes until they are accepted, on v lanes from then on
 pub record World (H : Type 0) (w v : ℕ) : Type 0 where
-  -- how many beats the ring holds
+  -- the capacity of the ring in beats
   pub room : ℕ
   -- the near beats that were accepted, and the homes of the messages that they began
   pub accepted : List (BeatOf H w)
@@ -25,11 +26,11 @@ pub record World (H : Type 0) (w v : ℕ) : Type 0 where
   pub taken : List (BeatOf H v)
   pub closed : Bool
 
--- what one end may try
+-- the attempts that an end can make
 pub data Event (H : Type 0) (w : ℕ) : Type 0 where
   -- a near beat, with the home of the message that it may open
   offer : (b : BeatOf H w) (home : ℕ) → Event H w
-  -- so many beats into the ring, or out of it
+  -- k beats into the ring, or out of it
   push : (k : ℕ) → Event H w
   pop : (k : ℕ) → Event H w
   take_one : Event H w
@@ -40,11 +41,11 @@ module _ {H : Type 0} {w v : ℕ} where
   abbrev pub empty : (room : ℕ) → World H w v
   empty room = record { room = room; accepted = []; homes = []; stage = []; ring = []; inbox = []; taken = []; closed = false }
 
-  -- k beats go from the stage's front to the ring's end
+  -- k beats move from the front of the stage to the end of the ring
   abbrev pub pushed : (k : ℕ) → World H w v → World H w v
   pushed k x = record x { stage = drop k x.stage; ring = x.ring ++ take k x.stage }
 
-  -- k beats go from the ring's front to the inbox's end
+  -- k beats move from the front of the ring to the end of the inbox
   abbrev pub popped : (k : ℕ) → World H w v → World H w v
   popped k x = record x { ring = drop k x.ring; inbox = x.inbox ++ take k x.ring }
 
@@ -56,7 +57,7 @@ module _ {H : Type 0} {w v : ℕ} where
   shut x = record x { closed = true }
 
 module _ {H : Type 0} (r : Rules H) {w v : ℕ} where
-  -- a beat is accepted, and the far beats that it makes due wait in the stage
+  -- a beat is accepted, and the far beats that it completes wait in the stage
   abbrev pub offered : BeatOf H w → (home : ℕ) → World H w v → World H w v
   offered b home x = record x {
     accepted = x.accepted ++ b ∷ [];
@@ -64,7 +65,7 @@ module _ {H : Type 0} (r : Rules H) {w v : ℕ} where
     stage = drop (length (due r w v x.accepted x.homes)) (due r w v (x.accepted ++ b ∷ []) (homes_with r x.accepted x.homes b home));
   }
 
-  -- whether an event is possible: an offer brings a beat that memory can hold, and its home is an address of 64 bits
+  -- an event is possible; an offer must bring a beat that memory can hold, and a home that is an address of 64 bits
   abbrev pub IsPossible : World H w v → Event H w → Type 0
   IsPossible x (offer b home) = (x.closed ≡ false) × (x.stage ≡ []) × IsBeat r b × (r.lane_address b.head home < 2 ^ 64) × IsAdmitted r x.accepted b
   IsPossible x (push k) = (1 ≤ k) × (k ≤ min (length x.stage) (x.room - length x.ring))
@@ -72,7 +73,7 @@ module _ {H : Type 0} (r : Rules H) {w v : ℕ} where
   IsPossible x take_one = 1 ≤ length x.inbox
   IsPossible x close = (x.closed ≡ false) × (rest_of r w x.accepted ≡ [])
 
-  -- what a possible event makes of the world
+  -- the world after a possible event
   abbrev pub effect : World H w v → Event H w → World H w v
   effect x (offer b home) = offered b home x
   effect x (push k) = pushed k x
@@ -80,7 +81,7 @@ module _ {H : Type 0} (r : Rules H) {w v : ℕ} where
   effect x take_one = took x
   effect x close = shut x
 
-  -- a world after a list of events: one that is not possible changes nothing
+  -- a world after a list of events; an event that is not possible changes nothing
   pub data Run : World H w v → List (Event H w) → World H w v → Type 0 where
     done : (x : World H w v) → Run x [] x
     happens : (x y : World H w v) (e : Event H w) (es : List (Event H w)) → IsPossible x e → Run (effect x e) es y → Run x (e ∷ es) y

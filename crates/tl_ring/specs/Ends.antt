@@ -1,5 +1,5 @@
--- What a contract sees of the two ends of a ring between two threads.
-use Rattle.std.specs.Prelude.{◌≡◌, ◌≤◌, ◌+◌, ℕ, Bool, true, List, [], ◌++◌, length, take, drop}
+-- The logical view of the two ends of a ring between two threads.
+use Rattle.std.specs.Prelude.{◌≡◌, ◌≤◌, ◌+◌, ◌-◌, ℕ, Bool, true, List, [], ◌++◌, length, take, drop}
 use mathlib.Core.List.{IsPrefix}
 use Rattle.rtrb.specs.Ring as rtrb
 use Rattle.rtrb.specs.declared.producer.Producer.{Producer}
@@ -9,41 +9,42 @@ use Rattle.tl_msg.specs.Rules.{Rules}
 use Rattle.tl_msg.specs.declared.beat.BeatOf.{BeatOf}
 use Rattle.tl_convert.specs.Converting.{Progress}
 use Rattle.tl_ring.specs.Boxes.{Outgoing, HasSent, HasTaken}
+use Rattle.tl_ring.specs.Counts.{counted}
 use Rattle.tl_ring.specs.Crossing.{World, IsReached}
 use Rattle.tl_ring.specs.Laws.{Crosses}
 use Rattle.tl_ring.specs.Pipe.{Pipe, StandsFor, outbox_of}
 use Rattle.tl_ring.specs.declared.lawful.LawfulAt.{LawfulAt}
 
--- a ring as each of its ends has it
+-- the two halves of a ring
 abbrev pub SendHalf : (K A H : Type 0) → ℕ → Type 0
 SendHalf K A H v = Producer (BeatOf H v) A (LawfulAt K v H)
 
 abbrev pub TakeHalf : (K A H : Type 0) → ℕ → Type 0
 TakeHalf K A H v = Consumer (BeatOf H v) A (LawfulAt K v H)
 
--- a sending end as it is now
+-- the current state of a sending end
 pub record Sending (K A H : Type 0) (v : ℕ) : Type 0 where
-  -- where its converter is in a burst
+  -- the position of its converter in a burst
   pub converter : Progress H v
-  -- the far beats that wait for a place in the ring
+  -- the far beats that wait for a free position in the ring
   pub stage : List (BeatOf H v)
-  -- its end of the ring
+  -- its half of the ring
   pub producer : Producer (BeatOf H v) A (LawfulAt K v H)
   pub closed : Bool
 
--- what is left of a sending end that was given up: it shows all that was sent
+-- the receipt of a sending end that was given up: it shows all beats that were sent
 pub record Ended (K A H : Type 0) (v : ℕ) : Type 0 where
   pub finished : Finished (BeatOf H v) A (LawfulAt K v H)
 
--- a taking end as it is now
+-- the current state of a taking end
 pub record Taking (K A H : Type 0) (v : ℕ) : Type 0 where
   -- the far beats that were fetched and not yet taken
   pub inbox : List (BeatOf H v)
-  -- its end of the ring
+  -- its half of the ring
   pub consumer : Consumer (BeatOf H v) A (LawfulAt K v H)
 
 module _ {K A H : Type 0} {v : ℕ} where
-  -- both halves are of one new ring of so many beats, which the sending half knows to be free
+  -- both halves are of one new ring of `size` beats, and the sending half knows all of it to be free
   pub record IsNewRing (size : ℕ) (s : SendHalf K A H v) (t : TakeHalf K A H v) : Type 0 where
     pub pair : rtrb.IsPair s t
     pub some_room : 1 ≤ size
@@ -53,19 +54,19 @@ module _ {K A H : Type 0} {v : ℕ} where
     pub none_received : rtrb.received t ≡ []
     pub none_known : rtrb.known_items t ≡ []
 
-  -- what went into the ring so far
+  -- the beats that entered the ring so far
   abbrev pub sent : Sending K A H v → List (BeatOf H v)
   sent s = rtrb.sent s.producer
 
-  -- how many beats the ring holds
+  -- the capacity of the ring in beats
   abbrev pub room : Sending K A H v → ℕ
   room s = rtrb.producer_capacity s.producer
 
-  -- how many places of the ring the sending end knows to be free
+  -- the number of positions in the ring that the sending end knows to be free
   abbrev pub known_free : Sending K A H v → ℕ
   known_free s = rtrb.known_free s.producer
 
-  -- what came out of the ring so far
+  -- the beats that came out of the ring so far
   abbrev pub received : Taking K A H v → List (BeatOf H v)
   received t = rtrb.received t.consumer
 
@@ -88,6 +89,14 @@ module _ {K A H : Type 0} {v : ℕ} where
   abbrev pub all_sent : Ended K A H v → List (BeatOf H v)
   all_sent e = rtrb.all_sent e.finished
 
+  -- how many beats a sending end has sent, as it counts them
+  abbrev pub sent_count : Sending K A H v → ℕ
+  sent_count s = counted (length (sent s))
+
+  -- how many beats were taken from a taking end, as it counts them: they came out of the ring, and are in the inbox no more
+  abbrev pub taken_count : Taking K A H v → ℕ
+  taken_count t = counted (length (received t)) - length t.inbox
+
   -- the receipt of this sending end
   abbrev pub Finishes : Sending K A H v → Ended K A H v → Type 0
   Finishes s e = rtrb.Finishes s.producer e.finished
@@ -100,8 +109,7 @@ module _ {K A H : Type 0} {v : ℕ} where
   abbrev pub IsReceiptFor : Sending K A H v → Ended K A H v → Type 0
   IsReceiptFor s e = (t : Taking K A H v) → ArePair s t → IsReceiptOf e t
 
-  -- the pipe that has the end's converter and stage, and whose other end takes each beat as soon
-  -- as it is sent
+  -- the pipe with the end's converter and stage, if the other end takes each beat as soon as it is sent
   abbrev pub as_pipe : Sending K A H v → Pipe H v
   as_pipe s = record { converter = s.converter; room = room s; stage = s.stage; ring = []; inbox = []; closed = s.closed }
 
@@ -113,7 +121,7 @@ module _ {K A H : Type 0} {v : ℕ} where
   abbrev pub taking_of : (inbox : List (BeatOf H v)) → TakeHalf K A H v → Taking K A H v
   taking_of inbox half = record { inbox = inbox; consumer = half }
 
-  -- the end is offered no more beats
+  -- the end after closing: it accepts no more beats
   abbrev pub closing : Sending K A H v → Sending K A H v
   closing s = record s { closed = true }
 
@@ -121,7 +129,7 @@ module _ {K A H : Type 0} {v : ℕ} where
   abbrev pub took_first : Taking K A H v → Taking K A H v
   took_first t = record t { inbox = drop 1 t.inbox }
 
-  -- b is a after k beats went from its stage into the ring
+  -- b is a after k beats moved from its stage into the ring
   pub record Pushed (a : Sending K A H v) (k : ℕ) (b : Sending K A H v) : Type 0 where
     pub ring : SameSend a b
     pub same_converter : b.converter ≡ a.converter
@@ -130,7 +138,7 @@ module _ {K A H : Type 0} {v : ℕ} where
     pub more_sent : sent b ≡ sent a ++ take k a.stage
     pub known : known_free a ≤ known_free b + k
 
-  -- nothing moved, each end knows what it knew, and the taking end knows all of the ring
+  -- nothing moved, neither end forgot anything, and the taking end knows all of the ring
   pub record Met (s : Sending K A H v) (t : Taking K A H v) (s' : Sending K A H v) (t' : Taking K A H v) : Type 0 where
     pub pair : ArePair s' t'
     pub send : SameSend s s'
@@ -144,7 +152,7 @@ module _ {K A H : Type 0} {v : ℕ} where
     pub ring : received t' ++ known_items t' ≡ sent s'
     pub in_room : length (known_items t') ≤ room s
     pub free : known_free s ≤ known_free s'
-    -- each place that holds no beat is known to be free
+    -- each position without a beat is known to be free
     pub all_free : room s ≤ known_free s' + length (known_items t')
 
   -- nothing moved, and the taking end knows all of the ring
@@ -160,7 +168,7 @@ module _ {K A H : Type 0} {v : ℕ} where
   abbrev pub Takes : Taking K A H v → (taken : List (BeatOf H v)) → Type 0
   Takes t taken = HasTaken t.inbox (received t) taken
 
-  -- b is a after k beats came out of the ring, which hold those that were known to be there
+  -- b is a after k beats came out of the ring, including those that were known to be there
   pub record Fetched (a : Taking K A H v) (k : ℕ) (b : Taking K A H v) : Type 0 where
     pub ring : SameTake a b
     pub moved : List (BeatOf H v)
@@ -170,37 +178,36 @@ module _ {K A H : Type 0} {v : ℕ} where
     pub known : IsPrefix (known_items a) (moved ++ known_items b)
 
 module _ {H : Type 0} {w v : ℕ} where
-  -- k beats go from the stage's front through the ring, and are taken
+  -- k beats move from the front of the stage through the ring, and are taken
   abbrev pub passed : (k : ℕ) → World H w v → World H w v
   passed k x = record x { stage = drop k x.stage; taken = x.taken ++ take k x.stage }
 
 module _ {K A H : Type 0} (r : Rules H) {w v : ℕ} where
-  -- the sending end stands for a crossing, as its calls so far have made it, whose other end takes
-  -- each beat as soon as it is sent: where the beats are that it has sent, only a meeting tells
+  -- the sending end represents the crossing that its calls so far made, if its other end takes each beat as soon as it
+  -- is sent; only a meeting shows how far the sent beats have come
   pub record Sends (s : Sending K A H v) (x : World H w v) : Type 0 where
     pub pipe : StandsFor r (as_pipe s) x
     pub sent : sent s ≡ x.taken
     pub some_room : 1 ≤ x.room
 
-  -- the crossing of both ends: what was sent and not taken stands in the inbox and in the ring
+  -- the crossing of both ends: beats sent and not taken are in the inbox and in the ring
   abbrev pub seen_by : Taking K A H v → World H w v → (taken : List (BeatOf H v)) → World H w v
   seen_by t x taken = record x { ring = known_items t; inbox = t.inbox; taken = taken }
 
-  -- what a meeting of two ends says of what they stood for
+  -- the facts that a meeting shows about the crossing that the two ends represented
   pub record Meets (s : Sending K A H v) (t : Taking K A H v) (x : World H w v) (taken : List (BeatOf H v)) : Type 0 where
-    -- each end still stands for it
+    -- each end still represents it
     pub sends : Sends s x
     pub takes : Takes t taken
-    -- what was sent was taken, or stands in the inbox and the ring
+    -- each beat sent was taken, or is in the inbox or the ring
     pub outbox : HasSent r (outbox_of (as_pipe s)) x.accepted x.homes (taken ++ t.inbox ++ known_items t)
     -- both ends, and the ring between them, are one crossing, to which a list of events leads
     pub reached : IsReached r (seen_by t x taken)
-    -- and so what was taken, and what stands in the inbox, the ring and the stage, is the far
-    -- layout of what was accepted
+    -- so the beats taken, followed by those in the inbox, the ring and the stage, are the far layout of the accepted
+    -- beats
     pub crosses : Crosses r (seen_by t x taken)
 
-  -- a receipt shows a closed crossing with nothing staged, whose other end took each beat as soon
-  -- as it was sent
+  -- a receipt shows a closed crossing with nothing staged, whose other end took each beat as soon as it was sent
   pub record Shows (e : Ended K A H v) (x : World H w v) : Type 0 where
     pub closed : x.closed ≡ true
     pub none_staged : x.stage ≡ []
@@ -212,13 +219,12 @@ module _ {K A H : Type 0} (r : Rules H) {w v : ℕ} where
     pub reached : IsReached r x
     pub crosses : Crosses r x
 
-  -- what a taking end learns of a receipt
+  -- the facts that a receipt shows a taking end
   pub record Shown (e : Ended K A H v) (t : Taking K A H v) (x : World H w v) (taken : List (BeatOf H v)) : Type 0 where
-    -- both still stand for it
+    -- both still represent it
     pub shows : Shows e x
     pub takes : Takes t taken
-    -- what was taken, and what stands in the inbox and the ring, is one crossing, to which a list
-    -- of events leads
+    -- the beats taken, and those in the inbox and the ring, are one crossing, to which a list of events leads
     pub reached : IsReached r (seen_by t x taken)
-    -- and so it is the far layout of what was accepted
+    -- so they are the far layout of the accepted beats
     pub crosses : Crosses r (seen_by t x taken)

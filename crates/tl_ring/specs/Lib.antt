@@ -1,4 +1,5 @@
 pub mod Boxes
+pub mod Counts
 pub mod Crossing
 pub mod Ends
 pub mod Laws

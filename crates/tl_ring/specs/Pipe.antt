@@ -1,4 +1,4 @@
--- What a contract sees of the one-thread pipe.
+-- The logical view of the one-thread pipe.
 use Rattle.std.specs.Prelude.{◌≡◌, ◌≤◌, ◌++◌, ℕ, Bool, true, false, List, []}
 use Rattle.tl_msg.specs.Rules.{Rules}
 use Rattle.tl_msg.specs.declared.beat.BeatOf.{BeatOf}
@@ -7,11 +7,11 @@ use Rattle.tl_ring.specs.Boxes.{Outgoing, HasSent}
 use Rattle.tl_ring.specs.Crossing.{World, IsReached}
 use Rattle.tl_ring.specs.Laws.{Crosses}
 
--- a pipe as it is now: it keeps no history
+-- the current state of a pipe, without its history
 pub record Pipe (H : Type 0) (v : ℕ) : Type 0 where
-  -- where its converter is in a burst
+  -- the position of its converter in a burst
   pub converter : Progress H v
-  -- how many beats the ring holds
+  -- the capacity of the ring in beats
   pub room : ℕ
   -- the far beats that wait, from the sender's to the taker's
   pub stage : List (BeatOf H v)
@@ -20,7 +20,7 @@ pub record Pipe (H : Type 0) (v : ℕ) : Type 0 where
   pub closed : Bool
 
 module _ {H : Type 0} {v : ℕ} where
-  -- a beat may be offered: nothing is staged and the pipe isn't closed
+  -- a beat may be offered: nothing is staged and the pipe is not closed
   abbrev pub IsReady : Pipe H v → Type 0
   IsReady p = (p.stage ≡ []) × (p.closed ≡ false)
 
@@ -28,14 +28,13 @@ module _ {H : Type 0} {v : ℕ} where
   abbrev pub IsDrained : Pipe H v → Type 0
   IsDrained p = (p.closed ≡ true) × (p.stage ≡ []) × (p.ring ≡ []) × (p.inbox ≡ [])
 
--- the part of a pipe that is its sender's
+-- the sender's part of a pipe
 abbrev pub outbox_of : {H : Type 0} {v : ℕ} → Pipe H v → Outgoing H v
 outbox_of p = record { converter = p.converter; stage = p.stage; closed = p.closed }
 
--- the pipe stands for a crossing, as its calls so far have made it
+-- the pipe represents the crossing that its calls so far made
 pub record StandsFor {H : Type 0} (r : Rules H) {w v : ℕ} (p : Pipe H v) (x : World H w v) : Type 0 where
-  -- what was accepted went through its outbox, and what was sent from there was taken, or stands in
-  -- the inbox and the ring
+  -- accepted beats went through its outbox; beats sent from there were taken, or are in the inbox or the ring
   pub outbox : HasSent r (outbox_of p) x.accepted x.homes (x.taken ++ x.inbox ++ x.ring)
   pub some_room : 1 ≤ x.room
   -- its beats are those of the crossing
@@ -46,5 +45,5 @@ pub record StandsFor {H : Type 0} (r : Rules H) {w v : ℕ} (p : Pipe H v) (x : 
   pub closed : p.closed ≡ x.closed
   -- a list of events leads there
   pub reached : IsReached r x
-  -- and so what was taken, and what stands in the pipe, is the far layout of what was accepted
+  -- so the beats taken, followed by those in the pipe, are the far layout of the accepted beats
   pub crosses : Crosses r x

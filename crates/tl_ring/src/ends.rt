@@ -6,26 +6,27 @@ ghost use Rattle.tl_msg.specs.Faults.{IsLawfulBeat};
 ghost use Rattle.tl_msg.specs.declared.beat.BeatOf.{BeatOf};
 ghost use Rattle.tl_burst.specs.Handing.{IsAdmitted, rest_of, fault_after};
 ghost use Rattle.tl_ring.specs.Crossing.{World, offered, shut, inbox_room};
-ghost use Rattle.tl_ring.specs.Ends.{Sends, Takes, Pushed, Fetched, Shows, Shown, LookedAfter, IsReceiptOf, IsReceiptFor, Finishes, sending_of, taking_of, known_free, known_items, passed, closing, took_first};
-ghost use Rattle.tl_ring.specs.declared.queue.TheConstants.{ROOM};
+ghost use Rattle.tl_ring.specs.Counts.{IsNumberOf, counted};
+ghost use Rattle.tl_ring.specs.Ends.{Sends, Takes, all_sent, taken_count, Pushed, Fetched, Shows, Shown, LookedAfter, IsReceiptOf, IsReceiptFor, Finishes, sending_of, taking_of, known_free, known_items, passed, closing, took_first};
+ghost use Rattle.tl_ring.specs.declared.queue.TheConstants.{STAGE_CAPACITY};
 
+use crate::counting::CountedFinish;
 use crate::fault::EndFault;
-use crate::halves::{Intake, SendHalf, finish, is_drained, receive, send_staged};
+use crate::halves::{RingReader, SendHalf, finish, is_drained, receive, send_staged, taken_count};
 use crate::inbox::Inbox;
 use crate::lawful::LawfulAt;
 use crate::outbox::Outbox;
-use crate::queue::ROOM;
-use rtrb::Finished;
+use crate::queue::STAGE_CAPACITY;
 use std::alloc::{Allocator, Global};
 use std::marker::Model;
 use tl_msg::{Beat, BeatFault, Channel};
 
 /// The sending end of one channel's crossing, from a bus of `W` bytes to a bus of `V` bytes.
 ///
-/// It is offered near beats, and sends the far beats that they make due through a ring: `offer`
-/// fills the stage, which holds at most [`ROOM`] beats, and `pump` moves beats from there into the ring.
-/// The end may go to a thread of its own. No call waits for the other end (this project's choice,
-/// after a crossing between two clocks).
+/// It is offered near beats, and sends the far beats that become due through a ring: `offer` fills
+/// the stage, which holds at most [`STAGE_CAPACITY`] beats, and `pump` moves beats from there into the ring.
+/// The end can be moved to a thread of its own. No call waits for the other end (this project's
+/// choice, after a crossing between two clocks).
 #[derive(Drop)]
 pub struct SendEnd<K: Channel, const W: usize, const V: usize, A: Allocator = Global> {
     pub(crate) outbox: Outbox<K, W, V>,
@@ -44,31 +45,33 @@ impl<K: Channel, const W: usize, const V: usize, A: Allocator> Model for SendEnd
 }
 
 impl<K: Channel, const W: usize, const V: usize, A: Allocator> SendEnd<K, W, V, A> {
-    /// Whether a beat may be offered: nothing is staged.
+    /// Returns whether a beat may be offered, that is, whether nothing is staged.
     pub fn ready(&self) -> bool
         ensures { IsTrue result ↔ (self.now.stage ≡ []) }
     {
         self.outbox.ready()
     }
 
-    /// How many far beats are staged.
+    /// Returns the number of staged far beats, at most [`STAGE_CAPACITY`].
     pub fn staged(&self) -> usize
         ensures count { result ≡ length self.now.stage }
-        ensures most { result ≤ ROOM }
+        ensures most { result ≤ STAGE_CAPACITY }
     {
         self.outbox.staged()
     }
 
-    /// Offers a near beat where nothing is staged. It is refused with its first fault, exactly where
-    /// a burst is interrupted or a rule of the link broken by it after the beats that were accepted
-    /// before, and nothing changes then. Else the far beats that it completes, at most [`ROOM`], are
-    /// staged. The home is read at a first beat of D alone, where it is the address of the request
-    /// that the message answers.
+    /// Offers a near beat. If it is accepted, the far beats that it completes, at most [`STAGE_CAPACITY`],
+    /// are staged. `home` is read only at a first beat of D. It is the address of the request
+    /// to which the message responds.
+    ///
+    /// Errors: the first fault of the beat, if and only if it interrupts a burst or breaks a rule
+    /// of the link after the beats accepted before. The end is then unchanged. Requires: `W` and
+    /// `V` are widths, and nothing is staged.
     pub fn offer(&mut self, beat: Beat<K, W>, home: u64) -> Result<(), BeatFault>
         requires near { IsWidth W }
         requires far { IsWidth V }
         requires ready { self.old.stage ≡ [] }
-        // for every crossing that the end stands for
+        // for every crossing that the end represents
         ensures admitted { (x : World K.Head W V) → Sends K.rules self.old x →
             IsOk result ↔ IsAdmitted K.rules x.accepted beat }
         ensures accepted { (x : World K.Head W V) → Sends K.rules self.old x →
@@ -82,24 +85,25 @@ impl<K: Channel, const W: usize, const V: usize, A: Allocator> SendEnd<K, W, V, 
         self.outbox.offer(&beat, home)
     }
 
-    /// Moves staged beats into the ring, in order, and answers their number. They are all of them,
-    /// or as many as find a place: no fewer than the end knows to be free. After a meeting it knows
-    /// each free place.
+    /// Moves staged beats into the ring, in order. Returns their number: at least the number of
+    /// free positions that the end knows of, or all staged beats if these are fewer. After a
+    /// meeting it knows every free position.
     pub fn pump(&mut self) -> usize
         ensures least { min (length self.old.stage) (known_free self.old) ≤ result }
-        ensures most { (result ≤ length self.old.stage) × (result ≤ ROOM) }
+        ensures most { (result ≤ length self.old.stage) × (result ≤ STAGE_CAPACITY) }
         ensures pushed { Pushed self.old result self.new }
-        // for every crossing that the end stands for
+        // for every crossing that the end represents
         ensures stands { (x : World K.Head W V) → Sends K.rules self.old x →
             Sends K.rules self.new (passed result x) }
     {
         send_staged(&mut self.outbox, &mut self.producer)
     }
 
-    /// Ends the offers. Refused exactly where a burst is unfinished, and the end then comes back as
-    /// it was. What is staged stays so, and still crosses.
+    /// Ends the offers. Beats in the stage stay there, and still cross.
+    ///
+    /// Errors: `MidBurst` and the unchanged end, if and only if a burst is unfinished.
     pub fn close(self) -> Result<ClosingEnd<K, W, V, A>, (SendEnd<K, W, V, A>, EndFault)>
-        // for every crossing that the end stands for
+        // for every crossing that the end represents
         ensures between { (x : World K.Head W V) → Sends K.rules self x →
             IsOk result ↔ (rest_of K.rules W x.accepted ≡ []) }
         ensures stands { (x : World K.Head W V) → Sends K.rules self x →
@@ -119,8 +123,8 @@ impl<K: Channel, const W: usize, const V: usize, A: Allocator> SendEnd<K, W, V, 
     }
 }
 
-/// A sending end that is offered no more beats. What is staged still crosses: `pump` sends it, and
-/// then `finish` gives the end up.
+/// A sending end that accepts no more beats. Staged beats still cross: `pump` sends them, and
+/// `finish` then gives up the end.
 #[derive(Drop)]
 pub struct ClosingEnd<K: Channel, const W: usize, const V: usize, A: Allocator = Global> {
     pub(crate) outbox: Outbox<K, W, V>,
@@ -139,20 +143,20 @@ impl<K: Channel, const W: usize, const V: usize, A: Allocator> Model for Closing
 }
 
 impl<K: Channel, const W: usize, const V: usize, A: Allocator> ClosingEnd<K, W, V, A> {
-    /// How many far beats are staged.
+    /// Returns the number of staged far beats, at most [`STAGE_CAPACITY`].
     pub fn staged(&self) -> usize
         ensures count { result ≡ length self.now.stage }
-        ensures most { result ≤ ROOM }
+        ensures most { result ≤ STAGE_CAPACITY }
     {
         self.outbox.staged()
     }
 
-    /// Moves staged beats into the ring, as [`SendEnd::pump`] does, and answers their number.
+    /// Moves staged beats into the ring, as [`SendEnd::pump`] does. Returns their number.
     pub fn pump(&mut self) -> usize
         ensures least { min (length self.old.stage) (known_free self.old) ≤ result }
-        ensures most { (result ≤ length self.old.stage) × (result ≤ ROOM) }
+        ensures most { (result ≤ length self.old.stage) × (result ≤ STAGE_CAPACITY) }
         ensures pushed { Pushed self.old result self.new }
-        // for every crossing that the end stands for
+        // for every crossing that the end represents
         ensures stands { (x : World K.Head W V) → Sends K.rules self.old x →
             Sends K.rules self.new (passed result x) }
     {
@@ -160,15 +164,15 @@ impl<K: Channel, const W: usize, const V: usize, A: Allocator> ClosingEnd<K, W, 
         send_staged(outbox, producer)
     }
 
-    /// Gives up the end where nothing is staged, and answers the receipt that shows the taking end
-    /// all that was sent. On None there is no receipt, and what was sent can still be fetched. No
-    /// contract says when None comes.
+    /// Gives up the end. Returns the receipt that shows the taking end all beats that were sent. If
+    /// it returns `None`, there is no receipt, and beats that were sent can still be fetched. No
+    /// contract says when it returns `None`. Requires: nothing is staged.
     pub fn finish(self) -> Option<Receipt<K, W, V, A>>
         requires { self.stage ≡ [] }
         ensures receipt { IfSome result (λ receipt. Finishes self receipt) }
-        // the taking end of the same ring may be asked with it
+        // the taking end of the same ring can be asked with it
         ensures taker { IfSome result (λ receipt. IsReceiptFor self receipt) }
-        // for every crossing that the end stands for
+        // for every crossing that the end represents
         ensures shows { (x : World K.Head W V) → Sends K.rules self x →
             IfSome result (λ receipt. Shows K.rules receipt x) }
     {
@@ -177,11 +181,11 @@ impl<K: Channel, const W: usize, const V: usize, A: Allocator> ClosingEnd<K, W, 
     }
 }
 
-/// Shows a taking end all that the other end of its ring sent before it was given up. It may go to
-/// the thread of the taking end.
+/// The receipt that a sending end leaves. It shows the taking end all beats that were sent before
+/// the sending end was given up. It can be moved to the thread of the taking end.
 #[derive(Drop)]
 pub struct Receipt<K: Channel, const W: usize, const V: usize, A: Allocator = Global> {
-    pub(crate) finished: Finished<Beat<K, V>, A, LawfulAt<K, V>>,
+    pub(crate) finished: CountedFinish<Beat<K, V>, A, LawfulAt<K, V>>,
 }
 
 impl<K: Channel, const W: usize, const V: usize, A: Allocator> Model for Receipt<K, W, V, A> {
@@ -192,15 +196,25 @@ impl<K: Channel, const W: usize, const V: usize, A: Allocator> Model for Receipt
     ghost view = { λ r. record { finished = r.finished } };
 }
 
+impl<K: Channel, const W: usize, const V: usize, A: Allocator> Receipt<K, W, V, A> {
+    /// Returns the number of beats that the sending end has sent, or 2^64 - 1 if there were more.
+    pub fn sent(&self) -> u64
+        ensures { result ≡ counted (length (all_sent self.now)) }
+    {
+        self.finished.count
+    }
+}
+
 /// The taking end of one channel's crossing, from a bus of `W` bytes to a bus of `V` bytes.
 ///
-/// `fetch` moves far beats from the ring into the inbox, which holds at most [`ROOM`] beats, and `take`
-/// takes them from there, each once and in order. The end may go to a thread of its own. No call
-/// waits for the other end (this project's choice, after a crossing between two clocks).
+/// `fetch` moves far beats from the ring into the inbox, which holds at most [`STAGE_CAPACITY`] beats, and
+/// `take` removes them from there, each once and in order. The end can be moved to a thread of its
+/// own. No call waits for the other end (this project's choice, after a crossing between two
+/// clocks).
 #[derive(Drop)]
 pub struct TakeEnd<K: Channel, const W: usize, const V: usize, A: Allocator = Global> {
     pub(crate) inbox: Inbox<K, V>,
-    pub(crate) intake: Intake<K, V, A>,
+    pub(crate) intake: RingReader<K, V, A>,
 }
 
 impl<K: Channel, const W: usize, const V: usize, A: Allocator> Model for TakeEnd<K, W, V, A> {
@@ -212,16 +226,16 @@ impl<K: Channel, const W: usize, const V: usize, A: Allocator> Model for TakeEnd
 }
 
 impl<K: Channel, const W: usize, const V: usize, A: Allocator> TakeEnd<K, W, V, A> {
-    /// The end over an inbox and its half of a ring.
-    pub fn over(inbox: Inbox<K, V>, intake: Intake<K, V, A>) -> Self
+    /// Creates the end from an inbox and its half of a ring.
+    pub fn over(inbox: Inbox<K, V>, intake: RingReader<K, V, A>) -> Self
         ensures { result ≡ taking_of inbox intake.half }
     {
         TakeEnd { inbox, intake }
     }
 
-    /// Moves beats from the ring to the inbox, in order, and answers their number. They are all
-    /// that the inbox has room for, or as many as are there: no fewer than the end knows of. After
-    /// a meeting it knows each beat that the ring holds.
+    /// Moves beats from the ring to the inbox, in order. Returns their number: at least the number
+    /// of beats that the end knows to be in the ring, or as many as the inbox has room for if that
+    /// is smaller, and never more than that room. After a meeting it knows every beat in the ring.
     pub fn fetch(&mut self) -> usize
         ensures least { min (length (known_items self.old))
             (inbox_room - length self.old.inbox) ≤ result }
@@ -233,8 +247,8 @@ impl<K: Channel, const W: usize, const V: usize, A: Allocator> TakeEnd<K, W, V, 
         receive(&mut self.intake, &mut self.inbox)
     }
 
-    /// Takes the first beat of the inbox. None exactly where the inbox is empty. Each beat is
-    /// lawful by itself, at every moment: a new tracker of the far width does not refuse it.
+    /// Removes and returns the first beat of the inbox. Returns `None` if and only if the inbox is
+    /// empty. Each beat is lawful by itself: a new tracker of the far width does not refuse it.
     pub fn take(&mut self) -> Option<Beat<K, V>>
         ensures beat { result ≡ slice_get self.old.inbox 0 }
         ensures lawful { IfSome result (λ beat. IsLawfulBeat K.rules beat) }
@@ -245,10 +259,22 @@ impl<K: Channel, const W: usize, const V: usize, A: Allocator> TakeEnd<K, W, V, 
         self.inbox.take()
     }
 
-    /// Whether ring and inbox are empty, where the receipt is of the other end of the ring. What was
-    /// taken, and then what stands in the inbox and the ring, is the far layout of all that was
-    /// accepted: each beat once, in order; where both are empty, what was taken is that layout. This
-    /// is a meeting, after which the end knows each beat that the ring holds. No beat moves.
+    /// Returns the number of beats that were taken from this end. It is exact if they are fewer
+    /// than 2^63.
+    pub fn taken(&self) -> u64
+        ensures count { result ≡ taken_count self.now }
+        // for every list that was taken
+        ensures exact { (taken : List (BeatOf K.Head V)) → Takes self.now taken →
+            IsNumberOf result taken }
+    {
+        taken_count(&self.intake, &self.inbox)
+    }
+
+    /// Returns whether ring and inbox are empty. The beats taken, followed by those in the inbox
+    /// and the ring, are the far layout of all accepted beats: each beat once, in order. If both
+    /// are empty, the beats taken are that layout. This is a meeting, after which the end knows
+    /// every beat in the ring. No beat moves. Requires: the receipt is of the other end of this
+    /// ring.
     pub fn drained(&mut self, receipt: &mut Receipt<K, W, V, A>) -> bool
         requires { IsReceiptOf receipt.old self.old }
         ensures looked { LookedAfter receipt.old self.old receipt.new self.new }

@@ -5,17 +5,18 @@ ghost use Rattle.tl_ring.specs.Names.{build_fault_number, build_fault_name, end_
 use std::fmt;
 use thiserror::Error;
 
-/// Why no ring was made. `RingSize` is tested first.
+/// The reason why no ring was made. `RingSize` is tested first.
 #[derive(Clone, Copy, PartialEq, Eq, Debug, Error)]
 pub enum BuildFault {
-    /// 12: the ring is to hold no beat, or more than 4,096 (this project's choice).
+    /// 12: the size of the ring is 0 or more than 4,096 beats (this project's choice).
     RingSize,
-    /// 13: the allocator refused memory: for a ring or, of a whole bridge, for a side's table.
+    /// 13: the allocator refused memory for a ring or, if a whole bridge is made, for a side's
+    /// table.
     OutOfMemory,
 }
 
 impl BuildFault {
-    /// The fault's number, 12 or 13 (this project's choice).
+    /// Returns the number of the fault, 12 or 13 (this project's choice).
     pub fn number(&self) -> u8
         ensures { result ≡ build_fault_number self.now }
     {
@@ -25,7 +26,7 @@ impl BuildFault {
         }
     }
 
-    /// The fault's name, spelled as the variant (this project's choice).
+    /// Returns the name of the fault, spelled like the variant (this project's choice).
     pub fn name(&self) -> &'static str
         ensures { result.now ≡ build_fault_name self.now }
     {
@@ -36,7 +37,7 @@ impl BuildFault {
     }
 }
 
-// The number and the name, as in `12 RingSize`.
+// Prints the number and the name, for example `12 RingSize`.
 impl fmt::Display for BuildFault {
     ghost output = { λ fault. Some (numbered (build_fault_number fault) (build_fault_name fault)) };
 
@@ -45,16 +46,16 @@ impl fmt::Display for BuildFault {
     }
 }
 
-/// Why a sending end is not closed.
+/// The reason why a sending end is not closed.
 #[derive(Clone, Copy, PartialEq, Eq, Debug, Error)]
 pub enum EndFault {
-    /// 11: a burst is unfinished, and a close would cut it (this project's choice; that no burst is
-    /// left unfinished is TileLink's: burst rules).
+    /// 11: a burst is unfinished, and closing would cut it (the number is this project's choice;
+    /// TileLink's burst rules forbid an unfinished burst).
     MidBurst,
 }
 
 impl EndFault {
-    /// The fault's number, 11 (this project's choice).
+    /// Returns the number of the fault, 11 (this project's choice).
     pub fn number(&self) -> u8
         ensures { result ≡ end_fault_number self.now }
     {
@@ -63,7 +64,7 @@ impl EndFault {
         }
     }
 
-    /// The fault's name, spelled as the variant (this project's choice).
+    /// Returns the name of the fault, spelled like the variant (this project's choice).
     pub fn name(&self) -> &'static str
         ensures { result.now ≡ end_fault_name self.now }
     {
@@ -73,7 +74,7 @@ impl EndFault {
     }
 }
 
-// The number and the name, as in `11 MidBurst`.
+// Prints the number and the name, for example `11 MidBurst`.
 impl fmt::Display for EndFault {
     ghost output = { λ fault. Some (numbered (end_fault_number fault) (end_fault_name fault)) };
 

@@ -1,34 +1,38 @@
-//! The ring between two threads, by its halves, and what moves between these and an outbox or an inbox.
+//! The two halves of the ring between two threads, and the functions that move beats between a half
+//! and an outbox or an inbox.
 ghost use Rattle.std.specs.Prelude.{◌≡◌, ◌≤◌, ◌<◌, ◌+◌, ◌-◌, ◌++◌, ◌↔◌, ◌⊎◌, [], List, true, length, min, drop, take, IsOk, IsTrue, IfOk, IfErr, IfSome};
 ghost use Rattle.rtrb.specs.Fifo.{EachAllowed};
 ghost use Rattle.rtrb.specs.Ring as rtrb;
 ghost use Rattle.tl_msg.specs.declared.beat.BeatOf.{BeatOf};
+ghost use Rattle.tl_ring.specs.Counts.{IsNumberOf};
 ghost use Rattle.tl_ring.specs.Crossing.{World, inbox_room};
 ghost use Rattle.tl_ring.specs.Ends.{Sends, Takes, Pushed, Fetched, IsNewRing, sending_of, taking_of, passed, known_items};
-ghost use Rattle.tl_ring.specs.Ends.{Finishes, IsReceiptFor, IsReceiptOf, LookedAfter, Shows, Shown};
+ghost use Rattle.tl_ring.specs.Ends.{taken_count, Finishes, IsReceiptFor, IsReceiptOf, LookedAfter, Shows, Shown};
 ghost use Rattle.tl_ring.specs.declared.pipe.TheConstants.{MAX_RING};
-ghost use Rattle.tl_ring.specs.declared.queue.TheConstants.{ROOM};
+ghost use Rattle.tl_ring.specs.declared.queue.TheConstants.{STAGE_CAPACITY};
 
+use crate::counting::{CountingConsumer, CountingProducer, counting_ends};
 use crate::ends::Receipt;
 use crate::fault::BuildFault;
 use crate::inbox::Inbox;
 use crate::lawful::LawfulAt;
 use crate::outbox::Outbox;
-use crate::queue::{Queue, ROOM};
+use crate::queue::{Queue, STAGE_CAPACITY};
 use crate::ring::is_ring_size;
-use rtrb::{Consumer, Producer, Protocol, RingBuffer};
+use rtrb::{Protocol, RingBuffer};
 use std::alloc::{Allocator, Global};
 use tl_msg::{Beat, Channel};
 
-/// A ring as its sending end has it.
-pub type SendHalf<K, const V: usize, A> = Producer<Beat<K, V>, A, LawfulAt<K, V>>;
+/// The half of a ring that belongs to its sending end.
+pub type SendHalf<K, const V: usize, A> = CountingProducer<Beat<K, V>, A, LawfulAt<K, V>>;
 
-/// A ring as its taking end has it.
-pub type TakeHalf<K, const V: usize, A> = Consumer<Beat<K, V>, A, LawfulAt<K, V>>;
+/// The half of a ring that belongs to its taking end.
+pub type TakeHalf<K, const V: usize, A> = CountingConsumer<Beat<K, V>, A, LawfulAt<K, V>>;
 
-/// Both halves of a new ring of `size` beats, the only memory that is taken. Refused with `RingSize`
-/// exactly where `size` is 0 or above 4,096, and else with `OutOfMemory` where the allocator has no
-/// memory for it.
+/// Creates a ring of `size` beats, the only memory that is allocated. Returns both halves.
+///
+/// Errors: `RingSize` if and only if `size` is 0 or above 4,096; otherwise `OutOfMemory` if the
+/// allocator fails.
 pub fn new_ring<K: Channel, const V: usize, A: Allocator + Copy>(
     alloc: A,
     size: usize,
@@ -41,38 +45,40 @@ pub fn new_ring<K: Channel, const V: usize, A: Allocator + Copy>(
     if !is_ring_size(size) {
         return Err(BuildFault::RingSize);
     }
-    let Ok(halves) = RingBuffer::with_protocol::<A, LawfulAt<K, V>>(alloc, size) else {
+    // (no result of ends that count: it would be one more type for each channel and width)
+    let Ok((producer, consumer)) = RingBuffer::with_protocol::<A, LawfulAt<K, V>>(alloc, size)
+    else {
         return Err(BuildFault::OutOfMemory);
     };
-    Ok(halves)
+    Ok(counting_ends(producer, consumer, size))
 }
 
-/// The taking half of a ring, with the place where beats lie on their way from it into an inbox.
+/// The taking half of a ring, with an array for the beats on their way from the ring into an inbox.
 #[derive(Drop)]
-pub struct Intake<K: Channel, const V: usize, A: Allocator = Global> {
+pub struct RingReader<K: Channel, const V: usize, A: Allocator = Global> {
     /// The half.
     pub half: TakeHalf<K, V, A>,
-    // (within a call of `receive` alone)
-    passing: [Beat<K, V>; ROOM],
+    // (used only within a call of `receive`)
+    passing: [Beat<K, V>; STAGE_CAPACITY],
 }
 
-impl<K: Channel, const V: usize, A: Allocator> Intake<K, V, A> {
-    /// The intake over its half of a new ring ([`new_ring`]).
+impl<K: Channel, const V: usize, A: Allocator> RingReader<K, V, A> {
+    /// Creates the intake from its half of a new ring ([`new_ring`]).
     pub fn over(half: TakeHalf<K, V, A>) -> Self
         ensures { result.half ≡ half }
     {
-        Intake {
+        RingReader {
             half,
-            passing: [Beat::<K, V>::default(); ROOM],
+            passing: [Beat::<K, V>::default(); STAGE_CAPACITY],
         }
     }
 }
 
-/// Moves beats from a ring into the inbox, in order, and answers their number. They are all that the
-/// inbox has room for, or as many as are there: no fewer than the half knows of. After a look at the
-/// ring ([`look`]) it knows each beat that the ring holds.
+/// Moves beats from a ring into the inbox, in order. Returns their number: at least the number of
+/// beats that the half knows to be in the ring, or as many as the inbox has room for if that is
+/// smaller, and never more than that room. After [`look`] it knows every beat in the ring.
 pub fn receive<K: Channel, const V: usize, A: Allocator>(
-    intake: &mut Intake<K, V, A>,
+    intake: &mut RingReader<K, V, A>,
     inbox: &mut Inbox<K, V>,
 ) -> usize
     ensures least { min (length (rtrb.known_items intake.old.half)) (inbox_room - length inbox.old) ≤
@@ -84,22 +90,36 @@ pub fn receive<K: Channel, const V: usize, A: Allocator>(
         Takes (taking_of inbox.old intake.old.half) taken →
         Takes (taking_of inbox.new intake.new.half) taken }
 {
-    let room = ROOM - inbox.len();
+    let room = STAGE_CAPACITY - inbox.len();
     let count = intake.half.pop_partial_slice(&mut intake.passing[..room]);
     inbox.queue.append(&intake.passing[..count]);
     count
 }
 
-// Moves the first items of a queue into a ring, as many as find a place, and answers their number. It knows the far width alone, so a
-// program has it once for each channel and far width.
+/// Returns the number of beats that were taken from the inbox: those that came out of the ring and
+/// are in the inbox no more. It is exact if they are fewer than 2^63.
+pub fn taken_count<K: Channel, const V: usize, A: Allocator>(
+    intake: &RingReader<K, V, A>,
+    inbox: &Inbox<K, V>,
+) -> u64
+    ensures count { result ≡ taken_count (taking_of inbox.now intake.now.half) }
+    // for every list that was taken
+    ensures exact { (taken : List (BeatOf K.Head V)) →
+        Takes (taking_of inbox.now intake.now.half) taken → IsNumberOf result taken }
+{
+    intake.half.count().saturating_sub(inbox.len() as u64)
+}
+
+// Moves the first items of a queue into a ring, as many as fit, and returns their number. It
+// depends only on the far width, so a program has one copy for each channel and far width.
 #[inline(never)]
 fn push_queue<T: Copy, A: Allocator, P: Protocol<T>>(
-    producer: &mut Producer<T, A, P>,
+    producer: &mut CountingProducer<T, A, P>,
     queue: &mut Queue<T>,
 ) -> usize
     requires { EachAllowed P.allows (rtrb.sent producer.old) queue.old }
     ensures least { min (length queue.old) (rtrb.known_free producer.old) ≤ result }
-    ensures most { (result ≤ length queue.old) × (result ≤ ROOM) }
+    ensures most { (result ≤ length queue.old) × (result ≤ STAGE_CAPACITY) }
     ensures queue { queue.new ≡ drop result queue.old }
     ensures ring { rtrb.SameProducer producer.old producer.new }
     ensures sent { rtrb.sent producer.new ≡ rtrb.sent producer.old ++ take result queue.old }
@@ -111,15 +131,15 @@ fn push_queue<T: Copy, A: Allocator, P: Protocol<T>>(
     count
 }
 
-/// Moves staged beats of an outbox into a ring, in order, and answers their number. They are all of
-/// them, or as many as find a place: no fewer than the half knows to be free. After a look at the
-/// ring ([`look`]) it knows each free place.
+/// Moves staged beats of an outbox into a ring, in order. Returns their number: at least the number
+/// of free positions that the half knows of, or all staged beats if these are fewer. After [`look`]
+/// it knows every free position.
 pub fn send_staged<K: Channel, const W: usize, const V: usize, A: Allocator>(
     outbox: &mut Outbox<K, W, V>,
     producer: &mut SendHalf<K, V, A>,
 ) -> usize
     ensures least { min (length outbox.old.stage) (rtrb.known_free producer.old) ≤ result }
-    ensures most { (result ≤ length outbox.old.stage) × (result ≤ ROOM) }
+    ensures most { (result ≤ length outbox.old.stage) × (result ≤ STAGE_CAPACITY) }
     ensures pushed { Pushed (sending_of outbox.old producer.old) result
         (sending_of outbox.new producer.new) }
     ensures stands { (x : World K.Head W V) → Sends K.rules (sending_of outbox.old producer.old) x →
@@ -128,13 +148,13 @@ pub fn send_staged<K: Channel, const W: usize, const V: usize, A: Allocator>(
     push_queue(producer, &mut outbox.stage)
 }
 
-/// Looks at a ring from both its halves, in one thread, and answers how many items it holds. The
-/// taking half then knows each of them, and the sending half each free place. No item moves. (It is
-/// generic in the item, since such a call takes the checker far less time than one that is generic
-/// in the channel and asks for a pair.)
+/// Inspects a ring from both its halves, in one thread. Returns the number of items in the ring.
+/// The taking half then knows each of them, and the sending half each free position. No item moves.
+/// Requires: the halves are a pair. (The function is generic in the item, because the checker needs
+/// far more time for a call that is generic in the channel and requires a pair.)
 pub fn look<T, A: Allocator, P: Protocol<T>>(
-    producer: &mut Producer<T, A, P>,
-    consumer: &mut Consumer<T, A, P>,
+    producer: &mut CountingProducer<T, A, P>,
+    consumer: &mut CountingConsumer<T, A, P>,
 ) -> usize
     requires { rtrb.IsPair producer.old consumer.old }
     ensures producer { rtrb.ProducerLooked producer.old producer.new }
@@ -142,7 +162,7 @@ pub fn look<T, A: Allocator, P: Protocol<T>>(
     ensures count { result ≡ length (rtrb.known_items consumer.new) }
     ensures fifo { rtrb.received consumer.new ++ rtrb.known_items consumer.new ≡
         rtrb.sent producer.new }
-    // each place that holds no item is known to be free, and no more items than places are there
+    // each position without an item is known to be free, and there are no more items than positions
     ensures places { (result ≤ rtrb.producer_capacity producer.old) ×
         (rtrb.producer_capacity producer.old ≤ rtrb.known_free producer.new + result) }
 {
@@ -150,18 +170,19 @@ pub fn look<T, A: Allocator, P: Protocol<T>>(
     consumer.slots_beside(producer)
 }
 
-/// Gives up the sending half of a ring with its outbox, which is closed and has nothing staged, and
-/// answers the receipt that shows the taking half all that was sent. On None there is no receipt, and
-/// what was sent can still be fetched. No contract says when None comes.
+/// Gives up the sending half of a ring together with its outbox. Returns the receipt that shows the
+/// taking half all beats that were sent. If it returns `None`, there is no receipt, and beats that
+/// were sent can still be fetched. No contract says when it returns `None`. Requires: the outbox is
+/// closed and has nothing staged.
 pub fn finish<K: Channel, const W: usize, const V: usize, A: Allocator>(
     outbox: Outbox<K, W, V>,
     producer: SendHalf<K, V, A>,
 ) -> Option<Receipt<K, W, V, A>>
     requires { (outbox.stage ≡ []) × (outbox.closed ≡ true) }
     ensures receipt { IfSome result (λ receipt. Finishes (sending_of outbox producer) receipt) }
-    // the taking half of the same ring may be asked with it
+    // the taking half of the same ring can be asked with it
     ensures taker { IfSome result (λ receipt. IsReceiptFor (sending_of outbox producer) receipt) }
-    // for every crossing that both stand for
+    // for every crossing that both represent
     ensures shows { (x : World K.Head W V) → Sends K.rules (sending_of outbox producer) x →
         IfSome result (λ receipt. Shows K.rules receipt x) }
 {
@@ -171,12 +192,12 @@ pub fn finish<K: Channel, const W: usize, const V: usize, A: Allocator>(
     }
 }
 
-/// Whether ring and inbox are empty, where the receipt is of the other half of the ring. What was
-/// taken, and then what stands in the inbox and the ring, is the far layout of all that was
-/// accepted: each beat once, in order; where both are empty, what was taken is that layout. The half
-/// then knows each beat that the ring holds. No beat moves.
+/// Returns whether ring and inbox are empty. The beats taken, followed by those in the inbox and
+/// the ring, are the far layout of all accepted beats: each beat once, in order. If both are empty,
+/// the beats taken are that layout. The half then knows every beat in the ring. No beat moves.
+/// Requires: the receipt is of the other half of this ring.
 pub fn is_drained<K: Channel, const W: usize, const V: usize, A: Allocator>(
-    intake: &mut Intake<K, V, A>,
+    intake: &mut RingReader<K, V, A>,
     inbox: &Inbox<K, V>,
     receipt: &mut Receipt<K, W, V, A>,
 ) -> bool

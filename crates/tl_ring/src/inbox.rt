@@ -1,4 +1,4 @@
-//! The taker's part of a crossing, behind any ring.
+//! The receiver's part of a crossing, after any ring.
 ghost use Rattle.std.specs.Prelude.{◌≡◌, ◌≤◌, ◌++◌, [], List, drop, take, length, slice_get, IfSome};
 ghost use Rattle.tl_msg.specs.Faults.{IsLawfulBeat};
 ghost use Rattle.tl_msg.specs.declared.beat.BeatOf.{BeatOf};
@@ -9,8 +9,9 @@ use crate::queue::Queue;
 use std::marker::Model;
 use tl_msg::{Beat, Channel};
 
-/// What a taker on a bus of `V` bytes has of one channel's crossing, whatever brought the far beats: those that came and were not
-/// yet taken, in order, at most [`crate::ROOM`]. Each of them is lawful by itself.
+/// The far beats of one channel's crossing that arrived at the receiver, on a bus of `V` bytes, and
+/// are not yet taken, in order. They are at most [`crate::STAGE_CAPACITY`], and each is lawful by itself. An
+/// inbox does not depend on the ring that brings the beats.
 #[derive(Drop)]
 pub struct Inbox<K: Channel, const V: usize> {
     pub(crate) queue: Queue<Beat<K, V>>,
@@ -29,7 +30,7 @@ impl<K: Channel, const V: usize> Model for Inbox<K, V> {
 }
 
 impl<K: Channel, const V: usize> Inbox<K, V> {
-    /// A new inbox.
+    /// Creates an empty inbox.
     pub fn new() -> Self
         ensures { result ≡ [] }
     {
@@ -38,7 +39,7 @@ impl<K: Channel, const V: usize> Inbox<K, V> {
         }
     }
 
-    /// How many beats stand in it.
+    /// Returns the number of beats in the inbox.
     pub fn len(&self) -> usize
         ensures count { result ≡ length self.now }
         ensures most { result ≤ inbox_room }
@@ -46,7 +47,7 @@ impl<K: Channel, const V: usize> Inbox<K, V> {
         self.queue.len()
     }
 
-    /// The beats, in order, for [`Inbox::take_all`].
+    /// Returns the beats, in order, for use with [`Inbox::take_all`].
     pub fn as_slice(&self) -> &[Beat<K, V>]
         ensures beats { result.now ≡ self.now }
         ensures lawful { AreLawful K.rules result.now }
@@ -54,13 +55,13 @@ impl<K: Channel, const V: usize> Inbox<K, V> {
         self.queue.as_slice()
     }
 
-    /// Takes the first beat. None exactly where the inbox is empty. Each beat is lawful by itself: a new tracker of its width does
-    /// not refuse it.
+    /// Removes and returns the first beat. Returns `None` if and only if the inbox is empty. Each
+    /// beat is lawful by itself: a new tracker of its width does not refuse it.
     pub fn take(&mut self) -> Option<Beat<K, V>>
         ensures beat { result ≡ slice_get self.old 0 }
         ensures lawful { IfSome result (λ beat. IsLawfulBeat K.rules beat) }
         ensures rest { self.new ≡ drop 1 self.old }
-        // for all that came and was taken
+        // for all beats that arrived and were taken
         ensures taken { (received taken : List (BeatOf K.Head V)) →
             HasTaken self.old received taken →
             HasTaken self.new received (taken ++ take 1 self.old) }
@@ -68,7 +69,7 @@ impl<K: Channel, const V: usize> Inbox<K, V> {
         self.queue.pop_front()
     }
 
-    /// Takes all beats, which [`Inbox::as_slice`] shows: as many calls of [`Inbox::take`].
+    /// Removes all beats, those that [`Inbox::as_slice`] returns.
     pub fn take_all(&mut self)
         ensures { self.new ≡ [] }
     {

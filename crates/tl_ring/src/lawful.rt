@@ -1,11 +1,11 @@
-//! What each beat in a ring keeps.
+//! The property of each beat in a ring.
 
 use rtrb::Protocol;
 use std::marker::PhantomData;
 use tl_msg::{Beat, Channel};
 
-/// The protocol of a ring between two threads: each beat in it is lawful at `V` bytes, which means
-/// that a new tracker does not refuse it (this project's choice).
+/// The protocol of a ring between two threads: each beat in it is lawful at `V` bytes, that is, a
+/// new tracker does not refuse it (this project's choice).
 pub struct LawfulAt<K: Channel, const V: usize> {
     channel: PhantomData<K>,
 }

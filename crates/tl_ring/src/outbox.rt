@@ -5,7 +5,7 @@ ghost use Rattle.tl_msg.specs.declared.beat.BeatOf.{BeatOf};
 ghost use Rattle.tl_burst.specs.Handing.{IsAdmitted, rest_of, fault_after, homes_with};
 ghost use Rattle.tl_burst.specs.Tracking.{IsPlaceOf};
 ghost use Rattle.tl_ring.specs.Boxes.{AreLawful, HasSent, IsOpen, IsSentOut};
-ghost use Rattle.tl_ring.specs.declared.queue.TheConstants.{ROOM};
+ghost use Rattle.tl_ring.specs.declared.queue.TheConstants.{STAGE_CAPACITY};
 
 use crate::fault::EndFault;
 use crate::queue::Queue;
@@ -15,10 +15,11 @@ use tl_burst::Place;
 use tl_convert::Converter;
 use tl_msg::{Beat, BeatFault, Channel};
 
-/// What a sender on a bus of `W` bytes has of one channel's crossing to a bus of `V` bytes, whatever carries the far beats on.
+/// The sender's part of one channel's crossing, from a bus of `W` bytes to a bus of `V` bytes.
 ///
-/// Near beats are offered to it, and the far beats that they make due are staged, at most [`crate::ROOM`] of them, until whoever
-/// holds the outbox has sent them.
+/// Near beats are offered to it, and the far beats that become due are staged, at most
+/// [`crate::STAGE_CAPACITY`], until the caller has sent them. An outbox does not depend on the ring that
+/// carries them.
 #[derive(Drop)]
 pub struct Outbox<K: Channel, const W: usize, const V: usize> {
     converter: Converter<K, W, V>,
@@ -37,7 +38,8 @@ impl<K: Channel, const W: usize, const V: usize> Model for Outbox<K, W, V> {
 }
 
 impl<K: Channel, const W: usize, const V: usize> Outbox<K, W, V> {
-    /// A new outbox. It has no word on the widths: what it promises has them as a premise in place of a demand.
+    /// Creates an outbox. It has no precondition on the widths; its postconditions apply only to
+    /// valid ones.
     pub fn new() -> Self
         ensures stands { IsWidth W → IsWidth V → HasSent K.rules {w = W} result [] [] [] }
         ensures ready { IsOpen result }
@@ -49,34 +51,37 @@ impl<K: Channel, const W: usize, const V: usize> Outbox<K, W, V> {
         }
     }
 
-    /// Whether a beat may be offered: nothing is staged and the outbox isn't closed.
+    /// Returns whether a beat may be offered: nothing is staged and the outbox is not closed.
     pub fn ready(&self) -> bool
         ensures { IsTrue result ↔ IsOpen self.now }
     {
         (self.stage.len() == 0) & !self.closed
     }
 
-    /// Whether the outbox is closed and nothing is staged.
+    /// Returns whether the outbox is closed and nothing is staged.
     pub fn is_sent_out(&self) -> bool
         ensures { IsTrue result ↔ IsSentOut self.now }
     {
         (self.stage.len() == 0) & self.closed
     }
 
-    /// How many far beats are staged.
+    /// Returns the number of staged far beats.
     pub fn staged(&self) -> usize
         ensures count { result ≡ length self.now.stage }
-        ensures most { result ≤ ROOM }
+        ensures most { result ≤ STAGE_CAPACITY }
     {
         self.stage.len()
     }
 
-    /// Whether `beat` may be the next near beat, and where it stands in its message. It is refused with its first fault, exactly
-    /// where a burst is interrupted or a rule of the link broken by it after the beats that were accepted before. Nothing changes.
+    /// Checks whether `beat` may be the next near beat. Returns its place in its message. Nothing
+    /// changes.
+    ///
+    /// Errors: the first fault of the beat, if and only if it interrupts a burst or breaks a rule
+    /// of the link after the beats accepted before. Requires: `W` is a width.
     #[inline(always)]
     pub fn check(&self, beat: &Beat<K, W>) -> Result<Place<K>, BeatFault>
         requires { IsWidth W }
-        // for all that the outbox accepted and sent
+        // for all beats that the outbox accepted and sent
         ensures admitted { (bs : List (BeatOf K.Head W)) (homes : List ℕ) (sent : List (BeatOf K.Head V)) →
             HasSent K.rules self.now bs homes sent →
             IsOk result ↔ IsAdmitted K.rules bs beat.now }
@@ -92,14 +97,15 @@ impl<K: Channel, const W: usize, const V: usize> Outbox<K, W, V> {
         self.converter.check(beat)
     }
 
-    /// Offers a near beat where the outbox is ready, at its place, which [`Outbox::check`] gave. The far beats that it completes,
-    /// at most [`crate::ROOM`], are then staged. The home is read at a first beat of D alone, where it is the address of the
-    /// request that the message answers.
+    /// Offers a near beat at `place`, which [`Outbox::check`] returned. The far beats that it
+    /// completes, at most [`crate::STAGE_CAPACITY`], are then staged. `home` is read only at a first beat of
+    /// D. It is the address of the request to which the message responds. Requires: `W` and `V` are
+    /// widths, the outbox is ready, and `place` is the place of the beat.
     pub fn offer_at(&mut self, beat: &Beat<K, W>, place: Place<K>, home: u64)
-        // (one clause, since the checker states each by itself at each call)
+        // (one clause, because the checker proves each clause separately at each call)
         requires { IsWidth W × IsWidth V × IsOpen self.old ×
             IsPlaceOf K.rules W self.old.converter.burst beat.now place }
-        // for all that the outbox accepted and sent
+        // for all beats that the outbox accepted and sent
         ensures accepted { (bs : List (BeatOf K.Head W)) (homes : List ℕ) (sent : List (BeatOf K.Head V)) →
             HasSent K.rules self.old bs homes sent →
             HasSent K.rules self.new (bs ++ beat.now ∷ []) (homes_with K.rules bs homes beat.now home) sent }
@@ -109,11 +115,14 @@ impl<K: Channel, const W: usize, const V: usize> Outbox<K, W, V> {
         stage_beat(&mut self.converter, beat, place, home, &mut self.stage);
     }
 
-    /// Offers a near beat where the outbox is ready. It is accepted exactly where [`Outbox::check`] admits it, as
-    /// [`Outbox::offer_at`] does. Else it is refused with its first fault, and nothing changes.
+    /// Offers a near beat. It is accepted if and only if [`Outbox::check`] admits it, with the
+    /// effect of [`Outbox::offer_at`].
+    ///
+    /// Errors: the first fault of the beat; the outbox is then unchanged. Requires: `W` and `V` are
+    /// widths, and the outbox is ready.
     pub fn offer(&mut self, beat: &Beat<K, W>, home: u64) -> Result<(), BeatFault>
         requires { IsWidth W × IsWidth V × IsOpen self.old }
-        // for all that the outbox accepted and sent
+        // for all beats that the outbox accepted and sent
         ensures admitted { (bs : List (BeatOf K.Head W)) (homes : List ℕ) (sent : List (BeatOf K.Head V)) →
             HasSent K.rules self.old bs homes sent →
             IsOk result ↔ IsAdmitted K.rules bs beat.now }
@@ -135,10 +144,12 @@ impl<K: Channel, const W: usize, const V: usize> Outbox<K, W, V> {
         Ok(())
     }
 
-    /// Ends the offers. Refused exactly where a burst is unfinished, and nothing changes then. What is staged stays so. A second
-    /// close answers Ok and changes nothing.
+    /// Ends the offers. Beats in the stage stay there. Closing again returns `Ok` and changes
+    /// nothing.
+    ///
+    /// Errors: `MidBurst` if and only if a burst is unfinished; nothing changes then.
     pub fn close(&mut self) -> Result<(), EndFault>
-        // for all that the outbox accepted and sent
+        // for all beats that the outbox accepted and sent
         ensures between { (bs : List (BeatOf K.Head W)) (homes : List ℕ) (sent : List (BeatOf K.Head V)) →
             HasSent K.rules self.old bs homes sent →
             IsOk result ↔ (rest_of K.rules W bs ≡ []) }

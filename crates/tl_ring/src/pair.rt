@@ -1,25 +1,27 @@
-//! Both ends of a crossing: how they are made, and where they meet.
+//! Both ends of a crossing: making them, and inspecting them together.
 ghost use Rattle.std.specs.Prelude.{◌≡◌, ◌≤◌, ◌<◌, ◌+◌, ◌↔◌, ◌⊎◌, [], List, length, IsOk, IfOk, IfErr};
 ghost use Rattle.rtrb.specs.Ring as rtrb;
 ghost use Rattle.tl_lanes.specs.Lanes.{IsWidth};
 ghost use Rattle.tl_msg.specs.declared.beat.BeatOf.{BeatOf};
 ghost use Rattle.tl_ring.specs.Crossing.{World, empty};
 ghost use Rattle.tl_ring.specs.Ends.{Sends, Takes, Met, Meets, ArePair, known_free, known_items};
-ghost use Rattle.tl_ring.specs.declared.queue.TheConstants.{ROOM};
+ghost use Rattle.tl_ring.specs.declared.queue.TheConstants.{STAGE_CAPACITY};
 ghost use Rattle.tl_ring.specs.declared.pipe.TheConstants.{MAX_RING};
 
 use crate::ends::{ClosingEnd, SendEnd, TakeEnd};
 use crate::fault::BuildFault;
-use crate::halves::{Intake, look, new_ring};
+use crate::halves::{RingReader, look, new_ring};
 use crate::inbox::Inbox;
 use crate::outbox::Outbox;
 use crate::standing::Standing;
 use std::alloc::Allocator;
 use tl_msg::Channel;
 
-/// The two ends of one channel's crossing, over a ring of `ring` beats, the only memory that is
-/// taken. Each end may go to a thread of its own. Refused with `RingSize` exactly where `ring` is 0
-/// or above 4,096, and else with `OutOfMemory` where the allocator has no memory for it.
+/// Creates the two ends of one channel's crossing, over a ring of `ring` beats, the only memory
+/// that is allocated. Each end can be moved to a thread of its own.
+///
+/// Errors: `RingSize` if and only if `ring` is 0 or above 4,096; otherwise `OutOfMemory` if the
+/// allocator fails. Requires: `W` and `V` are widths.
 pub fn ring_pair<K: Channel, const W: usize, const V: usize, A: Allocator + Copy>(
     alloc: A,
     ring: usize,
@@ -29,7 +31,7 @@ pub fn ring_pair<K: Channel, const W: usize, const V: usize, A: Allocator + Copy
     ensures pair { IfOk result (λ ends. ArePair ends.0 ends.1) }
     ensures send { IfOk result (λ ends. Sends K.rules {w = W} ends.0 (empty ring)) }
     ensures take { IfOk result (λ ends. Takes ends.1 []) }
-    // a new pair knows all of its ring as free
+    // a new pair knows every position of its ring to be free
     ensures known { IfOk result (λ ends.
         (known_free ends.0 ≡ ring) × (known_items ends.1 ≡ []) × (ends.1.inbox ≡ [])) }
     ensures size { IsOk result → (1 ≤ ring) × (ring ≤ MAX_RING) }
@@ -44,18 +46,19 @@ pub fn ring_pair<K: Channel, const W: usize, const V: usize, A: Allocator + Copy
             },
             TakeEnd {
                 inbox: Inbox::new(),
-                intake: Intake::over(take),
+                intake: RingReader::over(take),
             },
         )),
         Err(fault) => Err(fault),
     }
 }
 
-/// Brings both ends of a pair together, in one thread, and answers where the beats stand. What was
-/// taken, and then what stands in the inbox, the ring and the stage, is the far layout of what was
-/// accepted: each beat once, in order. No beat moves. The taking end then knows each beat that the
-/// ring holds, and the sending end each place that is free. Both ends, and the ring between them,
-/// are then one crossing, as a pipe is.
+/// Inspects both ends of a pair together, in one thread. Returns the number of far beats in the
+/// stage, the ring and the inbox. The beats taken, followed by those in the inbox, the ring and the
+/// stage, are the far layout of the accepted beats: each beat once, in order. No beat moves. The
+/// taking end then knows every beat in the ring, and the sending end every free position. Both
+/// ends, and the ring between them, are then one crossing, as a pipe is. Requires: the ends are a
+/// pair.
 pub fn meet<K: Channel, const W: usize, const V: usize, A: Allocator>(
     send: &mut SendEnd<K, W, V, A>,
     take: &mut TakeEnd<K, W, V, A>,
@@ -65,8 +68,8 @@ pub fn meet<K: Channel, const W: usize, const V: usize, A: Allocator>(
     ensures staged { result.staged ≡ length send.new.stage }
     ensures in_ring { result.in_ring ≡ length (known_items take.new) }
     ensures inbox { result.inbox ≡ length take.new.inbox }
-    ensures most { (result.staged ≤ ROOM) × (result.inbox ≤ ROOM) }
-    // for every crossing that the sending end stands for, and every list that was taken
+    ensures most { (result.staged ≤ STAGE_CAPACITY) × (result.inbox ≤ STAGE_CAPACITY) }
+    // for every crossing that the sending end represents, and every list that was taken
     ensures meets { (x : World K.Head W V) (taken : List (BeatOf K.Head V)) →
         Sends K.rules send.old x → Takes take.old taken →
         Meets K.rules send.new take.new x taken }
@@ -75,8 +78,9 @@ pub fn meet<K: Channel, const W: usize, const V: usize, A: Allocator>(
     Standing::between(&send.outbox, in_ring, &take.inbox)
 }
 
-/// [`meet`] for a sending end that is closed: what was taken, and then what stands in the inbox, the
-/// ring and the stage, is the far layout of what was accepted, each beat once, in order.
+/// Inspects both ends as [`meet`] does, for a sending end that is closed. The beats taken, followed
+/// by those in the inbox, the ring and the stage, are the far layout of the accepted beats: each
+/// beat once, in order.
 pub fn meet_closing<K: Channel, const W: usize, const V: usize, A: Allocator>(
     send: &mut ClosingEnd<K, W, V, A>,
     take: &mut TakeEnd<K, W, V, A>,
@@ -86,8 +90,8 @@ pub fn meet_closing<K: Channel, const W: usize, const V: usize, A: Allocator>(
     ensures staged { result.staged ≡ length send.new.stage }
     ensures in_ring { result.in_ring ≡ length (known_items take.new) }
     ensures inbox { result.inbox ≡ length take.new.inbox }
-    ensures most { (result.staged ≤ ROOM) × (result.inbox ≤ ROOM) }
-    // for every crossing that the sending end stands for, and every list that was taken
+    ensures most { (result.staged ≤ STAGE_CAPACITY) × (result.inbox ≤ STAGE_CAPACITY) }
+    // for every crossing that the sending end represents, and every list that was taken
     ensures meets { (x : World K.Head W V) (taken : List (BeatOf K.Head V)) →
         Sends K.rules send.old x → Takes take.old taken →
         Meets K.rules send.new take.new x taken }

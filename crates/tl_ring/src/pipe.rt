@@ -5,7 +5,7 @@ ghost use Rattle.tl_msg.specs.Faults.{IsLawfulBeat};
 ghost use Rattle.tl_burst.specs.Handing.{IsAdmitted, rest_of, fault_after};
 ghost use Rattle.tl_ring.specs.Crossing.{World, empty, offered, pushed, popped, took, shut, inbox_room};
 ghost use Rattle.tl_ring.specs.Pipe.{StandsFor, IsReady, IsDrained};
-ghost use Rattle.tl_ring.specs.declared.queue.TheConstants.{ROOM};
+ghost use Rattle.tl_ring.specs.declared.queue.TheConstants.{STAGE_CAPACITY};
 ghost use Rattle.tl_ring.specs.declared.pipe.TheConstants.{MAX_RING};
 
 use crate::fault::{BuildFault, EndFault};
@@ -24,11 +24,13 @@ const _: () = prove!(MAX_RING == 4096);
 
 /// The crossing of one channel within one thread, from a bus of `W` bytes to a bus of `V` bytes.
 ///
-/// Near beats are offered at one end, and the far beats that they make due are taken at the other. After each call what was taken,
-/// and then what stands in the inbox, the ring and the stage, is the far layout of what was accepted: each beat once, in order. Between
-/// the ends lie a stage, a ring and an inbox: `offer` fills the stage, `pump` moves beats from the stage into the ring, `fetch`
-/// from the ring into the inbox, and `take` takes them from there. Stage and inbox hold at most [`ROOM`] beats each, the ring as many
-/// as `new` was asked for (this project's choice, after a crossing between two clocks).
+/// Near beats are offered at one end, and the far beats that become due are taken at the other.
+/// After each call the beats taken, followed by those in the inbox, the ring and the stage, are the
+/// far layout of the accepted beats: each beat once, in order. Between the ends are a stage, a ring
+/// and an inbox: `offer` fills the stage, `pump` moves beats from the stage into the ring, `fetch`
+/// moves them from the ring into the inbox, and `take` removes them from there. Stage and inbox
+/// hold at most [`STAGE_CAPACITY`] beats each, and the ring as many as `new` was asked for (this project's
+/// choice, after a crossing between two clocks).
 #[derive(Drop)]
 pub struct SyncPipe<K: Channel, const W: usize, const V: usize, A: Allocator = Global> {
     outbox: Outbox<K, W, V>,
@@ -52,8 +54,10 @@ impl<K: Channel, const W: usize, const V: usize, A: Allocator> Model for SyncPip
 }
 
 impl<K: Channel, const W: usize, const V: usize, A: Allocator> SyncPipe<K, W, V, A> {
-    /// A new pipe with a ring of `ring` beats, the only memory that it takes. Refused with `RingSize` exactly where `ring` is 0 or
-    /// above 4,096, and else with `OutOfMemory` where the allocator has no memory for it.
+    /// Creates a pipe with a ring of `ring` beats, the only memory that it allocates.
+    ///
+    /// Errors: `RingSize` if and only if `ring` is 0 or above 4,096; otherwise `OutOfMemory` if the
+    /// allocator fails. Requires: `W` and `V` are widths.
     pub fn new(alloc: A, ring: usize) -> Result<Self, BuildFault>
         requires near { IsWidth W }
         requires far { IsWidth V }
@@ -72,22 +76,25 @@ impl<K: Channel, const W: usize, const V: usize, A: Allocator> SyncPipe<K, W, V,
         }
     }
 
-    /// Whether a beat may be offered: nothing is staged and the pipe isn't closed.
+    /// Returns whether a beat may be offered: nothing is staged and the pipe is not closed.
     pub fn ready(&self) -> bool
         ensures { IsTrue result ↔ IsReady self.now }
     {
         self.outbox.ready()
     }
 
-    /// Offers a near beat where the pipe is ready. It is refused with its first fault, exactly where a burst is interrupted or a
-    /// rule of the link broken by it after the beats that were accepted before, and nothing changes then. Else the far beats that it
-    /// completes, at most [`ROOM`], are staged. The home is read at a first beat of D alone, where it is the address of the request
-    /// that the message answers.
+    /// Offers a near beat. If it is accepted, the far beats that it completes, at most [`STAGE_CAPACITY`],
+    /// are staged. `home` is read only at a first beat of D. It is the address of the request
+    /// to which the message responds.
+    ///
+    /// Errors: the first fault of the beat, if and only if it interrupts a burst or breaks a rule
+    /// of the link after the beats accepted before. The pipe is then unchanged. Requires: `W` and
+    /// `V` are widths, and the pipe is ready.
     pub fn offer(&mut self, beat: Beat<K, W>, home: u64) -> Result<(), BeatFault>
         requires near { IsWidth W }
         requires far { IsWidth V }
         requires ready { IsReady self.old }
-        // for every crossing that the pipe stands for
+        // for every crossing that the pipe represents
         ensures admitted { (x : World K.Head W V) → StandsFor K.rules self.old x →
             IsOk result ↔ IsAdmitted K.rules x.accepted beat }
         ensures accepted { (x : World K.Head W V) → StandsFor K.rules self.old x →
@@ -100,29 +107,29 @@ impl<K: Channel, const W: usize, const V: usize, A: Allocator> SyncPipe<K, W, V,
         self.outbox.offer(&beat, home)
     }
 
-    /// Moves staged beats to the ring, as many as it has room for, and answers their number.
+    /// Moves staged beats to the ring, as many as it has room for. Returns their number.
     pub fn pump(&mut self) -> usize
         ensures count { result ≡
             min (length self.old.stage) (self.old.room - length self.old.ring) }
         ensures moved { (x : World K.Head W V) → StandsFor K.rules self.old x →
             StandsFor K.rules self.new (pushed result x) }
-        ensures most { result ≤ ROOM }
+        ensures most { result ≤ STAGE_CAPACITY }
     {
         pump(&mut self.outbox, &mut self.ring)
     }
 
-    /// Moves beats from the ring to the inbox, as many as it has room for, and answers their number.
+    /// Moves beats from the ring to the inbox, as many as it has room for. Returns their number.
     pub fn fetch(&mut self) -> usize
         ensures count { result ≡ min (length self.old.ring) (inbox_room - length self.old.inbox) }
         ensures moved { (x : World K.Head W V) → StandsFor K.rules self.old x →
             StandsFor K.rules self.new (popped result x) }
-        ensures most { result ≤ ROOM }
+        ensures most { result ≤ STAGE_CAPACITY }
     {
         fetch(&mut self.ring, &mut self.inbox)
     }
 
-    /// Takes the first beat of the inbox. None exactly where the inbox is empty. Each beat is lawful by itself: a new tracker of the
-    /// far width does not refuse it.
+    /// Removes and returns the first beat of the inbox. Returns `None` if and only if the inbox is
+    /// empty. Each beat is lawful by itself: a new tracker of the far width does not refuse it.
     pub fn take(&mut self) -> Option<Beat<K, V>>
         ensures beat { result ≡ slice_get self.old.inbox 0 }
         ensures lawful { IfSome result (λ beat. IsLawfulBeat K.rules beat) }
@@ -132,10 +139,12 @@ impl<K: Channel, const W: usize, const V: usize, A: Allocator> SyncPipe<K, W, V,
         self.inbox.take()
     }
 
-    /// Ends the offers. Refused exactly where a burst is unfinished, and nothing changes then. What is staged stays so, and still
-    /// crosses. A second close answers Ok and changes nothing.
+    /// Ends the offers. Beats in the stage stay there, and still cross. Closing again returns `Ok`
+    /// and changes nothing.
+    ///
+    /// Errors: `MidBurst` if and only if a burst is unfinished; nothing changes then.
     pub fn close(&mut self) -> Result<(), EndFault>
-        // for every crossing that the pipe stands for
+        // for every crossing that the pipe represents
         ensures between { (x : World K.Head W V) → StandsFor K.rules self.old x →
             IsOk result ↔ (rest_of K.rules W x.accepted ≡ []) }
         ensures closed { (x : World K.Head W V) → StandsFor K.rules self.old x →
@@ -147,7 +156,8 @@ impl<K: Channel, const W: usize, const V: usize, A: Allocator> SyncPipe<K, W, V,
         self.outbox.close()
     }
 
-    /// Whether the pipe is closed and nothing is under way: what was taken is then the far layout of all that was accepted.
+    /// Returns whether the pipe is closed and nothing is under way. The beats taken are then the
+    /// far layout of all accepted beats.
     pub fn drained(&self) -> bool
         ensures { IsTrue result ↔ IsDrained self.now }
     {
@@ -155,13 +165,13 @@ impl<K: Channel, const W: usize, const V: usize, A: Allocator> SyncPipe<K, W, V,
         self.outbox.closed & (at.staged + at.in_ring + at.inbox == 0)
     }
 
-    /// How many far beats stand in the stage, in the ring and in the inbox.
+    /// Returns the number of far beats in the stage, in the ring and in the inbox.
     pub fn standing(&self) -> Standing
         ensures staged { result.staged ≡ length self.now.stage }
         ensures in_ring { result.in_ring ≡ length self.now.ring }
         ensures inbox { result.inbox ≡ length self.now.inbox }
-        ensures most { (result.staged ≤ ROOM) × (result.in_ring ≤ MAX_RING) ×
-            (result.inbox ≤ ROOM) }
+        ensures most { (result.staged ≤ STAGE_CAPACITY) × (result.in_ring ≤ MAX_RING) ×
+            (result.inbox ≤ STAGE_CAPACITY) }
     {
         Standing::between(&self.outbox, self.ring.len(), &self.inbox)
     }

@@ -1,22 +1,22 @@
-//! A line of at most [`ROOM`] items, first in and first out, that takes no memory of its own.
+//! A first-in, first-out queue of at most [`STAGE_CAPACITY`] items that allocates no memory.
 ghost use Rattle.std.specs.Prelude.{◌≡◌, ◌+◌, ◌≤◌, ◌++◌, [], length, drop, slice_get};
-ghost use Rattle.tl_ring.specs.declared.queue.TheConstants.{ROOM};
+ghost use Rattle.tl_ring.specs.declared.queue.TheConstants.{STAGE_CAPACITY};
 
 use arrayvec::ArrayVec;
 use std::marker::Model;
 use tl_lanes::WIDEST;
 
-/// How many beats a stage and an inbox hold: as many as one near beat makes at most (this project's
-/// choice).
-pub const ROOM: usize = WIDEST;
+/// The capacity of a stage and of an inbox in beats: the most far beats of one near beat (this
+/// project's choice).
+pub const STAGE_CAPACITY: usize = WIDEST;
 
-const _: () = prove!(ROOM == 128);
+const _: () = prove!(STAGE_CAPACITY == 128);
 
-/// A line of items: those of the array from `first` on. Those before it have left, and their places are used again once the
-/// array is full.
+/// A queue of items: those of the array from `first` on. Items before it were removed; their places
+/// are used again once the array is full.
 #[derive(Drop)]
 pub(crate) struct Queue<T> {
-    pub(crate) items: ArrayVec<T, ROOM>,
+    pub(crate) items: ArrayVec<T, STAGE_CAPACITY>,
     pub(crate) first: usize,
 }
 
@@ -44,14 +44,14 @@ impl<T: Default> Queue<T> {
 impl<T> Queue<T> {
     pub(crate) fn len(&self) -> usize
         ensures value { result ≡ length self.now }
-        ensures within { result ≤ ROOM }
+        ensures within { result ≤ STAGE_CAPACITY }
     {
         self.items.len() - self.first
     }
 
     pub(crate) fn as_slice(&self) -> &[T]
         ensures value { result.now ≡ self.now }
-        ensures within { length result.now ≤ ROOM }
+        ensures within { length result.now ≤ STAGE_CAPACITY }
     {
         &self.items.as_slice()[self.first..]
     }
@@ -67,7 +67,7 @@ impl<T> Queue<T> {
 }
 
 impl<T: Copy> Queue<T> {
-    // Removes the first item and answers it.
+    // Removes and returns the first item.
     pub(crate) fn pop_front(&mut self) -> Option<T>
         ensures value { result ≡ slice_get self.old 0 }
         ensures rest { self.new ≡ drop 1 self.old }
@@ -81,10 +81,10 @@ impl<T: Copy> Queue<T> {
 impl<T: Copy + Default> Queue<T> {
     // Appends all of `more`.
     pub(crate) fn append(&mut self, more: &[T])
-        requires { length self.old + length more.now ≤ ROOM }
+        requires { length self.old + length more.now ≤ STAGE_CAPACITY }
         ensures { self.new ≡ self.old ++ more.now }
     {
-        if more.len() > ROOM - self.items.len() {
+        if more.len() > STAGE_CAPACITY - self.items.len() {
             cut_front(&mut self.items, self.first);
             self.first = 0;
         }
@@ -99,8 +99,8 @@ impl<T: Copy + Default> Queue<T> {
     }
 }
 
-// Removes all items. A single one, as a stage mostly has, needs no call that writes over many.
-pub(crate) fn remove_all<T: Copy + Default>(items: &mut ArrayVec<T, ROOM>)
+// Removes all items. A single item, the usual case in a stage, needs no call that overwrites many.
+pub(crate) fn remove_all<T: Copy + Default>(items: &mut ArrayVec<T, STAGE_CAPACITY>)
     ensures { items.new.items ≡ [] }
 {
     if items.len() == 1 {
@@ -111,7 +111,7 @@ pub(crate) fn remove_all<T: Copy + Default>(items: &mut ArrayVec<T, ROOM>)
 }
 
 // Removes the first `count` items, and moves the others to the start.
-fn cut_front<T: Copy + Default>(items: &mut ArrayVec<T, ROOM>, count: usize)
+fn cut_front<T: Copy + Default>(items: &mut ArrayVec<T, STAGE_CAPACITY>, count: usize)
     requires { count ≤ length items.old.items }
     ensures { items.new.items ≡ drop count items.old.items }
 {

@@ -4,19 +4,20 @@ ghost use Rattle.circular_buffer.specs.Buffer.{buffer};
 ghost use Rattle.tl_ring.specs.Boxes.{AreLawful};
 ghost use Rattle.tl_ring.specs.Crossing.{inbox_room};
 ghost use Rattle.tl_ring.specs.declared.pipe.TheConstants.{MAX_RING};
-ghost use Rattle.tl_ring.specs.declared.queue.TheConstants.{ROOM};
+ghost use Rattle.tl_ring.specs.declared.queue.TheConstants.{STAGE_CAPACITY};
 
 use crate::fault::BuildFault;
 use crate::inbox::Inbox;
 use crate::outbox::Outbox;
 use crate::pipe::MAX_RING;
-use crate::queue::{Queue, ROOM};
+use crate::queue::{Queue, STAGE_CAPACITY};
 use circular_buffer::HeapCircularBuffer;
 use std::alloc::{Allocator, Global};
 use std::marker::Model;
 use tl_msg::{Beat, Channel};
 
-/// The ring of one channel within one thread: the far beats that left the outbox and did not yet come to the inbox.
+/// The ring of one channel within one thread. It holds the far beats that were sent and are not yet
+/// in the inbox.
 #[derive(Drop)]
 pub struct Ring<K: Channel, const V: usize, A: Allocator = Global> {
     buffer: HeapCircularBuffer<Beat<K, V>, A>,
@@ -37,7 +38,7 @@ impl<K: Channel, const V: usize, A: Allocator> Model for Ring<K, V, A> {
         AreLawful K.rules r.buffer.items };
 }
 
-// Whether a ring may hold so many beats.
+// Returns whether a ring may hold `ring` beats.
 pub(crate) fn is_ring_size(ring: usize) -> bool
     ensures { IsTrue result ↔ ((1 ≤ ring) × (ring ≤ MAX_RING)) }
 {
@@ -45,9 +46,10 @@ pub(crate) fn is_ring_size(ring: usize) -> bool
 }
 
 impl<K: Channel, const V: usize, A: Allocator> Ring<K, V, A> {
-    /// A ring of `size` beats, the only memory that is taken. Refused with `RingSize` exactly where
-    /// `size` is 0 or above 4,096, and else with `OutOfMemory` where the allocator has no memory for
-    /// it.
+    /// Creates a ring of `size` beats, the only memory that is allocated.
+    ///
+    /// Errors: `RingSize` if and only if `size` is 0 or above 4,096; otherwise `OutOfMemory` if the
+    /// allocator fails.
     pub fn new(alloc: A, size: usize) -> Result<Self, BuildFault>
         ensures new { IfOk result (λ ring. ring ≡ buffer [] size) }
         ensures size { IsOk result → (1 ≤ size) × (size ≤ MAX_RING) }
@@ -63,7 +65,7 @@ impl<K: Channel, const V: usize, A: Allocator> Ring<K, V, A> {
         Ok(Ring { buffer })
     }
 
-    /// How many beats stand in it.
+    /// Returns the number of beats in the ring.
     pub fn len(&self) -> usize
         ensures count { result ≡ length self.now.items }
         ensures most { result ≤ MAX_RING }
@@ -72,8 +74,8 @@ impl<K: Channel, const V: usize, A: Allocator> Ring<K, V, A> {
     }
 }
 
-// Appends items to a ring, as many as it has room for, and answers their number. A single one, as a
-// stage mostly has, needs no call that copies many.
+// Appends items to a ring, as many as it has room for, and returns their number. A single item, the
+// usual case in a stage, needs no call that copies many.
 fn write_back<T: Copy, A: Allocator>(ring: &mut HeapCircularBuffer<T, A>, items: &[T]) -> usize
     ensures count { result ≡
         min (length items.now) (ring.old.capacity - length ring.old.items) }
@@ -89,8 +91,9 @@ fn write_back<T: Copy, A: Allocator>(ring: &mut HeapCircularBuffer<T, A>, items:
     ring.fill_from_slice(items)
 }
 
-// Moves the first items of a queue to the end of a ring, as many as it has room for, and answers their number. It knows the far
-// width alone, so a program has it once for each channel and far width.
+// Moves the first items of a queue to the end of a ring, as many as it has room for, and returns
+// their number. It depends only on the far width, so a program has one copy for each channel and
+// far width.
 fn write_queue<T: Copy, A: Allocator>(
     ring: &mut HeapCircularBuffer<T, A>,
     queue: &mut Queue<T>,
@@ -100,7 +103,7 @@ fn write_queue<T: Copy, A: Allocator>(
     ensures ring { ring.new ≡
         buffer (ring.old.items ++ take result queue.old) ring.old.capacity }
     ensures queue { queue.new ≡ drop result queue.old }
-    ensures most { result ≤ ROOM }
+    ensures most { result ≤ STAGE_CAPACITY }
 {
     if queue.len() == 0 {
         return 0;
@@ -110,18 +113,18 @@ fn write_queue<T: Copy, A: Allocator>(
     count
 }
 
-// Moves the first items of a ring to the end of a queue, as many as it has room for, and answers their number. It too knows the far
-// width alone.
+// Moves the first items of a ring to the end of a queue, as many as it has room for, and returns
+// their number. It also depends only on the far width.
 fn read_queue<T: Copy + Default, A: Allocator>(
     ring: &mut HeapCircularBuffer<T, A>,
     queue: &mut Queue<T>,
 ) -> usize
-    ensures count { result ≡ min (length ring.old.items) (ROOM - length queue.old) }
+    ensures count { result ≡ min (length ring.old.items) (STAGE_CAPACITY - length queue.old) }
     ensures ring { ring.new ≡ buffer (drop result ring.old.items) ring.old.capacity }
     ensures queue { queue.new ≡ queue.old ++ take result ring.old.items }
-    ensures most { result ≤ ROOM }
+    ensures most { result ≤ STAGE_CAPACITY }
 {
-    let count = ring.len().min(ROOM - queue.len());
+    let count = ring.len().min(STAGE_CAPACITY - queue.len());
     if count == 0 {
         return 0;
     }
@@ -135,7 +138,8 @@ fn read_queue<T: Copy + Default, A: Allocator>(
     count
 }
 
-/// Moves the first staged beats of an outbox into the ring, as many as it has room for, and answers their number.
+/// Moves the first staged beats of an outbox into the ring, as many as it has room for. Returns
+/// their number.
 pub fn pump<K: Channel, const W: usize, const V: usize, A: Allocator>(
     outbox: &mut Outbox<K, W, V>,
     ring: &mut Ring<K, V, A>,
@@ -146,12 +150,13 @@ pub fn pump<K: Channel, const W: usize, const V: usize, A: Allocator>(
         record outbox.old { stage = drop result outbox.old.stage } }
     ensures ring { ring.new ≡
         buffer (ring.old.items ++ take result outbox.old.stage) ring.old.capacity }
-    ensures most { result ≤ ROOM }
+    ensures most { result ≤ STAGE_CAPACITY }
 {
     write_queue(&mut ring.buffer, &mut outbox.stage)
 }
 
-/// Moves the first beats of a ring into the inbox, as many as it has room for, and answers their number.
+/// Moves the first beats of a ring into the inbox, as many as it has room for. Returns their
+/// number.
 pub fn fetch<K: Channel, const V: usize, A: Allocator>(
     ring: &mut Ring<K, V, A>,
     inbox: &mut Inbox<K, V>,
@@ -159,7 +164,7 @@ pub fn fetch<K: Channel, const V: usize, A: Allocator>(
     ensures count { result ≡ min (length ring.old.items) (inbox_room - length inbox.old) }
     ensures ring { ring.new ≡ buffer (drop result ring.old.items) ring.old.capacity }
     ensures inbox { inbox.new ≡ inbox.old ++ take result ring.old.items }
-    ensures most { result ≤ ROOM }
+    ensures most { result ≤ STAGE_CAPACITY }
 {
     read_queue(&mut ring.buffer, &mut inbox.queue)
 }

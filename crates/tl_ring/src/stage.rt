@@ -1,4 +1,4 @@
-//! How a near beat gets into the stage.
+//! The step that converts a near beat into staged far beats.
 ghost use Rattle.std.specs.Prelude.{◌≡◌, ◌<◌, ◌^◌, ◌++◌, [], ◌∷◌, List, ℕ};
 ghost use Rattle.tl_lanes.specs.Lanes.{IsWidth};
 ghost use Rattle.tl_msg.specs.Beats.{IsBeat};
@@ -14,7 +14,8 @@ use tl_burst::Place;
 use tl_convert::Converter;
 use tl_msg::{Beat, Channel, ranges_of_beat};
 
-// Feeds a near beat at its place to the converter, and puts the far beats that it completes into the stage, which is empty.
+// Feeds a near beat at its place to the converter, and puts the far beats that it completes into
+// the stage, which is empty before.
 pub(crate) fn stage_beat<K: Channel, const W: usize, const V: usize>(
     converter: &mut Converter<K, W, V>,
     beat: &Beat<K, W>,
@@ -22,7 +23,7 @@ pub(crate) fn stage_beat<K: Channel, const W: usize, const V: usize>(
     home: u64,
     stage: &mut Queue<Beat<K, V>>,
 )
-    // (one clause, since the checker states each by itself at each call)
+    // (one clause, because the checker proves each clause separately at each call)
     requires { IsWidth W × IsWidth V × IsPlaceOf K.rules W converter.old.burst beat.now place ×
         (stage.old ≡ []) }
     ensures beat { IsBeat K.rules beat.now }
@@ -37,7 +38,7 @@ pub(crate) fn stage_beat<K: Channel, const W: usize, const V: usize>(
         due K.rules W V bs homes ++ stage.new }
     ensures lawful { AreLawful K.rules stage.new }
 {
-    // (these two show that a beat and its home are such as memory can hold)
+    // (these two lines show that memory can hold the beat and its home)
     let _home = K::lane_address(&beat.head, home);
     ranges_of_beat::<K, W>(beat);
     remove_all(&mut stage.items);

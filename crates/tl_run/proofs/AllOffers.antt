@@ -1,4 +1,4 @@
--- What becomes of the next beat of each channel of a bridge, which offers one after another.
+-- The outcome of the next beat of each channel of a bridge, which offers them one after another.
 use Rattle.tl_run.proofs.Names.{ℕ, refl, OffersNext, Offered}
 use Rattle.tl_run.proofs.Names.{on_bridge_a, on_bridge_b, on_bridge_c, on_bridge_d, on_bridge_e, Beats, Bridge, Past, PerChannel, HasOffered}
 use Rattle.tl_sides.specs.Bridges as bridge
@@ -29,4 +29,9 @@ all-offered near n s t u v y z o in_a in_c in_e in_b in_d x h =
       does_c = c'.3;
       does_d = d.3;
       does_e = e.3;
+      ready_a = λ offered. in_a.ready offered x h;
+      ready_b = λ offered. in_b.ready offered _ e.2;
+      ready_c = λ offered. in_c.ready offered _ a.2;
+      ready_d = λ offered. in_d.ready offered _ b.2;
+      ready_e = λ offered. in_e.ready offered _ c'.2;
     }

@@ -1,4 +1,4 @@
--- Results that are joined by `and`: where what is joined is Ok, each of them is.
+-- Results that are joined by `and`: if the joined result is Ok, each of them is.
 use Rattle.tl_run.proofs.Names.{◌≡◌, true, Result, Ok, Err, refl, sym, subst, IsOk, OnOk}
 use Rattle.std.specs.Result.{result_and}
 
@@ -30,14 +30,14 @@ module _ {E : Type 0} where
   ok-and (Ok x) (Err e) all joined p q = absurd (cc (q))
   ok-and (Err e) b all joined p q = absurd (cc (p))
 
-  -- where each of five is Ok, what is joined is
+  -- if each of five is Ok, the joined result is
   pub five-are-ok : (a b c d e ab abc abcd all : Result (Unit {0}) E) → ab ≡ result_and a b → abc ≡ result_and ab c →
       abcd ≡ result_and abc d → all ≡ result_and abcd e →
       IsOk a → IsOk b → IsOk c → IsOk d → IsOk e → IsOk all
   five-are-ok a b c d e ab abc abcd all i j k l p q r s t =
       ok-and abcd e all l (ok-and abc d abcd k (ok-and ab c abc j (ok-and a b ab i p q) r) s) t
 
--- what holds where a result is Ok, of one that is
+-- a property of a result that is Ok, for one that is
 pub of-ok : {T E P : Type 0} (r : Result T E) → IsOk r → OnOk r P → P
 of-ok (Ok x) ok p = p
 of-ok (Err e) ok p = absurd (cc (ok))

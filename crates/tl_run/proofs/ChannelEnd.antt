@@ -1,4 +1,4 @@
--- What was taken of one channel of a run, the room for it, and where the channel ends.
+-- The beats taken of one channel of a run, the room for them, and the end of the channel.
 use Rattle.tl_run.proofs.Names.{◌≡◌, ◌≢◌, ◌+◌, ◌≤◌, ◌*◌, ◌++◌, ℕ, zero, suc, Bool, true, false, Option, None, Some, List, [], ◌∷◌, length, map, take}
 use Rattle.tl_run.proofs.Names.{drop, get_or, refl, sym, ap, subst, ◌∙◌, arith, append-nil, append_assoc, length-append, length-take-le}
 use Rattle.tl_run.proofs.Names.{slice_get_within, ◌==◌, slice_get, if◌then◌else◌, option_map_or, IsWidth, Rules, BeatOf, BeatFault, SideFault, Beat}
@@ -19,13 +19,13 @@ four_lengths ps qs us zs =
     length-append (ps ++ qs ++ us) zs ∙
     ap (λ n. n + length zs) (length-append (ps ++ qs) us ∙ ap (λ n. n + length us) (length-append ps qs))
 
--- an element that a list has stands there, whatever the default
+-- an element of a list is at its index, whatever the default
 stands_there : {A : Type 0} (xs : List A) (i : ℕ) (x : A) → slice_get xs i ≡ Some x → x ≡ get_or xs i x
 stands_there [] i x e = cc
 stands_there (y ∷ xs) zero x e = let h : y ≡ x = cc in sym h
 stands_there (y ∷ xs) (suc i) x e = stands_there xs i x e
 
--- what stops a beat of an uncoupled channel is a fault of its own
+-- the reason why a beat of an independent channel is refused is a fault of its own
 own_fault : (o : Option BeatFault) (f : SideFault) → option_map_or (λ fault. Some (Beat fault)) o None ≡ Some f →
     (g : BeatFault) × (o ≡ Some g) × (f ≡ Beat g)
 own_fault None f e = cc
@@ -40,24 +40,24 @@ first-alone taken [] (b ∷ ring) stage all e none = absurd (omega arith)
 first-alone taken [] [] (b ∷ stage) all e none = absurd (omega arith)
 
 module _ {H : Type 0} (r : Rules H) {w v : ℕ} where
-  -- what was taken and what stands in the inbox is the front of what is due
+  -- the beats taken, followed by those in the inbox, are a beginning of those that are due
   pub inbox-due : (x : World H w v) → Crosses r x → (taken : List (BeatOf H v)) → taken ≡ x.taken → (all : List (BeatOf H v)) →
       due r w v x.accepted x.homes ≡ all →
       IsPrefix (taken ++ x.inbox) all
   inbox-due x c taken e all f =
       (x.ring ++ x.stage, ap (λ q. (q ++ x.inbox) ++ (x.ring ++ x.stage)) e ∙ sym (append_assoc (x.taken ++ x.inbox) x.ring x.stage) ∙ c.beats ∙ f)
 
-  -- where nothing is under way, all that is due was taken
+  -- if nothing is under way, all due beats were taken
   pub all-taken : (x : World H w v) → Crosses r x → under_way x ≡ 0 → x.taken ≡ due r w v x.accepted x.homes
   all-taken x c rests = first-alone x.taken x.inbox x.ring x.stage (due r w v x.accepted x.homes) c.beats rests
 
-  -- what was accepted is handed
+  -- the accepted beats are handed
   pub handed-accepted : (x : World H w v) → Crosses r x → IsHanded r x.accepted
   handed-accepted x c = record { homes = x.homes; messages = c.messages; rest = c.rest; handed = c.handed }
 
 module _ {H : Type 0} (r : Rules H) {w : ℕ} (bs : List (BeatOf H w)) (n : ℕ) (answer : BeatOf H w → Option SideFault)
     (accepted : List (BeatOf H w)) where
-  -- a channel that stands still refuses its next beat, if it has one
+  -- a channel that is stopped refuses its next beat, if it has one
   pub stop-refuses : (stop : Stop) → Stops r bs n answer accepted (Stopped stop) → (b : BeatOf H w) → slice_get bs n ≡ Some b → answer b ≢ None
   stop-refuses (Refused fault) (c, at, is) b got = λ none. let same : c ≡ b = cc in let refused : answer b ≡ Some fault =
       subst (λ q. answer q ≡ Some fault) same is in cc
@@ -69,24 +69,24 @@ module _ {H : Type 0} (r : Rules H) {w : ℕ} (bs : List (BeatOf H w)) (n : ℕ)
     abbrev verdict_by : ℕ → Option SideFault → Verdict
     verdict_by lacks next = verdict_of n far lacks next
 
-    -- what becomes of the next beat
+    -- the outcome of the next beat
     abbrev next_by : Option (BeatOf H w) → Option SideFault
     next_by o = option_map_or (λ b. stops b) o None
 
-    -- the verdict where the next beat is refused
+    -- the verdict if the next beat is refused
     by-refused : (lacks : ℕ) (fault : SideFault) (b : BeatOf H w) → slice_get bs n ≡ Some b → answer b ≡ Some fault →
         verdict_by lacks (Some fault) ≡ verdict_by lacks (next_by (slice_get bs n))
     by-refused lacks fault b at is =
         let told : Some fault ≡ stops b = sym is ∙ same b in
         ap (λ q. verdict_by lacks q) told ∙ ap (λ o. verdict_by lacks (next_by o)) (sym at)
 
-    -- the verdict where no beat is left
+    -- the verdict if no beat is left
     by-past : (lacks : ℕ) (t : Bool) → (lacks == 0) ≡ t → slice_get bs n ≡ None →
         (if t then ending.Done n far else ending.Cut n far) ≡ verdict_by lacks (next_by (slice_get bs n))
     by-past lacks t e past =
         ap (λ u. if u then ending.Done n far else ending.Cut n far) (sym e) ∙ ap (λ o. verdict_by lacks (next_by o)) (sym past)
 
-    -- the verdict of a channel that stands still is that of what its side answers to the next beat
+    -- the verdict of a channel that is stopped is the one for its side's reason to refuse the next beat
     pub stop-verdict : (stop : Stop) → Stops r bs n answer accepted (Stopped stop) → IsHanded r accepted → accepted ≡ take n bs →
         stop_verdict stop n far ≡ verdict_of n far (left r w (take n bs)) (option_map_or (λ b. stops b) (slice_get bs n) None)
     stop-verdict Done (past, rest) h e =
@@ -102,18 +102,18 @@ module _ {H : Type 0} (r : Rules H) {w : ℕ} (bs : List (BeatOf H w)) (n : ℕ)
 
 module _ {H : Type 0} (r : Rules H) {w v : ℕ} (ww : IsWidth w) (vw : IsWidth v) (bs : List (BeatOf H w)) (n : ℕ)
     (far : List (BeatOf H v)) (x : World H w v) where
-  -- what was accepted makes no more far beats due than all beats that can be accepted
+  -- the accepted beats make no more far beats due than all beats that can be accepted
   due_most : IsSent r bs n far x → (hs ks : List ℕ) → length (due r w v x.accepted hs) ≤ length (due r w v (accepted_of r bs) ks)
   due_most s hs ks =
       subst (λ q. length (due r w v x.accepted hs) ≤ length (due r w v q ks))
       (ap (λ q. q ++ accepted_after r (take n bs) (drop n bs)) s.accepted ∙ sym s.lawful)
       (due_length r w v (width_bounds v vw).0 x.accepted (accepted_after r (take n bs) (drop n bs)) hs ks)
 
-  -- every far beat that is due stands somewhere
+  -- every due far beat is at some place
   pub all_stand : Crosses r x → length x.taken + length x.inbox + length x.ring + length x.stage ≡ length (due r w v x.accepted x.homes)
   all_stand c = sym (four_lengths x.taken x.inbox x.ring x.stage) ∙ ap length c.beats
 
-  -- the far list has room for all that is taken and that stands in the inbox
+  -- the far list has room for all beats that were taken and those in the inbox
   pub room-for : IsSent r bs n far x → Crosses r x → (room : ℕ) → HasRoom r v bs room → length far + length x.inbox ≤ room
   room-for s c room has =
       let taken : length far ≡ length x.taken = ap length s.taken in
@@ -122,7 +122,7 @@ module _ {H : Type 0} (r : Rules H) {w v : ℕ} (ww : IsWidth w) (vw : IsWidth v
       let fits : length (due r w v (accepted_of r bs) []) ≤ room = has [] in
       omega arith
 
-  -- a channel comes no further than this
+  -- the bound on the progress of a channel
   pub progress-most : IsSent r bs n far x → Crosses r x → progress n x ≤ length bs + 2 * length (due r w v (accepted_of r bs) [])
   progress-most s c =
       let stand = all_stand c in
@@ -130,17 +130,17 @@ module _ {H : Type 0} (r : Rules H) {w v : ℕ} (ww : IsWidth w) (vw : IsWidth v
       let few : n ≤ length bs = s.most in
       omega arith
 
-  -- where nothing is under way, a channel has come so far
+  -- if nothing is under way, a channel has reached this bound
   pub progress-end : IsSent r bs n far x → under_way x ≡ 0 → progress n x ≡ n + 2 * length far
   progress-end s rest =
       let taken : length far ≡ length x.taken = ap length s.taken in
       omega arith
 
-  -- where nothing is under way, what was taken is all that is due
+  -- if nothing is under way, the beats taken are all due beats
   pub taken-end : IsSent r bs n far x → Crosses r x → under_way x ≡ 0 → far ≡ due r w v x.accepted x.homes
   taken-end s c rest = s.taken ∙ all-taken r x c rest
 
-  -- a channel that nothing couples to another one, and that stands still, has accepted all that it ever accepts
+  -- a stopped channel that does not depend on another channel has accepted all beats that it can ever accept
   accepted_end : (stop : Stop) → Stops r bs n (stops_alone r x.accepted) x.accepted (Stopped stop) →
       IsSent r bs n far x → accepted_of r bs ≡ take n bs
   accepted_end Done stops s = accepted-all r bs n s.lawful (none_past bs n stops.0)
@@ -155,7 +155,7 @@ module _ {H : Type 0} (r : Rules H) {w v : ℕ} (ww : IsWidth w) (vw : IsWidth v
   verdict_at near beats accepted =
       verdict_of near beats (left r w accepted) (option_map_or (λ b. stops_alone r accepted b) (slice_get bs near) None)
 
-  -- a channel that nothing couples to another one, B, C or E, ends where the definitions say
+  -- a channel that does not depend on another channel, B, C or E, has the final state of the definitions
   module _ (stop : Stop) (stops : Stops r bs n (stops_alone r x.accepted) x.accepted (Stopped stop)) where
     pub count-end : IsSent r bs n far x → n ≡ length (accepted_of r bs)
     count-end s = sym (ap length (accepted_end stop stops s) ∙ length-take-le n bs s.most)

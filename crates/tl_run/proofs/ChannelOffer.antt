@@ -1,4 +1,4 @@
--- What an offer of the next beat does to one channel, whose other end is another thread's.
+-- The effect of an offer of the next beat on one channel, whose other end belongs to another thread.
 use Rattle.tl_run.proofs.Names.{◌↔◌, zero, suc, ◌≡◌, ◌+◌, ◌<◌, ◌≤◌, ℕ, None, Some, Option, List, [], ◌∷◌, ◌++◌, length, map, take, get_or, refl, sym}
 use Rattle.tl_run.proofs.Names.{ap, subst, ◌∙◌, arith, slice_get, slice_get_within, get_or_from_slice_get, Rules, BeatOf, SideFault, heads, left}
 use Rattle.tl_run.proofs.Names.{Handed, fault_after, rest_of, with_home, homes_with, map-append, World, offered, shut, Does, Stops, IsSent, IsHomed}
@@ -13,7 +13,7 @@ pub use Rattle.tl_sides.proofs.Draining.{answered-all, asked-all}
 -- the homes of one beat more
 module _ {H : Type 0} (r : Rules H) {w : ℕ} (xs : List (BeatOf H w)) (homes : List ℕ)
     (is : homes ≡ map (λ h. r.lane_address h 0) (heads r w xs)) (b : BeatOf H w) where
-  -- the beat opens a message, or it goes on with one
+  -- the beat opens a message, or continues one
   home-by : (rest : List (BeatOf H w)) (l : ℕ) → left r w xs ≡ l → (l ≡ 0) ↔ (rest ≡ []) →
       with_home r (r.lane_address b.head 0) rest homes ≡ map (λ h. r.lane_address h 0) (heads r w (xs ++ b ∷ []))
   home-by [] l e f =
@@ -22,7 +22,7 @@ module _ {H : Type 0} (r : Rules H) {w : ℕ} (xs : List (BeatOf H w)) (homes : 
   home-by (c ∷ rest) zero e f = let bad : (c ∷ rest) ≡ [] = f.0 refl in cc
   home-by (c ∷ rest) (suc l) e f = is ∙ ap (λ q. map (λ h. r.lane_address h 0) q) (sym (heads_inside_one r w 0 l xs b e))
 
-  -- the homes are those that the heads say
+  -- the homes are those that the heads determine
   homes-say : (left r w xs ≡ 0) ↔ (rest_of r w xs ≡ []) → homes_with r xs homes b 0 ≡ map (λ h. r.lane_address h 0) (heads r w (xs ++ b ∷ []))
   homes-say f = home-by (rest_of r w xs) (left r w xs) refl f
 
@@ -32,7 +32,7 @@ module _ {H : Type 0} (r : Rules H) {w v : ℕ} (bs : List (BeatOf H w)) (n : �
     still : IsSent r bs (n + 0) x.taken x
     still = subst (λ k. IsSent r bs k x.taken x) (none-more n) s
 
-    -- the channel was closed, behind its last beat
+    -- the channel was closed, after its last beat
     closed : slice_get bs n ≡ None → IsSent r bs (n + 0) (shut x).taken (shut x)
     closed e =
         let past : length bs ≤ n = none_past bs n e in
@@ -78,7 +78,7 @@ module _ {H : Type 0} (r : Rules H) {w v : ℕ} (bs : List (BeatOf H w)) (n : �
   sent-offer x (Stopped (Refused fault)) accepted y s own (b, next, refused, none, is) =
       subst (λ z. IsSent r bs (n + 0) z.taken z) (sym is) (still x s)
 
-  -- the beats say their homes themselves, where nobody else does
+  -- the beats determine their homes themselves, if nothing else does
   pub homed-offer : (x : World H w v) (o : Offered) (accepted : List (BeatOf H w)) (y : World H w v) {ms : List (Message H)}
       {rest : List (BeatOf H w)} → Handed r w x.accepted x.homes ms rest →
       IsHomed r x → ((b : BeatOf H w) → home b ≡ 0) → Does r bs n answer home x o accepted y → IsHomed r y
@@ -90,7 +90,7 @@ module _ {H : Type 0} (r : Rules H) {w v : ℕ} (bs : List (BeatOf H w)) (n : �
   homed-offer x (Stopped Cut) accepted y handed homed none (last, begun, nothing, is) = subst (λ z. IsHomed r z) (sym is) homed
   homed-offer x (Stopped (Refused fault)) accepted y handed homed none (b, next, refused, nothing, is) = subst (λ z. IsHomed r z) (sym is) homed
 
-  -- why the channel stands still, if it does
+  -- the reason why the channel is stopped, if it is
   pub stops-offer : (x : World H w v) (o : Offered) (accepted : List (BeatOf H w)) (y : World H w v) → Does r bs n answer home x o accepted y →
       Stops r bs (n + steps o) answer y.accepted o
   stops-offer x Accepted accepted y does = tt
@@ -102,7 +102,7 @@ module _ {H : Type 0} (r : Rules H) {w v : ℕ} (bs : List (BeatOf H w)) (n : �
   stops-offer x (Stopped (Refused fault)) accepted y (b, next, refused, none, is) =
       (b, subst (λ k. slice_get bs k ≡ Some b) (none-more n) next, refused)
 
--- what is sent on stays what was accepted
+-- after a move to the ring, the accepted beats are the same
 pub sent-passed : {H : Type 0} (r : Rules H) {w v : ℕ} (bs : List (BeatOf H w)) (n : ℕ) (far : List (BeatOf H v))
     (x y : World H w v) → IsSent r bs n far x →
     y.accepted ≡ x.accepted → y.closed ≡ x.closed → y.room ≡ x.room → (other : List (BeatOf H v)) → other ≡ y.taken → IsSent r bs n other y

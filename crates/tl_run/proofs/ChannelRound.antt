@@ -1,16 +1,16 @@
--- What a round does to one channel of a run.
+-- The effect of a round on one channel of a run.
 use Rattle.tl_run.proofs.Names.{◌≡◌, ◌≢◌, ◌+◌, ◌-◌, ◌++◌, ◌≤◌, ◌<◌, ◌⊎◌, inl, inr, ℕ, zero, suc, true, Option, None, Some, List, [], length, take}
 use Rattle.tl_run.proofs.Names.{drop, min, refl, sym, ap, subst, ◌∙◌, arith, ⊎_elim, length-append, slice_get, length-take-le, length-drop}
 use Rattle.tl_run.proofs.Names.{nil_from_length, slice_get_within, Rules, BeatOf, SideFault, fault_after, World, offered, shut, inbox_room, Does}
 use Rattle.tl_run.proofs.Names.{IsSent, IsStopped, steps, emptied, progress, under_way, Offered, Accepted, NotReady, Stopped, Done, Cut, Refused}
 use Rattle.std.proofs.Math.Nat.{min-le_left}
-use Rattle.tl_ring.specs.declared.queue.TheConstants.{ROOM}
+use Rattle.tl_ring.specs.declared.queue.TheConstants.{STAGE_CAPACITY}
 use Rattle.tl_run.proofs.ChannelOffer.{sent-offer, sent-passed}
 use Rattle.tl_run.proofs.Counting.{none-more}
 use Rattle.tl_offer.proofs.OfferSteps.{does-taken}
 use Rattle.tl_run.proofs.Moving.{moved_in, moved, push_count, pop_count}
 
--- how many items are left of a list whose first k are gone
+-- the number of items left of a list without its first k
 pub size-behind : {X : Type 0} (k : ℕ) (xs : List X) → k ≤ length xs → length (drop k xs) + k ≡ length xs
 size-behind k xs le = let n : length (drop k xs) ≡ length xs - k = length-drop k xs in omega arith
 
@@ -21,9 +21,9 @@ none-or-some (suc n) = inr (omega arith)
 
 -- ---- how far a ring moves on
 
--- where nothing can go into a ring or out of it, nothing is there
+-- if nothing can enter a ring or leave it, nothing is there
 none-goes : (stage room ring inbox : ℕ) → 1 ≤ room → inbox ≡ 0 →
-    min stage (room - ring) + min (ring + min stage (room - ring)) (ROOM - inbox) ≡ 0 → stage + ring + inbox ≡ 0
+    min stage (room - ring) + min (ring + min stage (room - ring)) (STAGE_CAPACITY - inbox) ≡ 0 → stage + ring + inbox ≡ 0
 none-goes stage room ring inbox some none e = omega arith
 
 module _ {H : Type 0} {w v : ℕ} (z : World H w v) where
@@ -33,7 +33,7 @@ module _ {H : Type 0} {w v : ℕ} (z : World H w v) where
       length-append z.ring (take (push_count z) z.stage) ∙
       ap (λ n. length z.ring + n) (length-take-le (push_count z) z.stage (min-le_left (length z.stage) (z.room - length z.ring)))
 
-  -- the ring, when the beats came out
+  -- the ring after the beats came out
   ring-left : length (moved z).ring + pop_count (moved_in z) ≡ length (moved_in z).ring
   ring-left = size-behind (pop_count (moved_in z)) (moved_in z).ring (min-le_left (length (moved_in z).ring) (inbox_room - length z.inbox))
 
@@ -41,14 +41,14 @@ module _ {H : Type 0} {w v : ℕ} (z : World H w v) where
   stage-left : length (moved z).stage + push_count z ≡ length z.stage
   stage-left = size-behind (push_count z) z.stage (min-le_left (length z.stage) (z.room - length z.ring))
 
-  -- the inbox, when the beats came into it
+  -- the inbox after the beats entered it
   inbox-filled : length (moved z).inbox ≡ length z.inbox + pop_count (moved_in z)
   inbox-filled =
       length-append z.inbox (take (pop_count (moved_in z)) (moved_in z).ring) ∙
       ap (λ n. length z.inbox + n)
       (length-take-le (pop_count (moved_in z)) (moved_in z).ring (min-le_left (length (moved_in z).ring) (inbox_room - length z.inbox)))
 
-  -- a channel comes further by what goes into its ring and what comes out of it
+  -- a channel advances by the beats that enter its ring and that come out of it
   pub progress-moved : (k : ℕ) → progress k (moved z) ≡ progress k z + (push_count z + pop_count (moved_in z))
   progress-moved k =
       by-sizes (length z.taken) (length (moved z).inbox) (length (moved z).ring) (length z.inbox) (length z.ring) (length (moved_in z).ring)
@@ -68,13 +68,13 @@ module _ {H : Type 0} {w v : ℕ} (z : World H w v) where
           stage + ring + inbox ≡ staged + held + before
       by-sizes stage staged inbox ring before held full i o s a b c = omega arith
 
-  -- where nothing goes in or comes out, nothing is under way
+  -- if nothing enters or comes out, nothing is under way
   at-rest : 1 ≤ z.room → length z.inbox ≡ 0 → push_count z + pop_count (moved_in z) ≡ 0 → under_way z ≡ 0
   at-rest some none e =
       none-goes (length z.stage) z.room (length z.ring) (length z.inbox) some none
       (ap (λ n. push_count z + min n (inbox_room - length z.inbox)) (sym ring-filled) ∙ e)
 
--- all of an inbox is taken: the channel has come as far as it had
+-- all beats of an inbox are taken: the progress of the channel is unchanged
 progress-emptied : {H : Type 0} {w v : ℕ} (x : World H w v) (k : ℕ) → progress k (emptied x) ≡ progress k x
 progress-emptied x k = by-sizes (length (x.taken ++ x.inbox)) (length x.taken) (length x.inbox) (length x.ring) (length-append x.taken x.inbox)
   where
@@ -82,7 +82,7 @@ progress-emptied x k = by-sizes (length (x.taken ++ x.inbox)) (length x.taken) (
     by-sizes all taken inbox ring e = omega arith
 
 module _ {H : Type 0} (r : Rules H) {w v : ℕ} (bs : List (BeatOf H w)) (n : ℕ) (answer : BeatOf H w → Option SideFault) (home : BeatOf H w → ℕ) where
-  -- one beat more was accepted, or none, and all that stood in the inbox was taken
+  -- one more beat was accepted, or none, and all beats of the inbox were taken
   pub sent-round : (far : List (BeatOf H v)) (x : World H w v) (o : Offered) (accepted : List (BeatOf H w)) (y : World H w v) →
       IsSent r bs n far x → ((b : BeatOf H w) → answer b ≡ None → fault_after r x.accepted b ≡ None) →
       Does r bs n answer home (emptied x) o accepted y →
@@ -93,15 +93,15 @@ module _ {H : Type 0} (r : Rules H) {w v : ℕ} (bs : List (BeatOf H w)) (n : �
       sent-passed r bs (n + steps o) y.taken y (moved y) after refl refl refl (far ++ x.inbox)
       (ap (λ t. t ++ x.inbox) s.taken ∙ sym (does-taken r bs n answer home (emptied x) y o accepted does))
 
-  -- ---- how far it comes
+  -- ---- the progress of the channel
 
   module _ (x z : World H w v) (as_far : progress n z ≡ progress n x) where
-    -- no beat is accepted: the channel comes further by what its ring does
+    -- no beat is accepted: the channel advances by the moves of its ring
     goes-on : progress (n + 0) (moved z) ≡ progress n x + (push_count z + pop_count (moved_in z))
     goes-on =
         ap (λ k. progress k (moved z)) (sym (none-more n)) ∙ progress-moved z n ∙ ap (λ k. k + (push_count z + pop_count (moved_in z))) as_far
 
-    -- no beat is accepted, but beats go in or come out
+    -- no beat is accepted, but beats enter or come out
     progress-on : 1 ≤ push_count z + pop_count (moved_in z) →
         (progress n x ≤ progress (n + 0) (moved z)) × (progress n x + 1 ≤ progress (n + 0) (moved z))
     progress-on some = by-sum (progress n x) (push_count z + pop_count (moved_in z)) (progress (n + 0) (moved z)) some goes-on
@@ -109,14 +109,14 @@ module _ {H : Type 0} (r : Rules H) {w v : ℕ} (bs : List (BeatOf H w)) (n : �
         by-sum : (before more after : ℕ) → 1 ≤ more → after ≡ before + more → (before ≤ after) × (before + 1 ≤ after)
         by-sum before more after some e = (omega arith, omega arith)
 
-    -- no beat is accepted: the channel has come as far as before at least
+    -- no beat is accepted: the channel has not discarded back
     progress-keeps : progress n x ≤ progress (n + 0) (moved z)
     progress-keeps = by-sum (progress n x) (push_count z + pop_count (moved_in z)) (progress (n + 0) (moved z)) goes-on
       where
         by-sum : (before more after : ℕ) → after ≡ before + more → before ≤ after
         by-sum before more after e = omega arith
 
-    -- no beat is accepted, and the channel stands still
+    -- no beat is accepted, and the channel is stopped
     progress-stopped : 1 ≤ z.room → length z.inbox ≡ 0 →
         (progress n x ≤ progress (n + 0) (moved z)) × ((progress n x + 1 ≤ progress (n + 0) (moved z)) ⊎ (Unit {0} × (under_way (moved z) ≡ 0)))
     progress-stopped some none = ⊎_elim
@@ -149,7 +149,7 @@ module _ {H : Type 0} (r : Rules H) {w v : ℕ} (bs : List (BeatOf H w)) (n : �
       by-sum : (through out more after : ℕ) → after ≡ n + 1 + through + out + more → (n + through + out ≤ after) × (n + through + out + 1 ≤ after)
       by-sum through out more after e = (omega arith, omega arith)
 
-  -- a channel waits only where beats stand in its stage: a closed one has no beat left
+  -- a channel waits only while beats are in its stage: a closed one has no beat left
   pub stage-full : (far : List (BeatOf H v)) (x : World H w v) → IsSent r bs n far x → (b : BeatOf H w) → slice_get bs n ≡ Some b →
       (x.stage ≢ []) ⊎ (x.closed ≡ true) → x.stage ≢ []
   stage-full far x s b next (inl full) = full
@@ -158,7 +158,7 @@ module _ {H : Type 0} (r : Rules H) {w v : ℕ} (bs : List (BeatOf H w)) (n : �
       let all : n ≡ length bs = s.shuts closed in
       absurd (omega arith)
 
-  -- the channel has come further, or it stands still and nothing is under way
+  -- the channel has advanced, or it is stopped and nothing is under way
   pub progress-round : (far : List (BeatOf H v)) (x : World H w v) (o : Offered) (accepted : List (BeatOf H w)) (y : World H w v) →
       IsSent r bs n far x → Does r bs n answer home (emptied x) o accepted y →
       (progress n x ≤ progress (n + steps o) (moved y)) ×

@@ -1,4 +1,4 @@
--- A channel of a run in one thread: its list and its count, and what it has come to.
+-- A channel of a run in one thread: its list and its count, and its state.
 use Rattle.tl_run.proofs.Names.{◌≡◌, ℕ, Option, None, List, refl, sym, ap, subst, ◌∙◌, slice_get, inl, HeadA, HeadD, BeatOf, SideFault, Beats}
 use Rattle.tl_run.proofs.Names.{PerChannel, Bridge, Past, StandsFor, IsPart, IsAt, Offering, RestsIn, ◌≤◌, ◌-◌}
 use Rattle.tl_msg.specs.declared.head.HeadB.{HeadB}
@@ -6,7 +6,7 @@ use Rattle.tl_msg.specs.declared.head.HeadC.{HeadC}
 use Rattle.tl_msg.specs.declared.head.HeadE.{HeadE}
 
 module _ {S P H : Type 0} {w v : ℕ} (q : Offering S P H w v) where
-  -- so it is in all that a side stands for
+  -- the same in every past that a side represents
   abbrev pub RestsAt : List (BeatOf H w) → ℕ → S → Option SideFault → Type 0
   RestsAt bs n s o = (x : P) → q.Stands s x → RestsIn bs n (q.answer x) (q.crossing x) o
 
@@ -74,7 +74,7 @@ module _ {C M : ℕ} where
     sets = λ _ _ _. refl;
   }
 
-  -- a bridge stands for all that another one stood for
+  -- a bridge represents all pasts that another one represented
   abbrev pub Stays : Bridge C M → Bridge C M → Type 0
   Stays s t = (x : Past C M) → StandsFor s x → StandsFor t x
 
@@ -82,32 +82,32 @@ module _ {C M : ℕ} where
   stays_same s x stands = stands
 
   module _ {B : Type 0} (k : Going C M B) where
-    -- one channel came from one count to another in a past, whatever the others had come to
-    pub record HasPassed (gone : ℕ) (held : List B) (at : ℕ) (x : Past C M) (later : ℕ) (t : Bridge C M) : Type 0 where
+    -- one channel advanced from one count to another in a past, whatever the states of the others
+    pub record HasPassed (discarded : ℕ) (held : List B) (at : ℕ) (x : Past C M) (later : ℕ) (t : Bridge C M) : Type 0 where
       pub past : Past C M
       pub stands : StandsFor t past
       -- for every list of which these are held
-      pub is_at : (near : Beats C M) (n : PerChannel ℕ) (far : Beats M C) → IsPart gone held (k.list near) → k.count n ≡ at → IsAt near n far x →
+      pub is_at : (near : Beats C M) (n : PerChannel ℕ) (far : Beats M C) → IsPart discarded held (k.list near) → k.count n ≡ at → IsAt near n far x →
           IsAt near (k.set later n) far past
 
-    abbrev pub Passes : (gone : ℕ) → (held : List B) → (at : ℕ) → (s : Bridge C M) → (later : ℕ) → (t : Bridge C M) → Type 0
-    Passes gone held at s later t = (x : Past C M) → StandsFor s x → HasPassed gone held at x later t
+    abbrev pub Passes : (discarded : ℕ) → (held : List B) → (at : ℕ) → (s : Bridge C M) → (later : ℕ) → (t : Bridge C M) → Type 0
+    Passes discarded held at s later t = (x : Past C M) → StandsFor s x → HasPassed discarded held at x later t
 
     -- it did not at all
-    pub passes_stays : (gone : ℕ) (held : List B) (at : ℕ) (s t : Bridge C M) → Stays s t → Passes gone held at s at t
-    passes_stays gone held at s t stays x stands = record {
+    pub passes_stays : (discarded : ℕ) (held : List B) (at : ℕ) (s t : Bridge C M) → Stays s t → Passes discarded held at s at t
+    passes_stays discarded held at s t stays x stands = record {
       past = x;
       stands = stays x stands;
       is_at = λ near n far part here i. subst (λ m. IsAt near m far x) (sym (k.same n) ∙ ap (λ l. k.set l n) here) i;
     }
 
-    pub passes_none : (gone : ℕ) (held : List B) (at : ℕ) (s : Bridge C M) → Passes gone held at s at s
-    passes_none gone held at s = passes_stays gone held at s s (stays_same s)
+    pub passes_none : (discarded : ℕ) (held : List B) (at : ℕ) (s : Bridge C M) → Passes discarded held at s at s
+    passes_none discarded held at s = passes_stays discarded held at s s (stays_same s)
 
     -- or by several beats, one after another
-    pub passes_then : (gone : ℕ) (held : List B) (i j l : ℕ) (s t u : Bridge C M) → Passes gone held i s j t →
-        Passes gone held j t l u → Passes gone held i s l u
-    passes_then gone held i j l s t u f g x stands =
+    pub passes_then : (discarded : ℕ) (held : List B) (i j l : ℕ) (s t u : Bridge C M) → Passes discarded held i s j t →
+        Passes discarded held j t l u → Passes discarded held i s l u
+    passes_then discarded held i j l s t u f g x stands =
         let p = f x stands in
         let q = g p.past p.stands in
         record {
@@ -117,11 +117,12 @@ module _ {C M : ℕ} where
               subst (λ m. IsAt near m far q.past) (k.sets l j n) (q.is_at near (k.set j n) far part (k.counts j n) (p.is_at near n far part here at));
         }
 
--- what came of a channel that went ahead, from this count and side to that one, where this fault stopped its next beat if one did
+-- the effect on a channel that went ahead, from this count and side to that one, if its next beat was refused for this
+-- fault, or for none
 module _ {C M : ℕ} {H : Type 0} {w v : ℕ} (k : Going C M (BeatOf H w)) (q : Offering (Bridge C M) (Past C M) H w v) where
-  pub record HasGone (gone : ℕ) (held : List (BeatOf H w)) (at : ℕ) (s : Bridge C M) (later : ℕ) (t : Bridge C M) (o : Option SideFault) :
+  pub record HasGone (discarded : ℕ) (held : List (BeatOf H w)) (at : ℕ) (s : Bridge C M) (later : ℕ) (t : Bridge C M) (o : Option SideFault) :
       Type 0 where
     pub on : at ≤ later
-    pub passes : Passes k gone held at s later t
+    pub passes : Passes k discarded held at s later t
     pub stays : later ≡ at → Stays s t
-    pub rests : later ≡ at → RestsAt q held (at - gone) s o
+    pub rests : later ≡ at → RestsAt q held (at - discarded) s o

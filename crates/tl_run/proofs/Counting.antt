@@ -5,7 +5,7 @@ use Rattle.tl_run.proofs.Names.{◌≡◌, ◌+◌, ◌-◌, ◌^◌, ◌<◌, �
 pub none-more : (n : ℕ) → n ≡ n + 0
 none-more n = omega arith
 
--- a count below its bound may go on
+-- a count below its bound can be increased
 pub counts-on : (k l m : ℕ) → k ≤ l → l ≤ m → m < 2 ^ 60 → k + 1 < 2 ^ 64
 counts-on k l m f g h = omega arith
 

@@ -16,7 +16,7 @@ use Rattle.tl_burst.specs.Reading.{message_of}
 use Rattle.tl_burst.proofs.Burst.{beats-bounds, rest-snoc}
 use Rattle.tl_convert.proofs.Extends.{both}
 
--- a first fault that isn't there
+-- a first fault that does not exist
 first-none : (o q : Option BeatFault) → (o or_else q) ≡ None → o ≡ None
 first-none None q e = refl
 first-none (Some f) q e = e
@@ -26,7 +26,7 @@ unless-true : (b : Bool) (f : BeatFault) → unless b f ≡ None → b ≡ true
 unless-true true f e = refl
 unless-true false f e = cc
 
--- beats without a fault are of messages of at most 4,096 bytes, and so is what goes on with such a message
+-- beats without a fault are of messages of at most 4,096 bytes, and so are the beats that continue such a message
 abbrev pub HaveSmall : {H : Type 0} → Rules H → Type 0
 HaveSmall {H} r = ((h : H) → r.fault h ≡ None → r.size h ≤ 12) × ((g h : H) → r.same g h ≡ true → r.size g ≡ r.size h)
 

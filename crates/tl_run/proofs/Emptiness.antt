@@ -1,4 +1,4 @@
--- Two things together are none where each is none, and some where one of them is some.
+-- Two numbers together are 0 if each is 0, and not 0 if one of them is not.
 use Rattle.tl_run.proofs.Names.{◌≡◌, ◌≢◌, ◌+◌, ◌⊎◌, inl, inr, ◌↔◌, ◌&&◌, ◌||◌, ◌==◌, ℕ, Bool, arith, ⊎_elim, IsTrue}
 use Rattle.std.proofs.lemmas.Bool.{and_parts, and_from, or_cases, or_left, or_right, cases_eq}
 use Rattle.std.proofs.lemmas.Bool.Decides.{nat_tests}

@@ -1,4 +1,4 @@
--- How far a run has come, by what its loop sees, and how it ends.
+-- The progress of a run, from what its loop sees, and its end.
 use Rattle.tl_run.proofs.Names.{◌≡◌, ◌+◌, ◌*◌, ◌^◌, ◌≤◌, ◌<◌, ◌++◌, ℕ, false, List, [], length, take, drop, refl, sym, ap, subst, ◌∙◌, arith, ⊎_elim}
 use Rattle.tl_run.proofs.Names.{length-take-le, IsWidth, Rules, rules_a, rules_b, rules_c, rules_d, rules_e, BeatOf, due, accepted_of, accepted_after}
 use Rattle.tl_run.proofs.Names.{World, empty, Pipe, Beats, Bridge, Past, StandsFor, IsStanding, nothing_yet, no_beats, IsShort, IsSent}
@@ -12,13 +12,13 @@ use Rattle.tl_run.proofs.ChannelEnd.{all_stand, progress-most}
 use Rattle.tl_run.proofs.Counting.{same-sums}
 use Rattle.tl_run.proofs.DueBounds.{first-most, most-a, most-b, most-c, most-d, most-e, small-a, small-b, small-c, small-d, small-e}
 
--- ---- how far a run has come
+-- ---- the progress of a run
 
--- how far a channel has come, where so many beats were accepted and so many taken
+-- the progress of a channel, after n accepted and `taken` taken beats
 abbrev pub progress_in : {H : Type 0} {v : ℕ} → ℕ → ℕ → Pipe H v → ℕ
 progress_in n taken p = n + (taken + length p.inbox + length p.ring) + (taken + length p.inbox)
 
--- how far all five have come, where so many were taken, or these
+-- the progress of all five, from the number of beats taken, or from the beats
 abbrev pub progress_by : {C M : ℕ} → (n taken : PerChannel ℕ) → Bridge C M → ℕ
 progress_by n taken s = progress_in n.a taken.a s.a + progress_in n.b taken.b s.b + progress_in n.c taken.c s.c +
     progress_in n.d taken.d s.d + progress_in n.e taken.e s.e
@@ -26,11 +26,11 @@ progress_by n taken s = progress_in n.a taken.a s.a + progress_in n.b taken.b s.
 abbrev pub progress_here : {C M : ℕ} → PerChannel ℕ → Beats M C → Bridge C M → ℕ
 progress_here n far s = progress_by n (lengths far) s
 
--- how far a channel comes at most
+-- the largest progress of a channel
 abbrev pub progress_end : {H : Type 0} (r : Rules H) {w : ℕ} (v : ℕ) → List (BeatOf H w) → ℕ
 progress_end r {w = w} v bs = length bs + 2 * length (due r w v (accepted_of r bs) [])
 
--- it is how far its crossing has come
+-- it is the progress of its crossing
 progress-in-is : {H : Type 0} (r : Rules H) {w v : ℕ} (bs : List (BeatOf H w)) (n : ℕ) (far : List (BeatOf H v)) (p : Pipe H v) (x : World H w v) →
     piping.StandsFor r p x → IsSent r bs n far x → progress_in n (length far) p ≡ progress n x
 progress-in-is r bs n far p x s i = rw (i.taken, s.inbox, s.ring) refl
@@ -39,7 +39,7 @@ progress-in-is r bs n far p x s i = rw (i.taken, s.inbox, s.ring) refl
 pub sums-most : {a b c d e a' b' c' d' e' : ℕ} → a ≤ a' → b ≤ b' → c ≤ c' → d ≤ d' → e ≤ e' → a + b + c + d + e ≤ a' + b' + c' + d' + e'
 sums-most f g h i j = omega arith
 
--- what was taken and stands in an inbox is few, where few beats were accepted
+-- the beats taken and those in an inbox are few, if few beats were accepted
 few-stand : {H : Type 0} (r : Rules H) {w v : ℕ} → IsWidth w → IsWidth v →
     (bs : List (BeatOf H w)) (n : ℕ) (far : List (BeatOf H v)) (p : Pipe H v) (x : World H w v) →
     piping.StandsFor r p x → IsSent r bs n far x →
@@ -55,7 +55,7 @@ few-stand r ww vw bs n far p x f s most few =
     let inbox : length p.inbox ≡ length x.inbox = ap length f.inbox in
     omega (arith, stand, due_few, taken, inbox, few)
 
--- so many beats stand in a pipe as are under way
+-- the number of beats in a pipe is the number under way
 standing-is : {H : Type 0} (r : Rules H) {w v : ℕ} (p : Pipe H v) (x : World H w v) (s : Standing) → piping.StandsFor r p x → IsStanding p s →
     standing_count s ≡ under_way x
 standing-is r p x s f i = rw (i.staged, i.in_ring, i.inbox, f.stage, f.ring, f.inbox) refl
@@ -68,12 +68,12 @@ all-standing-is s x t f a b c d e =
     (standing-is rules_d s.d x.d t.d f.d d) (standing-is rules_e s.e x.e t.e f.e e)
 
 module _ {C M : ℕ} (near : Beats C M) where
-  -- how far a run comes at most
+  -- the largest progress of a run
   abbrev pub run_end : ℕ
   run_end = progress_end rules_a M near.a + progress_end rules_b C near.b + progress_end rules_c M near.c +
       progress_end rules_d C near.d + progress_end rules_e M near.e
 
-  -- it has come as far as what has happened says
+  -- it is the progress in the past
   pub progress-is : (n : PerChannel ℕ) (far : Beats M C) (s : Bridge C M) (x : Past C M) → StandsFor s x → IsAt near n far x →
       progress_here n far s ≡ all_progress n x
   progress-is n far s x f i =
@@ -81,7 +81,7 @@ module _ {C M : ℕ} (near : Beats C M) where
       (progress-in-is rules_c near.c n.c far.c s.c x.c f.c i.c_sent) (progress-in-is rules_d near.d n.d far.d s.d x.d f.d i.d_sent)
       (progress-in-is rules_e near.e n.e far.e s.e x.e f.e i.e_sent)
 
-  -- it comes no further than that
+  -- it is no larger than that
   pub progress-ends : IsWidth C → IsWidth M → (n : PerChannel ℕ) (far : Beats M C) (s : Bridge C M) (x : Past C M) →
       StandsFor s x → IsAt near n far x →
       progress_here n far s ≤ run_end
@@ -103,7 +103,7 @@ module _ {C M : ℕ} (near : Beats C M) where
           (f + 2 * k) + (g + 2 * l) + (h + 2 * m) + (i + 2 * n) + (j + 2 * o) < 2 ^ 60
       bounded f g h i j k l m n o p q r t u x y z w v = omega arith
 
-  -- what stands in the inboxes can be counted
+  -- the beats in the inboxes can be counted
   pub can-add : IsWidth C → IsWidth M → (n : PerChannel ℕ) (far : Beats M C) (s : Bridge C M) (x : Past C M) → StandsFor s x →
       IsAt near n far x → HaveRoomToCount n →
       CanAdd (lengths far) (lengths (inboxes s))
@@ -153,7 +153,7 @@ module _ {C M : ℕ} (near : Beats C M) where
 
   -- ---- the first round
 
-  -- where nothing has happened yet, whatever stands in the rings
+  -- if nothing has happened yet, whatever is in the rings
   abbrev pub untouched : (room : ℕ) → Past C M → Past C M
   untouched room x = record {
     client = [];
@@ -165,7 +165,7 @@ module _ {C M : ℕ} (near : Beats C M) where
     e = record x.e { room = room; accepted = []; homes = []; taken = []; closed = false };
   }
 
-  -- a run stands at its beginning
+  -- a run is at its beginning
   pub begins : (n : PerChannel ℕ) (far : Beats M C) (room : ℕ) (x : Past C M) →
       n ≡ record { a = 0; b = 0; c = 0; d = 0; e = 0 } → far ≡ no_beats → 1 ≤ room →
       IsAt near n far (untouched room x)

@@ -1,4 +1,4 @@
--- What a run that has ended has come to.
+-- The state of a run that has ended.
 use Rattle.tl_run.proofs.Names.{◌≡◌, ◌+◌, ◌*◌, ◌≤◌, ℕ, [], ◌∷◌, length, refl, ap, ◌∙◌, arith, IsWidth, rules_a, rules_b, rules_c, rules_d, rules_e}
 use Rattle.tl_run.proofs.Names.{Verdict, Beats, far_beats, far_alone, verdicts, Bridge, near_count, far_count, progress, under_way, HasEnded}
 use Rattle.tl_run.proofs.Names.{stop_verdict, PerChannel, Stop}
@@ -21,11 +21,11 @@ pub five-same : {A : Type 0} {p q r s t p' q' r' s' t' : A} → p ≡ p' → q �
     p ∷ q ∷ r ∷ s ∷ t ∷ [] ≡ p' ∷ q' ∷ r' ∷ s' ∷ t' ∷ []
 five-same f g h i j = rw (f, g, h, i, j) refl
 
--- a verdict, by the length of a list in place of a count
+-- a verdict, from the length of a list instead of a count
 pub verdict-is : (stop : Stop) (near : ℕ) {len far : ℕ} {v : Verdict} → len ≡ far → v ≡ stop_verdict stop near len → v ≡ stop_verdict stop near far
 verdict-is stop near e f = f ∙ ap (λ k. stop_verdict stop near k) e
 
--- five counts are the same where each is
+-- five counts are the same if each is
 same-counts : (x y : PerChannel ℕ) → x.a ≡ y.a → x.b ≡ y.b → x.c ≡ y.c → x.d ≡ y.d → x.e ≡ y.e → x ≡ y
 same-counts x y a b c d e = rw (a, b, c, d, e) refl
 
@@ -58,7 +58,7 @@ module _ {C M : ℕ} (cw : IsWidth C) (mw : IsWidth M) (near : Beats C M) (n : P
       h.is_at.d_sent stops.a stops.d
       h.all_stop.stop_a h.all_stop.stop_d a-rests d-rests
 
-  -- what was taken is what the script settles to
+  -- the beats taken are those of the script's settled state
   pub b-far : far.b ≡ far_alone rules_b C near.b
   b-far = far-end rules_b mw cw near.b n.b far.b h.past.b stops.b h.all_stop.stop_b h.is_at.b_sent h.stands.b.crosses h.is_at.b_homed b-rests
 
@@ -81,7 +81,7 @@ module _ {C M : ℕ} (cw : IsWidth C) (mw : IsWidth M) (near : Beats C M) (n : P
       has-settled.d_verdict
       (verdict-end rules_e cw mw near.e n.e far.e h.past.e stops.e h.all_stop.stop_e h.is_at.e_sent h.stands.e.crosses h.is_at.e_homed e-rests)
 
-  -- so many beats were accepted as the script settles to
+  -- the number of accepted beats is that of the script's settled state
   pub counts-are : n ≡ near_counts near
   counts-are = same-counts n (near_counts near) has-settled.a_count
       (count-end rules_b mw cw near.b n.b far.b h.past.b stops.b h.all_stop.stop_b h.is_at.b_sent)

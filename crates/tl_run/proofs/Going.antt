@@ -1,4 +1,5 @@
--- A channel of a run in one thread goes on by itself: the run stands for what happened, or for what it stood for where no beat was accepted.
+-- A channel of a run in one thread advances by itself: the run represents the past with the accepted beats, or the same
+-- past if no beat was accepted.
 use Rattle.tl_run.proofs.Names.{◌≡◌, ◌+◌, ◌-◌, ◌++◌, ◌≤◌, ◌<◌, inr, ℕ, Option, None, List, length, map, [], refl, sym}
 use Rattle.tl_run.proofs.Names.{subst, ◌∙◌, arith, Rules, rules_a, rules_b, rules_c, rules_d, rules_e, HeadA, HeadD, BeatOf, SideFault, fault_after}
 use Rattle.tl_run.proofs.Names.{none_past, World, Ask, Answer, client_answer, manager_answer, manager_home, round, client_rests}
@@ -21,7 +22,7 @@ use Rattle.std.proofs.lemmas.Option.{slice_get_past}
 use Rattle.tl_run.proofs.Round.{alone-own, client-own, manager-own}
 use Rattle.tl_run.proofs.RoundMoves.{client-offers, manager-offers}
 
--- where none was accepted there is none
+-- if none was accepted, the list of accepted beats is empty
 none-accepted : (o : Offered) → (o ≡ Accepted → ⊥) → steps o ≡ 0
 none-accepted Accepted never = absurd (never refl)
 none-accepted NotReady never = refl
@@ -34,17 +35,17 @@ not-past : {B : Type 0} (held : List B) (n : ℕ) → n < length held → length
 not-past held n within past = omega (arith, within, past)
 
 module _ {H : Type 0} (r : Rules H) {w v : ℕ} (answer : BeatOf H w → Option SideFault) (home : BeatOf H w → ℕ) (x : World H w v) where
-  module _ (gone at : ℕ) (held near : List (BeatOf H w)) (part : IsPart gone held near) (from : gone ≤ at) (within : at - gone < length held) where
-    -- what becomes of the next beat that is held becomes of the next one of all
-    does-part : (o : Offered) (accepted : List (BeatOf H w)) (y : World H w v) → Does r held (at - gone) answer home x o accepted y →
+  module _ (discarded at : ℕ) (held near : List (BeatOf H w)) (part : IsPart discarded held near) (from : discarded ≤ at) (within : at - discarded < length held) where
+    -- the outcome of the next held beat is that of the next beat of all
+    does-part : (o : Offered) (accepted : List (BeatOf H w)) (y : World H w v) → Does r held (at - discarded) answer home x o accepted y →
         Does r near at answer home x o accepted y
-    does-part Accepted accepted y (b, next, ok, one, made) = (b, part-get gone at held near part from b next, ok, one, made)
-    does-part NotReady accepted y (b, next, why, none, same) = (b, part-get gone at held near part from b next, why, none, same)
-    does-part (Stopped (Refused fault)) accepted y (b, next, is, none, same) = (b, part-get gone at held near part from b next, is, none, same)
-    does-part (Stopped Done) accepted y (past, rest, none, same) = absurd (not-past held (at - gone) within (none_past held (at - gone) past))
-    does-part (Stopped Cut) accepted y (past, rest, none, same) = absurd (not-past held (at - gone) within (none_past held (at - gone) past))
+    does-part Accepted accepted y (b, next, ok, one, made) = (b, part-get discarded at held near part from b next, ok, one, made)
+    does-part NotReady accepted y (b, next, why, none, same) = (b, part-get discarded at held near part from b next, why, none, same)
+    does-part (Stopped (Refused fault)) accepted y (b, next, is, none, same) = (b, part-get discarded at held near part from b next, is, none, same)
+    does-part (Stopped Done) accepted y (past, rest, none, same) = absurd (not-past held (at - discarded) within (none_past held (at - discarded) past))
+    does-part (Stopped Cut) accepted y (past, rest, none, same) = absurd (not-past held (at - discarded) within (none_past held (at - discarded) past))
 
-  -- where none was accepted, the channel rests
+  -- if none was accepted, the channel rests
   rests-held : (held : List (BeatOf H w)) (n : ℕ) → n < length held → (o : Offered) (accepted : List (BeatOf H w)) (y : World H w v) →
       steps o ≡ 0 → Does r held n answer home x o accepted y → RestsIn held n answer x (refused_by o)
   rests-held held n within Accepted accepted y none does = absurd (omega (arith, none))
@@ -62,22 +63,22 @@ module _ {H : Type 0} (r : Rules H) {w v : ℕ} (answer : BeatOf H w → Option 
   unchanged held n within (Stopped Done) accepted y none (past, rest, no_beat, same) = absurd (not-past held n within (none_past held n past))
   unchanged held n within (Stopped Cut) accepted y none (past, rest, no_beat, same) = absurd (not-past held n within (none_past held n past))
 
-module _ {S P H : Type 0} {w v : ℕ} (q : Offering S P H w v) (held : List (BeatOf H w)) (gone at : ℕ) (from : gone ≤ at)
-    (within : at - gone < length held) (s t : S) (o : Offered)
-    (none : steps o ≡ 0) (offers : OffersNext q held (at - gone) s o t) where
-  -- a side that accepted no beat stands for what it stood for
+module _ {S P H : Type 0} {w v : ℕ} (q : Offering S P H w v) (held : List (BeatOf H w)) (discarded at : ℕ) (from : discarded ≤ at)
+    (within : at - discarded < length held) (s t : S) (o : Offered)
+    (none : steps o ≡ 0) (offers : OffersNext q held (at - discarded) s o t) where
+  -- a side that accepted no beat represents the same past
   pub stays-next : (x : P) → q.Stands s x → q.Stands t x
   stays-next x h =
       let d = offers.does x h in
-      let same = unchanged q.rules (q.answer x) (q.home x) (q.crossing x) held (at - gone) within o d.0 d.1 none d.3 in
+      let same = unchanged q.rules (q.answer x) (q.home x) (q.crossing x) held (at - discarded) within o d.0 d.1 none d.3 in
       subst (λ z. q.Stands t z) (q.kept x) (subst (λ z. q.Stands t (q.put (q.crossing x) z)) (q.noted x)
       (subst (λ y. q.Stands t (q.put y (q.note [] x))) same.1 (subst (λ l. q.Stands t (q.put d.1 (q.note l x))) same.0 d.2)))
 
   -- and the channel rests
-  pub rests-next : (x : P) → q.Stands s x → RestsIn held (at - gone) (q.answer x) (q.crossing x) (refused_by o)
+  pub rests-next : (x : P) → q.Stands s x → RestsIn held (at - discarded) (q.answer x) (q.crossing x) (refused_by o)
   rests-next x h =
       let d = offers.does x h in
-      rests-held q.rules (q.answer x) (q.home x) (q.crossing x) held (at - gone) within o d.0 d.1 none d.3
+      rests-held q.rules (q.answer x) (q.home x) (q.crossing x) held (at - discarded) within o d.0 d.1 none d.3
 
 -- ---- a beat was offered, and beats moved on
 
@@ -188,7 +189,7 @@ module _ {C M : ℕ} (i' j k : ℕ) (near : Beats C M) (n : PerChannel ℕ) (far
 
 -- ---- a channel goes ahead
 
--- on a bridge in one thread, where what is staged of it passes on so
+-- on a bridge in one thread, if its staged beats are forwarded in this way
 module _ {C M : ℕ} {H : Type 0} {w v : ℕ} (k : Going C M (BeatOf H w)) (q : Offering (Bridge C M) (Past C M) H w v)
     (on : (s : Bridge C M) (x : Past C M) → (StandsFor s x → q.Stands s x) × (q.Stands s x → StandsFor s x))
     (Moves : Bridge C M → Bridge C M → Type 0)
@@ -198,10 +199,10 @@ module _ {C M : ℕ} {H : Type 0} {w v : ℕ} (k : Going C M (BeatOf H w)) (q : 
     (s : Bridge C M) → StandsFor s x → (o : Offered) (accepted : List (BeatOf H w)) (y : World H w v) →
     Does q.rules (k.list near) (k.count n) (q.answer x) (q.home x) (q.crossing x) o accepted y →
     IsAt near (k.set (k.count n + steps o) n) far (q.put (passed_on i j l y) (q.note accepted x)))
-    (gone : ℕ) (held : List (BeatOf H w)) where
+    (discarded : ℕ) (held : List (BeatOf H w)) where
   -- one beat was accepted, and what it gave passed on
-  one-passes : (at : ℕ) (s t u : Bridge C M) → gone ≤ at → at - gone < length held → OffersNext q held (at - gone) s Accepted t → Moves t u →
-      Passes k gone held at s (at + 1) u
+  one-passes : (at : ℕ) (s t u : Bridge C M) → discarded ≤ at → at - discarded < length held → OffersNext q held (at - discarded) s Accepted t → Moves t u →
+      Passes k discarded held at s (at + 1) u
   one-passes at s t u from within offers moved x stands =
       let m = moves t u moved in
       let h = offers.does x ((on s x).0 stands) in
@@ -211,68 +212,68 @@ module _ {C M : ℕ} {H : Type 0} {w v : ℕ} (k : Going C M (BeatOf H w)) (q : 
         stands = m.3 h.1 (q.note h.0 x) ((on t (q.put h.1 (q.note h.0 x))).1 h.2);
         is_at = λ near n far part here is.
             let does = subst (λ c. Does q.rules (k.list near) c (q.answer x) (q.home x) (q.crossing x) Accepted h.0 h.1) (sym here)
-            (does-part q.rules (q.answer x) (q.home x) (q.crossing x) gone at held (k.list near) part from within Accepted h.0 h.1 h.3) in
+            (does-part q.rules (q.answer x) (q.home x) (q.crossing x) discarded at held (k.list near) part from within Accepted h.0 h.1 h.3) in
             subst (λ c. IsAt near (k.set (c + 1) n) far after) here (ahead m.0 m.1 m.2 near n far x is s stands Accepted h.0 h.1 does);
       }
 
   module _ (at : ℕ) (s : Bridge C M) where
-    least : (later : ℕ) (t : Bridge C M) → GoesOn (OffersNext q) Moves gone held at s later t → at ≤ later
+    least : (later : ℕ) (t : Bridge C M) → GoesOn (OffersNext q) Moves discarded held at s later t → at ≤ later
     least _ _ at_first = omega arith
     least _ _ (one_more i t' u v before from within offers moved) = let le = least i t' before in omega (arith, le)
 
-    several-pass : (later : ℕ) (t : Bridge C M) → GoesOn (OffersNext q) Moves gone held at s later t → Passes k gone held at s later t
-    several-pass _ _ at_first = passes_none k gone held at s
+    several-pass : (later : ℕ) (t : Bridge C M) → GoesOn (OffersNext q) Moves discarded held at s later t → Passes k discarded held at s later t
+    several-pass _ _ at_first = passes_none k discarded held at s
     several-pass _ _ (one_more i t' u v before from within offers moved) =
-        passes_then k gone held at i (i + 1) s t' v (several-pass i t' before) (one-passes i t' u v from within offers moved)
+        passes_then k discarded held at i (i + 1) s t' v (several-pass i t' before) (one-passes i t' u v from within offers moved)
 
-    same-side : (later : ℕ) (t : Bridge C M) → GoesOn (OffersNext q) Moves gone held at s later t → later ≡ at → s ≡ t
+    same-side : (later : ℕ) (t : Bridge C M) → GoesOn (OffersNext q) Moves discarded held at s later t → later ≡ at → s ≡ t
     same-side _ _ at_first e = refl
     same-side _ _ (one_more i t' u v before from within offers moved) e = absurd (omega (arith, e, least i t' before))
 
-    pub has-gone : (later : ℕ) (t : Bridge C M) (o : Option SideFault) → GoesAhead (OffersNext q) Moves gone held at s later t o →
-        HasGone k q gone held at s later t o
+    pub has-gone : (later : ℕ) (t : Bridge C M) (o : Option SideFault) → GoesAhead (OffersNext q) Moves discarded held at s later t o →
+        HasGone k q discarded held at s later t o
     has-gone _ _ _ (through later t goes past) = record {
       on = least later t goes;
       passes = several-pass later t goes;
       stays = λ e. subst (λ u. Stays s u) (same-side later t goes e) (stays_same s);
-      rests = λ e. rests_none q held (at - gone) s (slice_get_past held (at - gone) (omega (arith, e, past)));
+      rests = λ e. rests_none q held (at - discarded) s (slice_get_past held (at - discarded) (omega (arith, e, past)));
     }
     has-gone _ _ _ (stopped later t u step goes from within never offers) =
         let none = none-accepted step never in
-        let stays : Stays t u = λ x h. (on u x).1 (stays-next q held gone later from within t u step none offers x ((on t x).0 h)) in
+        let stays : Stays t u = λ x h. (on u x).1 (stays-next q held discarded later from within t u step none offers x ((on t x).0 h)) in
         record {
           on = least later t goes;
-          passes = passes_then k gone held at later later s t u (several-pass later t goes) (passes_stays k gone held later t u stays);
+          passes = passes_then k discarded held at later later s t u (several-pass later t goes) (passes_stays k discarded held later t u stays);
           stays = λ e. subst (λ p. Stays p u) (sym (same-side later t goes e)) stays;
           rests = λ e x h.
               let t_is = same-side later t goes e in
-              subst (λ c. RestsIn held (c - gone) (q.answer x) (q.crossing x) (refused_by step)) e
-              (rests-next q held gone later from within t u step none offers x (subst (λ p. q.Stands p x) t_is h));
+              subst (λ c. RestsIn held (c - discarded) (q.answer x) (q.crossing x) (refused_by step)) e
+              (rests-next q held discarded later from within t u step none offers x (subst (λ p. q.Stands p x) t_is h));
         }
 
 -- so each of the five does
-module _ {C M : ℕ} (gone : ℕ) where
+module _ {C M : ℕ} (discarded : ℕ) where
   pub gone-a : (held : List (BeatOf HeadA C)) (at : ℕ) (s : Bridge C M) (later : ℕ) (t : Bridge C M) (o : Option SideFault) →
-      GoesAhead (OffersNext on_bridge_a) passes_a gone held at s later t o → HasGone going_a on_bridge_a gone held at s later t o
+      GoesAhead (OffersNext on_bridge_a) passes_a discarded held at s later t o → HasGone going_a on_bridge_a discarded held at s later t o
   gone-a = has-gone going_a on_bridge_a (λ s x. (λ h. h, λ h. h)) passes_a
-      (λ t u p. (pump_count t.a, out_count t.a, again_count t.a, λ y x h. p _ h)) ahead-a gone
+      (λ t u p. (pump_count t.a, out_count t.a, again_count t.a, λ y x h. p _ h)) ahead-a discarded
 
   pub gone-b : (held : List (BeatOf HeadB M)) (at : ℕ) (s : Bridge C M) (later : ℕ) (t : Bridge C M) (o : Option SideFault) →
-      GoesAhead (OffersNext on_bridge_b) passes_b gone held at s later t o → HasGone going_b on_bridge_b gone held at s later t o
+      GoesAhead (OffersNext on_bridge_b) passes_b discarded held at s later t o → HasGone going_b on_bridge_b discarded held at s later t o
   gone-b = has-gone going_b on_bridge_b (λ s x. (λ h. h, λ h. h)) passes_b
-      (λ t u p. (pump_count t.b, out_count t.b, again_count t.b, λ y x h. p _ h)) ahead-b gone
+      (λ t u p. (pump_count t.b, out_count t.b, again_count t.b, λ y x h. p _ h)) ahead-b discarded
 
   pub gone-c : (held : List (BeatOf HeadC C)) (at : ℕ) (s : Bridge C M) (later : ℕ) (t : Bridge C M) (o : Option SideFault) →
-      GoesAhead (OffersNext on_bridge_c) passes_c gone held at s later t o → HasGone going_c on_bridge_c gone held at s later t o
+      GoesAhead (OffersNext on_bridge_c) passes_c discarded held at s later t o → HasGone going_c on_bridge_c discarded held at s later t o
   gone-c = has-gone going_c on_bridge_c (λ s x. (λ h. h, λ h. h)) passes_c
-      (λ t u p. (pump_count t.c, out_count t.c, again_count t.c, λ y x h. p _ h)) ahead-c gone
+      (λ t u p. (pump_count t.c, out_count t.c, again_count t.c, λ y x h. p _ h)) ahead-c discarded
 
   pub gone-d : (held : List (BeatOf HeadD M)) (at : ℕ) (s : Bridge C M) (later : ℕ) (t : Bridge C M) (o : Option SideFault) →
-      GoesAhead (OffersNext on_bridge_d) passes_d gone held at s later t o → HasGone going_d on_bridge_d gone held at s later t o
+      GoesAhead (OffersNext on_bridge_d) passes_d discarded held at s later t o → HasGone going_d on_bridge_d discarded held at s later t o
   gone-d = has-gone going_d on_bridge_d (λ s x. (λ h. h, λ h. h)) passes_d
-      (λ t u p. (pump_count t.d, out_count t.d, again_count t.d, λ y x h. p _ h)) ahead-d gone
+      (λ t u p. (pump_count t.d, out_count t.d, again_count t.d, λ y x h. p _ h)) ahead-d discarded
 
   pub gone-e : (held : List (BeatOf HeadE C)) (at : ℕ) (s : Bridge C M) (later : ℕ) (t : Bridge C M) (o : Option SideFault) →
-      GoesAhead (OffersNext on_bridge_e) passes_e gone held at s later t o → HasGone going_e on_bridge_e gone held at s later t o
+      GoesAhead (OffersNext on_bridge_e) passes_e discarded held at s later t o → HasGone going_e on_bridge_e discarded held at s later t o
   gone-e = has-gone going_e on_bridge_e (λ s x. (λ h. h, λ h. h)) passes_e
-      (λ t u p. (pump_count t.e, out_count t.e, again_count t.e, λ y x h. p _ h)) ahead-e gone
+      (λ t u p. (pump_count t.e, out_count t.e, again_count t.e, λ y x h. p _ h)) ahead-e discarded

@@ -1,5 +1,8 @@
 pub mod Names
 mod Moving
+pub mod InRounds
+mod TakesRounds
+mod Rows
 pub mod ChannelRound
 pub mod ChannelEnd
 pub mod RoundMoves
@@ -22,3 +25,4 @@ pub mod AllOffers
 pub mod Counting
 pub mod AllOk
 pub mod Emptiness
+pub mod Memory

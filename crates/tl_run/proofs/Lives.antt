@@ -1,4 +1,4 @@
--- What borrows nothing may be held as long as anything else.
+-- A value that borrows nothing may be held as long as any other.
 use Rattle.tl_run.proofs.Names.{ℕ, List, [], rules}
 use contract.BorrowLft.{◌⊑◌}
 

@@ -1,5 +1,6 @@
 -- All rings move on: staged beats go in, and beats come out, as many as there is room for.
-use Rattle.tl_run.proofs.Names.{◌-◌, ℕ, length, min, World, pushed, popped, inbox_room, Past}
+use Rattle.tl_run.proofs.Names.{◌-◌, ℕ, length, min, World, pushed, inbox_room}
+pub use Rattle.tl_run.specs.InRounds.{moved, after_moves}
 
 module _ {H : Type 0} {w v : ℕ} where
   -- how many beats go into the ring where as many as fit do, and then how many come out of it
@@ -12,11 +13,3 @@ module _ {H : Type 0} {w v : ℕ} where
   -- one ring moves on
   abbrev pub moved_in : World H w v → World H w v
   moved_in x = pushed (push_count x) x
-
-  abbrev pub moved : World H w v → World H w v
-  moved x = popped (pop_count (moved_in x)) (moved_in x)
-
-module _ {C M : ℕ} where
-  -- all rings move on
-  abbrev pub after_moves : Past C M → Past C M
-  after_moves x = record x { a = moved x.a; b = moved x.b; c = moved x.c; d = moved x.d; e = moved x.e }

@@ -1,4 +1,5 @@
--- What the proofs of this crate name most, of the library and of the definitions, passed on by one module.
+-- The names that the proofs of this crate use most, from the library and from the definitions, re-exported by one
+-- module.
 pub use Rattle.std.proofs.Common.{◌≡◌, true, Result, Ok, Err, refl, sym, subst, ◌≢◌, ◌+◌, ◌≤◌, ◌*◌, ◌++◌, ℕ, zero, suc, Bool, false, Option, None}
 pub use Rattle.std.proofs.Common.{Some, List, [], ◌∷◌, length, map, take, drop, get_or, ap, ◌∙◌, arith, append-nil, append_assoc, length-append, ◌↔◌}
 pub use Rattle.std.proofs.Common.{◌<◌, ◌-◌, ◌⊎◌, inl, inr, min, ⊎_elim, ◌^◌, cond, zero-le, ◌&&◌, ◌||◌, rules, lit<}

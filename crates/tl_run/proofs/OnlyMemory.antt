@@ -1,4 +1,4 @@
--- A run whose rings' size was tested is refused for want of memory alone.
+-- A run whose ring size was tested is refused only if memory runs out.
 pub use Rattle.tl_ring.proofs.Moves.{not-ok}
 use Rattle.tl_run.proofs.Names.{◌≡◌, ◌≢◌, ◌≤◌, ◌<◌, ◌⊎◌, ◌↔◌, ⊎_elim, ℕ, arith}
 use Rattle.tl_ring.specs.declared.pipe.TheConstants.{MAX_RING}

@@ -1,4 +1,5 @@
--- A run in one thread of a script that comes piece by piece: what moves on is taken in the end, and where no channel goes on the run has ended.
+-- A run in one thread of a script that is read incrementally: the beats that move on are taken in the end, and if no
+-- channel advances, the run has ended.
 use Rattle.tl_run.proofs.Names.{◌≡◌, ◌≢◌, ◌+◌, ◌-◌, ◌*◌, ◌++◌, ◌≤◌, ◌⊎◌, inl, inr, ◌↔◌, ℕ, Option, None, Some, Result, Ok, Err, List, [], length}
 use Rattle.tl_run.proofs.Names.{take, drop, min, refl, sym, ap, subst, ◌∙◌, arith, zero-le, length-append, IsOk, OnOk, OnErr, length-take-le}
 use Rattle.tl_run.proofs.Names.{nil_from_length, IsWidth, Rules, rules_a, rules_b, rules_c, rules_d, rules_e, BeatOf, SideFault, rest_of, World}
@@ -10,7 +11,7 @@ use Rattle.tl_run.proofs.Names.{standing_count, under_way, Stop, Stopped}
 use Rattle.std.proofs.Math.Nat.{min-le_left}
 use Rattle.tl_ring.specs.Pipe as piping
 use Rattle.tl_ring.specs.declared.fault.EndFault.{EndFault}
-use Rattle.tl_ring.specs.declared.queue.TheConstants.{ROOM}
+use Rattle.tl_ring.specs.declared.queue.TheConstants.{STAGE_CAPACITY}
 use Rattle.tl_ring.specs.declared.standing.Standing.{Standing}
 use Rattle.tl_trace.specs.declared.script.Script.{Script}
 use Rattle.tl_trace.specs.declared.script.Counts.{Counts}
@@ -21,7 +22,7 @@ use Rattle.tl_run.proofs.Ended.{sums-most}
 use Rattle.tl_run.proofs.EndsIn.{each-zero}
 use Rattle.tl_run.proofs.RunRound.{takes-round}
 
--- ---- where a run begins
+-- ---- the beginning of a run
 
 pub new-within : {C M : ℕ} (held : Script C M) → HasShortLists held → AreBetween none_counted (record { a = 0; b = 0; c = 0; d = 0; e = 0 }) held
 new-within held short = record {
@@ -32,15 +33,15 @@ new-within held short = record {
   e = record { from = zero-le; to = zero-le; few = omega (arith, short.few_e) };
 }
 
--- ---- what was accepted is counted
+-- ---- counting the accepted beats
 
--- how many beats of all channels have gone or are held
+-- the number of beats of all channels that were discarded or are held
 abbrev pub all_ends : {C M : ℕ} → Counts → Script C M → ℕ
-all_ends gone held =
-    (gone.a + length held.a.items) + (gone.b + length held.b.items) + (gone.c + length held.c.items) + (gone.d + length held.d.items) +
-    (gone.e + length held.e.items)
+all_ends discarded held =
+    (discarded.a + length held.a.items) + (discarded.b + length held.b.items) + (discarded.c + length held.c.items) + (discarded.d + length held.d.items) +
+    (discarded.e + length held.e.items)
 
-module _ {C M : ℕ} (gone : Counts) (n : PerChannel ℕ) (held : Script C M) (w : AreBetween gone n held) where
+module _ {C M : ℕ} (discarded : Counts) (n : PerChannel ℕ) (held : Script C M) (w : AreBetween discarded n held) where
   pub room-to-count : HaveRoomToCount n
   room-to-count = record {
     a = few-enough w.a.to w.a.few;
@@ -50,11 +51,11 @@ module _ {C M : ℕ} (gone : Counts) (n : PerChannel ℕ) (held : Script C M) (w
     e = few-enough w.e.to w.e.few;
   }
 
-  pub all-within : all_counts n ≤ all_ends gone held
+  pub all-within : all_counts n ≤ all_ends discarded held
   all-within = sums-most w.a.to w.b.to w.c.to w.d.to w.e.to
 
 module _ (n m : PerChannel ℕ) (on : AreOn n m) where
-  -- a channel has come further, where not as many are counted
+  -- a channel has advanced, if the counts differ
   pub all-on : {before after : ℕ} → before ≡ all_counts n → after ≡ all_counts m → (after ≢ before) → all_counts n + 1 ≤ all_counts m
   all-on was is other = more n.a m.a n.b m.b n.c m.c n.d m.d n.e m.e on.a on.b on.c on.d on.e (λ e. other (is ∙ e ∙ sym was))
     where
@@ -62,7 +63,7 @@ module _ (n m : PerChannel ℕ) (on : AreOn n m) where
           a + b + c + d + e + 1 ≤ a' + b' + c' + d' + e'
       more a a' b b' c c' d d' e e' f g h i j other = grind (arith, f, g, h, i, j, other)
 
-  -- and none has, where as many are
+  -- and none has, if they are the same
   pub all-same : all_counts m ≡ all_counts n → m ≡ n
   all-same same =
       let e = each m.a n.a m.b n.b m.c n.c m.d n.d m.e n.e on.a on.b on.c on.d on.e same in
@@ -72,17 +73,17 @@ module _ (n m : PerChannel ℕ) (on : AreOn n m) where
           (a ≡ a') × (b ≡ b') × (c ≡ c') × (d ≡ d') × (e ≡ e')
       each a a' b b' c c' d d' e e' f g h i j s = (omega arith, omega arith, omega arith, omega arith, omega arith)
 
--- ---- what is under way moves on
+-- ---- the beats under way move on
 
 -- the way of what is under way in a channel: beats go from the ring to the inbox, all of that is taken, and beats go from the stage into the ring
-ways : (stage ring inbox room out left into staged after : ℕ) → 1 ≤ room → out ≡ min ring (ROOM - inbox) → left + out ≡ ring →
+ways : (stage ring inbox room out left into staged after : ℕ) → 1 ≤ room → out ≡ min ring (STAGE_CAPACITY - inbox) → left + out ≡ ring →
     into ≡ min stage (room - left) → staged + into ≡ stage →
     after ≡ left + into →
     (3 * staged + 2 * after + 0 ≤ 3 * stage + 2 * ring + inbox) ×
     (1 ≤ 3 * stage + 2 * ring + inbox → 3 * staged + 2 * after + 0 + 1 ≤ 3 * stage + 2 * ring + inbox)
 ways stage ring inbox room out left into staged after some a b c d e = (omega arith, λ l. omega arith)
 
--- a number is no more than another one, and less, where that is some
+-- a number is at most the one before, and less unless that was 0
 abbrev Nearer : ℕ → ℕ → Type 0
 Nearer after before = (after ≤ before) × (1 ≤ before → after + 1 ≤ before)
 
@@ -93,9 +94,9 @@ nearer-in : {H : Type 0} (r : Rules H) {w v : ℕ} (p q s t : Pipe H v) (x : Wor
 nearer-in r p q s t x f g h i =
     let out = fetch_count p in
     let into = pump_count s in
-    let out_is : out ≡ min (length x.ring) (ROOM - length x.inbox) = rw (f.ring, f.inbox) refl in
+    let out_is : out ≡ min (length x.ring) (STAGE_CAPACITY - length x.inbox) = rw (f.ring, f.inbox) refl in
     let left : length (drop out x.ring) + out ≡ length x.ring =
-    size-behind out x.ring (omega (arith, out_is, min-le_left (length x.ring) (ROOM - length x.inbox))) in
+    size-behind out x.ring (omega (arith, out_is, min-le_left (length x.ring) (STAGE_CAPACITY - length x.inbox))) in
     let into_is : into ≡ min (length x.stage) (x.room - length (drop out x.ring)) = rw (h.stage, h.room, h.ring) refl in
     let fits : into ≤ length x.stage = omega (arith, into_is, min-le_left (length x.stage) (x.room - length (drop out x.ring))) in
     let staged : length (drop into x.stage) + into ≡ length x.stage = size-behind into x.stage fits in
@@ -129,7 +130,7 @@ module _ {C M : ℕ} where
       (nearer-in rules_c s.c t.c u.c v.c x.c f.c g.c h.c i.c)) (nearer-in rules_d s.d t.d u.d v.d x.d f.d g.d h.d i.d))
       (nearer-in rules_e s.e t.e u.e v.e x.e f.e g.e h.e i.e)).1
 
-  -- where something stands in a bridge, it has some way to go
+  -- if a bridge has beats in it, they have some distance to go
   pub some-way : (s : Bridge C M) (t : PerChannel Standing) → IsStanding s.a t.a → IsStanding s.b t.b → IsStanding s.c t.c →
       IsStanding s.d t.d → IsStanding s.e t.e →
       all_standing t ≢ 0 → 1 ≤ all_ways s
@@ -142,7 +143,7 @@ module _ {C M : ℕ} where
       through some l = omega (arith, some, l)
 
   module _ (near : Beats C M) (n : PerChannel ℕ) (far : Beats M C) where
-    -- where a run stands when its rings' beats moved on to the inboxes
+    -- the state of a run after its rings' beats moved on to the inboxes
     pub fetched-at : (s : Bridge C M) (x : Past C M) → IsAt near n far x → IsAt near n far (after_fetch s x)
     fetched-at s x i = record {
       run = i.run;
@@ -157,7 +158,7 @@ module _ {C M : ℕ} where
       e_homed = i.e_homed;
     }
 
-    -- and when both sides took what stood in the inboxes, and staged beats moved into the rings
+    -- and after both sides took the beats of the inboxes, and staged beats moved into the rings
     pub taken-at : IsWidth C → IsWidth M → (s t : Bridge C M) (x : Past C M) → StandsFor s x → IsAt near n far x →
         IsAt near n (joined far (arriving x)) (after_pump t (after_take_all x))
     taken-at cw mw s t x stands i = record {
@@ -178,12 +179,12 @@ module _ {C M : ℕ} where
       e_homed = i.e_homed;
     }
 
--- what is under way in a crossing is what stands in its pipe
+-- the beats under way in a crossing are those in its pipe
 waits-in : {H : Type 0} (r : Rules H) {w v : ℕ} (p : Pipe H v) (x : World H w v) → piping.StandsFor r p x →
     length p.stage + length p.ring + length p.inbox ≡ under_way x
 waits-in r p x f = rw (f.stage, f.ring, f.inbox) refl
 
--- so it is as much in all that a bridge stands for
+-- so their number is the same in every past that a bridge represents
 pub rests-too : {C M : ℕ} (s : Bridge C M) (x y : Past C M) → StandsFor s x → StandsFor s y → all_under_way x ≡ 0 → all_under_way y ≡ 0
 rests-too s x y f g none =
     same-sums (sym (waits-in rules_a s.a y.a g.a) ∙ waits-in rules_a s.a x.a f.a) (sym (waits-in rules_b s.b y.b g.b) ∙ waits-in rules_b s.b x.b f.b)
@@ -192,7 +193,7 @@ rests-too s x y f g none =
 
 -- ---- the end
 
--- why a channel offers no more, by what came of its close
+-- the reason why a channel offers no more beats, from the result of its close
 pub stop-is : {X : Type 0} {rest other : List X} (o : Option SideFault) (closed : Result (Unit {0}) EndFault) → other ≡ rest →
     IsOk closed ↔ (other ≡ []) → {stop : Stop} → stop ≡ stop_by o closed →
     IsStopOf o rest stop
@@ -205,7 +206,7 @@ abbrev pub HasKept : {C M : ℕ} (x y : Past C M) → Type 0
 HasKept x y = (y.a.accepted ≡ x.a.accepted) × (y.b.accepted ≡ x.b.accepted) × (y.c.accepted ≡ x.c.accepted) × (y.d.accepted ≡ x.d.accepted) ×
     (y.e.accepted ≡ x.e.accepted)
 
--- what goes on behind a close: with the past in which the channel is closed, or with the one before
+-- the property after a close: with the past in which the channel is closed, or with the one before
 pub on-closed : {C M : ℕ} {G : Type 0} (first : Past C M) (s t : Bridge C M) (x z : Past C M) → HasKept first x → HasKept first z →
     (r : Result (Unit {0}) EndFault) → OnOk r (StandsFor t z) → OnErr r (t ≡ s) → StandsFor s x →
     ((y : Past C M) → StandsFor t y → HasKept first y → G) → G

@@ -1,4 +1,4 @@
--- What has room for all that a script can make due has room for what stands in the inboxes of its run.
+-- A list with room for all beats that a script can make due has room for those in the inboxes of its run.
 use Rattle.tl_run.proofs.Names.{◌≡◌, [], refl, no_beats, ◌+◌, ◌++◌, ◌≤◌, ℕ, List, length, length-append, sym, subst, arith, vec_capacity, IsWidth}
 use Rattle.tl_run.proofs.Names.{◌∙◌, ap, rules_a, rules_b, rules_c, rules_d, rules_e}
 use Rattle.tl_run.proofs.Names.{Beats, Bridge, Past, StandsFor, PerChannel, Fit, joined, HaveRoom, IsUnderWay, IsAt, beats_of, inboxes}
@@ -7,7 +7,7 @@ use Rattle.tl_run.specs.declared.taken.Taken.{Taken}
 use Rattle.tl_run.proofs.ChannelEnd.{room-for}
 use Rattle.tl_run.proofs.Round.{inboxes-are}
 
--- the beats of five channels are the same where those of each are
+-- the beats of five channels are the same if those of each are
 pub same-beats : {C M : ℕ} (x y : Beats C M) → x.a ≡ y.a → x.b ≡ y.b → x.c ≡ y.c → x.d ≡ y.d → x.e ≡ y.e → x ≡ y
 same-beats x y a b c d e =
     ap (λ q. record { a = q; b = x.b; c = x.c; d = x.d; e = x.e }) a ∙ ap (λ q. record { a = y.a; b = q; c = x.c; d = x.d; e = x.e }) b ∙
@@ -18,6 +18,12 @@ same-beats x y a b c d e =
 pub none-yet : {C M : ℕ} (t : Taken C M) →
     t.a.items ≡ [] → t.b.items ≡ [] → t.c.items ≡ [] → t.d.items ≡ [] → t.e.items ≡ [] → beats_of t ≡ no_beats
 none-yet t a b c d e = rw (a, b, c, d, e) refl
+
+-- lists with the same beats are the same beats
+pub same-lists : {C M : ℕ} (s t : Taken C M) →
+    t.a.items ≡ s.a.items → t.b.items ≡ s.b.items → t.c.items ≡ s.c.items → t.d.items ≡ s.d.items → t.e.items ≡ s.e.items →
+    beats_of t ≡ beats_of s
+same-lists s t a b c d e = rw (a, b, c, d, e) refl
 
 fits : {B : Type 0} (xs ys : List B) {k : ℕ} → length xs + length ys ≤ k → length (xs ++ ys) ≤ k
 fits xs ys {k = k} l = subst (λ q. q ≤ k) (sym (length-append xs ys)) l
@@ -42,7 +48,7 @@ places t = record { a = vec_capacity t.a; b = vec_capacity t.b; c = vec_capacity
 pub has-places : {C M : ℕ} (t : Taken C M) → HaveCapacity t (places t)
 has-places t = record { a = omega arith; b = omega arith; c = omega arith; d = omega arith; e = omega arith }
 
--- which are enough for what stands in the inboxes, and stay enough where there are more
+-- which are enough for the beats in the inboxes, and stay enough if there are more
 pub lists-fit : {C M : ℕ} → IsWidth C → IsWidth M → (near : Beats C M) (n : PerChannel ℕ) (far : Taken C M) (s : Bridge C M) →
     IsUnderWay near n (beats_of far) s → HasRoomFor near far →
     Fit (joined (beats_of far) (inboxes s)) (places far)

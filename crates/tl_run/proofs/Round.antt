@@ -13,11 +13,12 @@ use Rattle.tl_run.proofs.ChannelOffer.{homed-offer, stops-offer}
 use Rattle.tl_run.proofs.ChannelRound.{sent-round, progress-round}
 use Rattle.tl_run.proofs.RunRound.{run-round}
 use Rattle.tl_run.proofs.Counting.{few-enough}
+use Rattle.tl_run.proofs.InRounds.{round-is}
 
 -- ---- the moves of the rings
 
 module _ {H : Type 0} (r : Rules H) {w v : ℕ} where
-  -- a pipe counts the beats that go into its ring as the crossing does that it stands for
+  -- a pipe counts the beats that enter its ring as the crossing that it represents does
   pub pumped-is : (p : Pipe H v) (x : World H w v) → piping.StandsFor r p x → pump_count p ≡ push_count x
   pumped-is p x s = rw (s.stage, s.room, s.ring) refl
 
@@ -56,7 +57,7 @@ pub own-none : (o : Option BeatFault) (other : Option SideFault) → option_map_
 own-none None other e = refl
 own-none (Some f) other e = search e
 
--- ---- one channel that stands still
+-- ---- one channel that is stopped
 
 module _ {H : Type 0} (r : Rules H) {w v : ℕ} (bs : List (BeatOf H w)) (n : ℕ) (answer : BeatOf H w → Option SideFault) (home : BeatOf H w → ℕ) where
   -- it accepts nothing
@@ -69,7 +70,7 @@ module _ {H : Type 0} (r : Rules H) {w v : ℕ} (bs : List (BeatOf H w)) (n : �
   none-accepted x (Stopped Done) accepted y s (g, e, none, same) = (none, ap (λ z. z.accepted) same)
   none-accepted x (Stopped Cut) accepted y s (g, e, none, same) = (none, ap (λ z. z.accepted) same)
 
--- what is answered to it may be said in another way
+-- the result for the next beat may be stated in another form
 pub stops-same : {H : Type 0} (r : Rules H) {w : ℕ} (bs : List (BeatOf H w)) (n : ℕ) (answer other : BeatOf H w → Option SideFault)
     (accepted : List (BeatOf H w)) (o : Offered) →
     (IsStopped o → (b : BeatOf H w) → other b ≡ answer b) → Stops r bs n answer accepted o → Stops r bs n other accepted o
@@ -81,7 +82,7 @@ stops-same r bs n answer other accepted (Stopped Cut) same s = s
 
 -- ---- two channels together
 
--- a number came further, or stands still and nothing is left
+-- a number increased, or the channel is stopped and nothing is left
 abbrev pub Moves : (p q u : ℕ) → Type 0 → Type 0
 Moves p q u S = (p ≤ q) × ((p + 1 ≤ q) ⊎ (S × (u ≡ 0)))
 
@@ -98,18 +99,18 @@ pub alone-own : {H : Type 0} (r : Rules H) {w : ℕ} (seen : List (BeatOf H w)) 
     stops_alone r seen b ≡ None → fault_after r seen b ≡ None
 alone-own r seen b e = own-none (fault_after r seen b) None e
 
--- what the client's side lets through has no fault of its own
+-- a beat that the client's side accepts has no fault of its own
 pub client-own : {w : ℕ} (es : List (Event w)) (b : BeatOf HeadA w) → client_answer es b ≡ None → fault_after rules_a (asked es) b ≡ None
 client-own es b e = own-none (fault_after rules_a (asked es) b) _ e
 
--- what the manager's side lets through has no fault of its own
+-- a beat that the manager's side accepts has no fault of its own
 pub manager-own : {w : ℕ} (es : List (Event w)) (b : BeatOf HeadD w) → manager_answer es b ≡ None → fault_after rules_d (answered es) b ≡ None
 manager-own es b e = own-none (fault_after rules_d (answered es) b) _ e
 
 module _ {C M : ℕ} (cw : IsWidth C) (mw : IsWidth M) (near : Beats C M) (n : PerChannel ℕ) (far : Beats M C) (x : Past C M) (s t : Bridge C M)
     (o : PerChannel Offered) (stands : StandsFor s x) (i : IsAt near n far x)
     (h : HasOffered near n (after_take_all x) t o) where
-  -- where the run stands after the round
+  -- the state of the run after the round
   pub at-round : IsAt near (counted n o) (joined far (arriving x)) (after_moves h.past)
   at-round = record {
     run = subst (λ q. Run near.a near.d (n.a + steps o.a) (n.d + steps o.d) q h.past.manager) (sym h.client)
@@ -139,7 +140,7 @@ module _ {C M : ℕ} (cw : IsWidth C) (mw : IsWidth M) (near : Beats C M) (n : P
         i.e_homed (λ y. refl) h.does_e;
   }
 
-  -- why it stands still there, where it does
+  -- the reason why it is stopped there, if it is
   pub stops-there : AllStop near (counted n o) (after_moves h.past) o
   stops-there = record {
     stop_a = stops-same rules_a near.a (n.a + steps o.a) (client_answer (x.client ++ map Answer x.d.inbox))
@@ -174,7 +175,7 @@ module _ {C M : ℕ} (cw : IsWidth C) (mw : IsWidth M) (near : Beats C M) (n : P
         (stops-offer rules_e near.e n.e (stops_alone rules_e x.e.accepted) (λ _. 0) (emptied x.e) o.e h.beats_e h.past.e h.does_e);
   }
 
-  -- it has come further in the round, or it stands still and nothing is under way
+  -- it has advanced in the round, or it is stopped and nothing is under way
   pub moves-round : Moves (all_progress n x) (all_progress (counted n o) (after_moves h.past)) (all_under_way (after_moves h.past))
       ((((IsStopped o.a × IsStopped o.b) × IsStopped o.c) × IsStopped o.d) × IsStopped o.e)
   moves-round =
@@ -195,6 +196,7 @@ module _ {C M : ℕ} (cw : IsWidth C) (mw : IsWidth M) (near : Beats C M) (n : P
     is_at = subst (λ q. IsAt near (counted n o) q (after_moves h.past)) (sym same) at-round;
     stops = stops-there;
     keeps = moves-round.0;
+    exact = round-is near n x t o h;
     goes = goes-on moves-round.1;
   }
     where
@@ -204,7 +206,7 @@ module _ {C M : ℕ} (cw : IsWidth C) (mw : IsWidth M) (near : Beats C M) (n : P
       goes-on (inl l) = inl l
       goes-on (inr (((((fa, fb), fc), fd), fe), z)) = inr ((fa, fb, fc, fd, fe), z)
 
--- ---- what a round asks for
+-- ---- the preconditions of a round
 
 module _ {C M : ℕ} (cw : IsWidth C) (mw : IsWidth M) (near : Beats C M) (n : PerChannel ℕ) where
   -- one beat more of each list may be counted
@@ -217,10 +219,10 @@ module _ {C M : ℕ} (cw : IsWidth C) (mw : IsWidth M) (near : Beats C M) (n : P
     e = few-enough i.e_sent.most short.few_e;
   }
 
--- ---- what was taken
+-- ---- the beats taken
 
 module _ {C M : ℕ} where
-  -- what stands in the inboxes is what arrives
+  -- the beats in the inboxes are those that arrive
   pub inboxes-are : (s : Bridge C M) (x : Past C M) → StandsFor s x → inboxes s ≡ arriving x
   inboxes-are s x stands = rw (stands.a.inbox, stands.b.inbox, stands.c.inbox, stands.d.inbox, stands.e.inbox) refl
 

@@ -1,4 +1,4 @@
--- The moves of both sides within a round, and what a channel that stands still ends with.
+-- The moves of both sides within a round, and the end of a channel that is stopped.
 use Rattle.tl_run.proofs.Names.{◌≡◌, ◌+◌, ◌++◌, ℕ, suc, Option, None, Some, List, [], ◌∷◌, map, sym, ap, subst, ◌∙◌, arith, append-nil, append_assoc}
 use Rattle.tl_run.proofs.Names.{slice_get, Rules, SideFault, rules_a, rules_d, HeadA, HeadD, BeatOf, World, Event, Ask, Answer, asked, answered}
 use Rattle.tl_run.proofs.Names.{client_answer, manager_answer, ClientMoves, ManagerMoves, client_takes, client_accepts, manager_takes}
@@ -8,7 +8,7 @@ use Rattle.tl_settle.specs.Settling.{far_a, far_d}
 use Rattle.tl_run.proofs.Counting.{none-more}
 use Rattle.tl_settle.proofs.Marks.{asked_ask, answered_answer}
 
--- the first beat of a list that is due, and the others behind it
+-- the first beat of a list that is due, and the others after it
 front-one : {A : Type 0} (xs ys : List A) (y : A) (all : List A) → IsPrefix (xs ++ y ∷ ys) all → IsPrefix (xs ++ y ∷ []) all
 front-one xs ys y all (rest, e) = (ys ++ rest, append_assoc xs (y ∷ []) (ys ++ rest) ∙ sym (append_assoc xs (y ∷ ys) rest) ∙ e)
 
@@ -16,9 +16,9 @@ front-one xs ys y all (rest, e) = (ys ++ rest, append_assoc xs (y ∷ []) (ys ++
 front-others : {A : Type 0} (xs ys zs : List A) (y : A) (all : List A) → zs ≡ xs ++ y ∷ [] → IsPrefix (xs ++ y ∷ ys) all → IsPrefix (zs ++ ys) all
 front-others xs ys zs y all g (rest, e) = (rest, ap (λ q. (q ++ ys) ++ rest) g ∙ ap (λ q. q ++ rest) (append_assoc xs (y ∷ []) ys) ∙ e)
 
--- how a side may move: it has accepted so many beats, and this is its history
+-- a possible move of a side: the number of beats that it has accepted, and its history
 module _ {w : ℕ} (Moves : ℕ → List (Event w) → Type 0) where
-  -- it takes so many beats, one after the other, which are all due
+  -- it takes several beats, one after the other, which are all due
   takes-all : {B : Type 0} (event : B → Event w) (seen : List (Event w) → List B) (due : List B) →
       ((fs : List (Event w)) (b : B) → seen (fs ++ event b ∷ []) ≡ seen fs ++ b ∷ []) →
       ((y : ℕ) (fs : List (Event w)) (b : B) → Moves y fs → IsPrefix (seen fs ++ b ∷ []) due → Moves y (fs ++ event b ∷ [])) →

@@ -1,4 +1,4 @@
--- What a round does to channels A and D of a run, and where they end.
+-- The effect of a round on channels A and D of a run, and their end.
 use Rattle.tl_run.proofs.Names.{◌≡◌, ◌+◌, ◌++◌, ◌<◌, ℕ, None, List, length, map, take, sym, ap, ◌∙◌, slice_get, option_map_or, IsWidth, rules_a}
 use Rattle.tl_run.proofs.Names.{rules_d, HeadA, HeadD, BeatOf, Verdict, heads, left, due, Ask, Answer, asked, answered, client_answer, manager_answer}
 use Rattle.tl_run.proofs.Names.{manager_home, manager_homes, Run, round, ClientMoves, ManagerMoves, client_rests, manager_rests, IsOver, IsSettledRun}
@@ -16,7 +16,7 @@ use Rattle.tl_run.proofs.ChannelEnd.{inbox-due, all-taken, handed-accepted, stop
 
 module _ {C M : ℕ} (cw : IsWidth C) (mw : IsWidth M) (a : List (BeatOf HeadA C)) (d : List (BeatOf HeadD M)) (i j : ℕ) (s : Bridge C M) (x : Past C M)
     (stands : StandsFor s x) (run : Run a d i j x.client x.manager) (homed : IsHomed rules_a x.a) where
-  -- what the accepted beats of A make due is the far list of the definitions
+  -- the far beats of the accepted beats of A are the far list of the definitions
   pub due-a : due rules_a C M x.a.accepted x.a.homes ≡ due_far_a a d i
   due-a =
       let near : 0 < C = (width_bounds C cw).0 in
@@ -26,7 +26,7 @@ module _ {C M : ℕ} (cw : IsWidth C) (mw : IsWidth M) (a : List (BeatOf HeadA C
       ap (λ bs. due rules_a C M bs (map (λ h. h.address) (heads rules_a C bs))) (sym stands.client_asked) ∙
       far_a_given near far a d i j x.client is.client
 
-  -- what the accepted beats of D make due is the far list of the definitions
+  -- the far beats of the accepted beats of D are the far list of the definitions
   pub due-d : due rules_d M C x.d.accepted x.d.homes ≡ due_far_d a d j
   due-d =
       let near : 0 < C = (width_bounds C cw).0 in
@@ -36,7 +36,7 @@ module _ {C M : ℕ} (cw : IsWidth C) (mw : IsWidth M) (a : List (BeatOf HeadA C
       ap (λ bs. due rules_d M C bs (manager_homes x.manager)) (sym stands.manager_answered) ∙
       far_d_given near far a d i j x.manager is.reached is.manager_is
 
-  -- what stands in the inboxes is due
+  -- the beats in the inboxes are due
   on-a : IsPrefix (asked x.manager ++ x.a.inbox) (due_far_a a d i)
   on-a = inbox-due rules_a x.a stands.a.crosses (asked x.manager) stands.manager_asked (due_far_a a d i) due-a
 
@@ -53,7 +53,7 @@ module _ {C M : ℕ} (cw : IsWidth C) (mw : IsWidth M) (a : List (BeatOf HeadA C
   pub takes-round : Run a d i j (x.client ++ map Answer x.d.inbox) (x.manager ++ map Ask x.a.inbox)
   takes-round = round i j i j x.client (x.client ++ map Answer x.d.inbox) x.manager (x.manager ++ map Ask x.a.inbox) run takes-client takes-manager
 
-  -- both sides take what stands in their inboxes, and then offer a beat or none: a round
+  -- both sides take the beats of their inboxes, and then offer a beat or none: a round
   pub run-round : (o p : Offered) (asks : List (BeatOf HeadA C)) (answers : List (BeatOf HeadD M)) (y : World HeadA C M) (z : World HeadD M C) →
       Does rules_a a i (client_answer (x.client ++ map Answer x.d.inbox)) (λ _. 0) (emptied x.a) o asks y →
       Does rules_d d j (manager_answer (x.manager ++ map Ask x.a.inbox))
@@ -67,7 +67,7 @@ module _ {C M : ℕ} (cw : IsWidth C) (mw : IsWidth M) (a : List (BeatOf HeadA C
       (manager-offers a d i j x.manager j (x.manager ++ map Ask x.a.inbox) (λ b. manager_home (x.manager ++ map Ask x.a.inbox) b.head) (emptied x.d) p
       answers z takes-manager does_d)
 
-  -- where nothing is under way and both channels stand still, the run has come to the settled state
+  -- if nothing is under way and both channels are stopped, the run has reached the settled state
   module _ (far_a : List (BeatOf HeadA M)) (far_d : List (BeatOf HeadD C)) (a_sent : IsSent rules_a a i far_a x.a)
       (d_sent : IsSent rules_d d j far_d x.d)
       (stop_a stop_d : Stop) (a_stops : Stops rules_a a i (client_answer x.client) x.a.accepted (Stopped stop_a))

@@ -1,4 +1,4 @@
--- Where each channel of a run rests and nothing is under way, each has come as far as the beats lead that are held.
+-- If each channel of a run rests and nothing is under way, each has advanced as far as the held beats allow.
 use Rattle.tl_run.proofs.Names.{◌≡◌, ◌≢◌, ◌-◌, ◌≤◌, ◌<◌, inl, inr, ℕ, Option, None, Some, List, take, sym, ap, subst, ◌∙◌, arith}
 use Rattle.tl_run.proofs.Names.{option_map_or}
 use Rattle.tl_run.proofs.Names.{nil_from_length, IsWidth, Rules, rules_a, rules_d, rules_b, rules_c, rules_e, BeatOf, SideFault, World}
@@ -24,46 +24,46 @@ use Rattle.tl_convert.proofs.Comparisons.{none_past}
 
 -- ---- one channel
 
--- what stops a beat where it is there
+-- the reason why a beat is refused, if there is a beat
 pub stuck-by : {B : Type 0} (stops : B → Option SideFault) (next : Option B) (o : Option SideFault) → o ≡ option_map_or stops next None →
     (o ≡ None → next ≡ None) → IfSome next (λ b. stops b ≢ None)
 stuck-by stops None o e all = tt
 stuck-by stops (Some b) o e all = λ free. cc (all (e ∙ free))
 
-module _ {H : Type 0} {w v : ℕ} (gone n : ℕ) (held near : List (BeatOf H w)) (from : gone ≤ n) (answer : BeatOf H w → Option SideFault)
+module _ {H : Type 0} {w v : ℕ} (discarded n : ℕ) (held near : List (BeatOf H w)) (from : discarded ≤ n) (answer : BeatOf H w → Option SideFault)
     (x : World H w v) where
   -- a channel that rests at the beats that are held, which are the end of a list, rests at the list
-  rests-all : IsEnd gone held near → (o : Option SideFault) → RestsIn held (n - gone) answer x o → RestsIn near n answer x o
-  rests-all end (Some fault) (b, next, is) = (b, part-get gone n held near (part-of gone n held near end) from b next, is)
+  rests-all : IsEnd discarded held near → (o : Option SideFault) → RestsIn held (n - discarded) answer x o → RestsIn near n answer x o
+  rests-all end (Some fault) (b, next, is) = (b, part-get discarded n held near (part-of discarded n held near end) from b next, is)
   rests-all end None (inl past) =
-      let l = none_past held (n - gone) past in inl (end-none gone n held near end (omega (arith, from, l)))
-  rests-all end None (inr (b, next, why)) = inr (b, part-get gone n held near (part-of gone n held near end) from b next, why)
+      let l = none_past held (n - discarded) past in inl (end-none discarded n held near end (omega (arith, from, l)))
+  rests-all end None (inr (b, next, why)) = inr (b, part-get discarded n held near (part-of discarded n held near end) from b next, why)
 
-  -- where nothing is under way it is used up, or its next beat is stopped
-  rests-stuck : (r : Rules H) → IsPart gone held near → (far : List (BeatOf H v)) → IsSent r near n far x → under_way x ≡ 0 →
+  -- if nothing is under way, it is used up, or its next beat is refused
+  rests-stuck : (r : Rules H) → IsPart discarded held near → (far : List (BeatOf H v)) → IsSent r near n far x → under_way x ≡ 0 →
       (stops : BeatOf H w → Option SideFault) → ((b : BeatOf H w) → answer b ≡ stops b) → (o : Option SideFault) →
-      RestsIn held (n - gone) answer x o → IsStuck gone n held stops
+      RestsIn held (n - discarded) answer x o → IsStuck discarded n held stops
   rests-stuck r part far sent none stops same (Some fault) (b, next, is) =
       subst (λ q. IfSome q (λ c. stops c ≢ None)) (sym next) (λ free. cc (sym is ∙ same b ∙ free))
   rests-stuck r part far sent none stops same None (inl past) = subst (λ q. IfSome q (λ c. stops c ≢ None)) (sym past) tt
   rests-stuck r part far sent none stops same None (inr (b, next, why)) =
-      absurd (stage-full r near n answer (λ _. 0) far x sent b (part-get gone n held near part from b next) why
+      absurd (stage-full r near n answer (λ _. 0) far x sent b (part-get discarded n held near part from b next) why
       (nil_from_length x.stage (omega (arith, none))))
 
 -- ---- all channels
 
-module _ {C M : ℕ} (gone : Counts) (n : PerChannel ℕ) (held : Script C M) (w : AreBetween gone n held) (near : Beats C M) (x : Past C M)
-    (o : PerChannel (Option SideFault)) (rests : AllRest (near_beats held) (behind gone n) x o) where
-  pub all-rest : AreEnd gone held near → AllRest near n x o
+module _ {C M : ℕ} (discarded : Counts) (n : PerChannel ℕ) (held : Script C M) (w : AreBetween discarded n held) (near : Beats C M) (x : Past C M)
+    (o : PerChannel (Option SideFault)) (rests : AllRest (near_beats held) (behind discarded n) x o) where
+  pub all-rest : AreEnd discarded held near → AllRest near n x o
   all-rest end = record {
-    a = rests-all gone.a n.a held.a.items near.a w.a.from (client_answer x.client) x.a end.a o.a rests.a;
-    b = rests-all gone.b n.b held.b.items near.b w.b.from (stops_alone rules_b x.b.accepted) x.b end.b o.b rests.b;
-    c = rests-all gone.c n.c held.c.items near.c w.c.from (stops_alone rules_c x.c.accepted) x.c end.c o.c rests.c;
-    d = rests-all gone.d n.d held.d.items near.d w.d.from (manager_answer x.manager) x.d end.d o.d rests.d;
-    e = rests-all gone.e n.e held.e.items near.e w.e.from (stops_alone rules_e x.e.accepted) x.e end.e o.e rests.e;
+    a = rests-all discarded.a n.a held.a.items near.a w.a.from (client_answer x.client) x.a end.a o.a rests.a;
+    b = rests-all discarded.b n.b held.b.items near.b w.b.from (stops_alone rules_b x.b.accepted) x.b end.b o.b rests.b;
+    c = rests-all discarded.c n.c held.c.items near.c w.c.from (stops_alone rules_c x.c.accepted) x.c end.c o.c rests.c;
+    d = rests-all discarded.d n.d held.d.items near.d w.d.from (manager_answer x.manager) x.d end.d o.d rests.d;
+    e = rests-all discarded.e n.e held.e.items near.e w.e.from (stops_alone rules_e x.e.accepted) x.e end.e o.e rests.e;
   }
 
-  module _ (cw : IsWidth C) (mw : IsWidth M) (part : ArePart gone held near) (far : Beats M C) (s : Bridge C M) (stands : StandsFor s x)
+  module _ (cw : IsWidth C) (mw : IsWidth M) (part : ArePart discarded held near) (far : Beats M C) (s : Bridge C M) (stands : StandsFor s x)
       (i : IsAt near n far x) (at_rest : all_under_way x ≡ 0) where
     none : (under_way x.a ≡ 0) × (under_way x.b ≡ 0) × (under_way x.c ≡ 0) × (under_way x.d ≡ 0) × (under_way x.e ≡ 0)
     none = each-zero (under_way x.a) (under_way x.b) (under_way x.c) (under_way x.d) (under_way x.e) at_rest
@@ -86,19 +86,19 @@ module _ {C M : ℕ} (gone : Counts) (n : PerChannel ℕ) (held : Script C M) (w
     answered-all = stands.client_answered ∙ all-taken rules_d x.d stands.d.crosses none.3 ∙
         due-d cw mw near.a near.d n.a n.d s x stands i.run i.a_homed
 
-    -- so what they answer is what stops a beat
-    pub all-stuck : AreStuck near gone n held
+    -- so their results are the reasons why a beat is refused
+    pub all-stuck : AreStuck near discarded n held
     all-stuck = record {
-      a = rests-stuck gone.a n.a held.a.items near.a w.a.from (client_answer x.client) x.a rules_a part.a far.a i.a_sent none.0
+      a = rests-stuck discarded.a n.a held.a.items near.a w.a.from (client_answer x.client) x.a rules_a part.a far.a i.a_sent none.0
           (stops_a near.a near.d n.a n.d)
           (λ b. client_stops c_some m_some near.a near.d n.a n.d x.client b here.reached here.client answered-all) o.a rests.a;
-      b = rests-stuck gone.b n.b held.b.items near.b w.b.from (stops_alone rules_b x.b.accepted) x.b rules_b part.b far.b i.b_sent none.1
+      b = rests-stuck discarded.b n.b held.b.items near.b w.b.from (stops_alone rules_b x.b.accepted) x.b rules_b part.b far.b i.b_sent none.1
           (stops_alone rules_b (take n.b near.b)) (λ b. ap (λ q. stops_alone rules_b q b) i.b_sent.accepted) o.b rests.b;
-      c = rests-stuck gone.c n.c held.c.items near.c w.c.from (stops_alone rules_c x.c.accepted) x.c rules_c part.c far.c i.c_sent none.2
+      c = rests-stuck discarded.c n.c held.c.items near.c w.c.from (stops_alone rules_c x.c.accepted) x.c rules_c part.c far.c i.c_sent none.2
           (stops_alone rules_c (take n.c near.c)) (λ b. ap (λ q. stops_alone rules_c q b) i.c_sent.accepted) o.c rests.c;
-      d = rests-stuck gone.d n.d held.d.items near.d w.d.from (manager_answer x.manager) x.d rules_d part.d far.d i.d_sent none.3
+      d = rests-stuck discarded.d n.d held.d.items near.d w.d.from (manager_answer x.manager) x.d rules_d part.d far.d i.d_sent none.3
           (stops_d near.a near.d n.a n.d)
           (λ b. manager_stops c_some m_some near.a near.d n.a n.d x.manager b here.reached here.manager_is asked-all) o.d rests.d;
-      e = rests-stuck gone.e n.e held.e.items near.e w.e.from (stops_alone rules_e x.e.accepted) x.e rules_e part.e far.e i.e_sent none.4
+      e = rests-stuck discarded.e n.e held.e.items near.e w.e.from (stops_alone rules_e x.e.accepted) x.e rules_e part.e far.e i.e_sent none.4
           (stops_alone rules_e (take n.e near.e)) (λ b. ap (λ q. stops_alone rules_e q b) i.e_sent.accepted) o.e rests.e;
     }

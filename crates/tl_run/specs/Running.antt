@@ -1,4 +1,4 @@
--- Where a run stands between two rounds (this project's choice).
+-- The state of a run between two rounds (this project's choice).
 use Rattle.std.specs.Prelude.{◌≡◌, ◌+◌, ◌≤◌, ◌++◌, ℕ, true, List, length, map, take, drop}
 use Rattle.tl_msg.specs.Rules.{Rules}
 use Rattle.tl_msg.specs.Tables.{rules_a, rules_b, rules_c, rules_d, rules_e}
@@ -13,7 +13,7 @@ use Rattle.tl_sides.specs.Bridges.{Bridge, Past, StandsFor, nothing_yet}
 
 -- ---- one channel
 
--- how many beats are under way
+-- the number of beats under way
 abbrev pub under_way : {H : Type 0} {w v : ℕ} → World H w v → ℕ
 under_way x = length x.stage + length x.ring + length x.inbox
 
@@ -28,26 +28,26 @@ module _ {H : Type 0} (r : Rules H) {w v : ℕ} (bs : List (BeatOf H w)) (n : �
     pub shuts : x.closed ≡ true → n ≡ length bs
     pub room : 1 ≤ x.room
 
--- the homes of a channel on which the beats themselves say them
+-- the homes of a channel whose beats determine them
 abbrev pub IsHomed : {H : Type 0} (r : Rules H) {w v : ℕ} → World H w v → Type 0
 IsHomed r {w = w} x = x.homes ≡ map (λ h. r.lane_address h 0) (heads r w x.accepted)
 
 -- ---- the five channels
 
 module _ {C M : ℕ} where
-  -- how many beats there are of each channel
+  -- the number of beats of each channel
   abbrev pub lengths : Beats C M → PerChannel ℕ
   lengths bs = record { a = length bs.a; b = length bs.b; c = length bs.c; d = length bs.d; e = length bs.e }
 
-  -- how many beats of all channels are under way
+  -- the number of beats under way on all channels
   abbrev pub all_under_way : Past C M → ℕ
   all_under_way x = under_way x.a + under_way x.b + under_way x.c + under_way x.d + under_way x.e
 
 -- the near beats of the five channels
 module _ {C M : ℕ} (near : Beats C M) where
-  -- where a run stands between two rounds, when so many beats of each list were accepted and these beats were taken
+  -- the state of a run between two rounds, after n accepted beats of each list and these far beats taken
   pub record IsAt (n : PerChannel ℕ) (far : Beats M C) (past : Past C M) : Type 0 where
-    -- what has happened on A and D is a run in rounds
+    -- the histories of A and D are a run in rounds
     pub run : Run near.a near.d n.a n.d past.client past.manager
     pub a_sent : IsSent rules_a near.a n.a far.a past.a
     pub b_sent : IsSent rules_b near.b n.b far.b past.b
@@ -59,13 +59,13 @@ module _ {C M : ℕ} (near : Beats C M) where
     pub c_homed : IsHomed rules_c past.c
     pub e_homed : IsHomed rules_e past.e
 
-  -- a run is under way: its bridge stands for a past that it has come to
+  -- a run is under way: its bridge represents a past in such a state
   pub record IsUnderWay (n : PerChannel ℕ) (far : Beats M C) (s : Bridge C M) : Type 0 where
     pub past : Past C M
     pub stands : StandsFor s past
     pub is_at : IsAt n far past
 
--- the same where what was taken went to where `Holds` says that it is, and was counted
+-- the same, if the beats taken went to a destination that holds them, and were counted
 module _ {F : Type 0} {C M : ℕ} (Holds : F → Beats M C → Type 0) (near : Beats C M) where
   pub record IsRunning (n taken : PerChannel ℕ) (far : F) (s : Bridge C M) : Type 0 where
     pub all : Beats M C
@@ -73,6 +73,6 @@ module _ {F : Type 0} {C M : ℕ} (Holds : F → Beats M C → Type 0) (near : B
     pub counts : taken ≡ lengths all
     pub under_way : IsUnderWay near n all s
 
--- a new bridge, whose rings hold a beat at least
+-- a new bridge, whose rings hold at least one beat
 abbrev pub IsNew : {C M : ℕ} → Bridge C M → Type 0
 IsNew s = (room : ℕ) × (1 ≤ room) × StandsFor s (nothing_yet room)

@@ -1,4 +1,4 @@
--- What the run of a script promises (this project's choice).
+-- The postconditions of the run of a script (this project's choice).
 use Rattle.std.specs.Prelude.{◌≡◌, ◌+◌, ◌*◌, ◌<◌, ◌≤◌, ◌^◌, ℕ, length}
 use Rattle.tl_msg.specs.Tables.{rules_b, rules_c, rules_e}
 use Rattle.tl_convert.specs.Accepted.{accepted_of}
@@ -17,7 +17,7 @@ pub record AreBelow (n : PerChannel ℕ) (k : ℕ) : Type 0 where
   pub e : n.e < k
 
 module _ {C M : ℕ} (near : Beats C M) where
-  -- the lists are not too long to be counted
+  -- the lists are short enough to be counted
   pub record IsShort : Type 0 where
     pub few_a : length near.a ≤ 2 ^ 40
     pub few_b : length near.b ≤ 2 ^ 40
@@ -25,7 +25,7 @@ module _ {C M : ℕ} (near : Beats C M) where
     pub few_d : length near.d ≤ 2 ^ 40
     pub few_e : length near.e ≤ 2 ^ 40
 
-  -- how many near beats of each channel are accepted in the end
+  -- the number of near beats of each channel that are accepted in the end
   abbrev pub near_counts : PerChannel ℕ
   near_counts = record {
     a = (settled_state near.a near.d).a;
@@ -35,18 +35,19 @@ module _ {C M : ℕ} (near : Beats C M) where
     e = length (accepted_of rules_e near.e);
   }
 
-  -- how many near beats are accepted in the end, on all channels
+  -- the number of near beats accepted in the end, on all channels
   abbrev pub near_count : ℕ
   near_count =
       let state = settled_state near.a near.d in
       state.a + length (accepted_of rules_b near.b) + length (accepted_of rules_c near.c) + state.d + length (accepted_of rules_e near.e)
 
-  -- how many far beats these make due
+  -- the number of far beats that these make due
   abbrev pub far_count : ℕ
   far_count =
       let far = far_beats near in length far.a + length far.b + length far.c + length far.d + length far.e
 
-  -- the five lists of far beats and the five verdicts are those of the settled state, and there were not too many rounds
+  -- the five lists of far beats and the five verdicts are those of the settled state, and the number of rounds is
+  -- bounded
   pub record EndsIn (outcome : Outcome C M) : Type 0 where
     pub far_a : outcome.a.items ≡ (far_beats near).a
     pub far_b : outcome.b.items ≡ (far_beats near).b
@@ -56,7 +57,7 @@ module _ {C M : ℕ} (near : Beats C M) where
     pub verdicts_are : outcome.verdicts ≡ verdicts near
     pub few_rounds : outcome.rounds ≤ near_count + 2 * far_count + 1
 
--- the same of a script
+-- the same for a script
 module _ {C M : ℕ} where
   -- its near beats
   abbrev pub near_beats : Script C M → Beats C M

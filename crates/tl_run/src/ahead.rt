@@ -1,5 +1,4 @@
-//! The channels of a run in one thread go on, one after another, as far as the beats that are held
-//! lead.
+//! Advances the channels of a run in one thread, one after another, as far as the held beats allow.
 ghost use Rattle.std.specs.Prelude.{◌≡◌, length};
 ghost use Rattle.tl_sides.specs.Bridges.{Past, StandsFor};
 ghost use Rattle.tl_run.specs.Parts.{AreBetween, IsBetween};
@@ -9,55 +8,56 @@ ghost use Rattle.tl_run.specs.Inner.Going.{AllRest, AreOn, GoesAhead, HavePassed
 
 use tl_msg::SideFault;
 use tl_offer::{Offered, Offers};
-use tl_sides::{PassesOn, PerChannel, SyncBridge};
+use tl_sides::{Forward, PerChannel, SyncBridge};
 use tl_trace::{Counts, Script};
 
-// Offers the beats that are held behind the first `at`, of a list of which `gone` have gone, up to the first
-// one that is not accepted: what each gives passes on at once, `at` counts it, and the answer is the fault that
-// stopped that one, if one did. (It takes the list itself: a caller would owe more for each slice of one.)
-fn go_ahead<B, S: Offers<B> + PassesOn<B>>(
+// Offers the held beats after the first `at` of a list, of which `discarded` were discarded, up to the
+// first one that is not accepted. The far beats of each are forwarded at once, and `at` counts it.
+// Returns the fault for which the last one was refused, if it was. (The function takes the whole
+// list: with slices, a caller would have more to prove for each.)
+fn go_ahead<B, S: Offers<B> + Forward<B>>(
     side: &mut S,
     held: &Vec<B>,
-    gone: usize,
+    discarded: usize,
     at: &mut usize,
 ) -> Option<SideFault>
-    requires { S.CanOffer × IsBetween gone at.old (length held.now.items) }
-    ensures within { IsBetween gone at.new (length held.now.items) }
-    ensures ahead { GoesAhead S.Becomes S.Passes gone held.now.items at.old side.old at.new side.new result }
+    requires { S.CanOffer × IsBetween discarded at.old (length held.now.items) }
+    ensures within { IsBetween discarded at.new (length held.now.items) }
+    ensures ahead { GoesAhead S.Becomes S.Passes discarded held.now.items at.old side.old at.new side.new result }
 {
-    'beats: while *at - gone < held.len() {
-        let offered = side.offer_next(held, *at - gone);
+    'beats: while *at - discarded < held.len() {
+        let offered = side.offer_next(held, *at - discarded);
         let Offered::Accepted = offered else {
             return offered.refused_by();
         };
-        side.pass_on();
+        side.forward_staged();
         *at += 1;
     }
     None
 }
 
-// Each channel goes on by itself as far as the beats that are held lead: counts what was accepted, and
-// answers the fault that stops each, if one does.
+// Advances each channel by itself as far as the held beats allow, and counts the accepted beats.
+// Returns, for each channel, the fault for which its next beat is refused, if it is.
 pub(crate) fn all_go_ahead<const C: usize, const M: usize>(
     bridge: &mut SyncBridge<C, M>,
     held: &Script<C, M>,
-    gone: &Counts,
+    discarded: &Counts,
     at: &mut PerChannel<usize>,
 ) -> PerChannel<Option<SideFault>>
-    requires { AreWidths C M × AreBetween gone.now at.old held.now }
-    ensures within { AreBetween gone.now at.new held.now }
+    requires { AreWidths C M × AreBetween discarded.now at.old held.now }
+    ensures within { AreBetween discarded.now at.new held.now }
     ensures on { AreOn at.old at.new }
     ensures passes { (x : Past C M) → StandsFor bridge.old x →
-        HavePassed gone.now held.now at.old x at.new bridge.new }
+        HavePassed discarded.now held.now at.old x at.new bridge.new }
     ensures stays { at.new ≡ at.old → (x : Past C M) → StandsFor bridge.old x →
         StandsFor bridge.new x }
     ensures rests { at.new ≡ at.old → (x : Past C M) → StandsFor bridge.old x →
-        AllRest (near_beats held.now) (behind gone.now at.old) x result }
+        AllRest (near_beats held.now) (behind discarded.now at.old) x result }
 {
-    let b = go_ahead(bridge, &held.b, gone.b, &mut at.b);
-    let c = go_ahead(bridge, &held.c, gone.c, &mut at.c);
-    let e = go_ahead(bridge, &held.e, gone.e, &mut at.e);
-    let a = go_ahead(bridge, &held.a, gone.a, &mut at.a);
-    let d = go_ahead(bridge, &held.d, gone.d, &mut at.d);
+    let b = go_ahead(bridge, &held.b, discarded.b, &mut at.b);
+    let c = go_ahead(bridge, &held.c, discarded.c, &mut at.c);
+    let e = go_ahead(bridge, &held.e, discarded.e, &mut at.e);
+    let a = go_ahead(bridge, &held.a, discarded.a, &mut at.a);
+    let d = go_ahead(bridge, &held.d, discarded.d, &mut at.d);
     PerChannel { a, b, c, d, e }
 }

@@ -1,4 +1,4 @@
-//! What becomes of the five channels in a round of a run.
+//! The outcome of the five channels in a round of a run.
 ghost use Rattle.std.specs.Prelude.{◌≡◌, IfSome, IsNone};
 ghost use Rattle.tl_sides.specs.declared.per_channel.PerChannel.{PerChannel};
 ghost use Rattle.tl_run.specs.Inner.Running.{AreStopped, HaveRoomToCount, all_stopped, counted};
@@ -6,8 +6,8 @@ ghost use Rattle.tl_run.specs.Inner.Running.{AreStopped, HaveRoomToCount, all_st
 use tl_offer::{Offered, Stop};
 use tl_sides::PerChannel;
 
-// Why each of the five channels offers no more, from what became of their next beats in a round.
-// None where one of them may offer more: its beat was accepted, or it was not ready.
+// Returns the reason why each of the five channels offers no more beats, from the outcomes of a
+// round. Returns `None` if one of them may offer more: its beat was accepted, or it was not ready.
 pub(crate) fn all_stops(offers: &PerChannel<Offered>) -> Option<PerChannel<Stop>>
     ensures stops { IfSome result (λ stops. offers.now ≡ all_stopped stops) }
     ensures goes { IsNone result → AreStopped offers.now → ⊥ }
@@ -24,8 +24,8 @@ pub(crate) fn all_stops(offers: &PerChannel<Offered>) -> Option<PerChannel<Stop>
     Some(PerChannel { a, b, c, d, e })
 }
 
-// Counts the beats that a round accepted: `at` has how many of each channel were accepted before it,
-// each number below `2^41`, and then how many were accepted after it.
+// Adds the beats that a round accepted to `at`, which has the number accepted before on each
+// channel. Requires: each number is below `2^41`.
 pub(crate) fn add_accepted(at: &mut PerChannel<usize>, offers: &PerChannel<Offered>)
     requires few { HaveRoomToCount at.old }
     ensures { at.new ≡ counted at.old offers.now }

@@ -1,4 +1,4 @@
-//! Where the far beats of a run go.
+//! The destination of the far beats of a run.
 ghost use Rattle.std.specs.Prelude.{◌≡◌, ℕ, IsOk, OnOk};
 ghost use Rattle.tl_lanes.specs.Lanes.{IsWidth};
 ghost use Rattle.tl_settle.specs.Outcomes.{Beats};
@@ -8,20 +8,21 @@ ghost use Rattle.tl_run.specs.Arrivals.{Fit, joined};
 use std::alloc::AllocError;
 use tl_msg::{Beat, ChA, ChB, ChC, ChD, ChE};
 
-/// Where the far beats of a run in one thread go as they are taken, between a client's bus of `C`
-/// bytes and a manager's of `M`: lists, or the lines of a text.
+/// The destination of the far beats of a run in one thread, between a client's bus of `C` bytes and
+/// a manager's of `M`: lists, or the lines of a text.
 pub trait FarSink<const C: usize, const M: usize> {
-    // it has these far beats, those of each channel in the order in which they came
+    // it holds these far beats, those of each channel in the order in which they arrived
     ghost Holds: { Self → Beats M C → Type 0 };
 
-    // it has room for so many far beats of each channel, with those that it has
+    // it has room for this number of far beats of each channel, including those that it holds
     ghost HasRoom: { Self → PerChannel ℕ → Type 0 };
 
-    // what it was made with, which stays as it is
+    // the value that it was made with, which never changes
     ghost made_with: { Self → ℕ };
 
-    /// Takes beats of the five channels, behind those that came before. Refused only if there is no
-    /// memory for them, which ends the run, and never if it has room for them.
+    /// Appends beats of the five channels to those that arrived before. Errors: `AllocError` if the
+    /// allocator fails, which ends the run; never if there is room for the beats. Requires: `C` and
+    /// `M` are widths.
     fn take(
         &mut self,
         a: &[Beat<ChA, M>],

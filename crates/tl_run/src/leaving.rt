@@ -1,48 +1,50 @@
-//! How many beats of a script that comes piece by piece may go.
+//! The number of beats of a script, read incrementally, that may be discarded.
 ghost use Rattle.std.specs.Prelude.{◌≡◌, ◌+◌, ◌-◌, ◌≤◌};
-ghost use Rattle.tl_trace.specs.Scripts.{HasCounts, HasLetGo};
-ghost use Rattle.tl_run.specs.Parts.{AreBetween, AreGoing, AreWaiting, HaveGone, IsBetween, going};
+ghost use Rattle.tl_trace.specs.Scripts.{HasCounts, HasRemoved};
+ghost use Rattle.tl_run.specs.Parts.{AreBetween, AreGoing, AreWaiting, AreDiscarded, IsBetween, going};
 
 use tl_sides::PerChannel;
 use tl_trace::{Counts, Script};
 
-// How many of the beats that are held may go, behind `gone` that have gone before, if the first `at` are
-// done with: all of those if they are at least half of the beats held, else none. `gone` counts them.
-fn leaving(held: usize, gone: &mut usize, at: usize) -> usize
-    requires { IsBetween gone.old at held }
-    ensures counted { gone.new ≡ gone.old + result }
-    ensures past { gone.new ≤ at }
-    ensures all { result ≡ going (at - gone.old) held }
+// Returns how many of the held beats, which come after `discarded` discarded ones, may be discarded if
+// the first `at` are done. Those are all done beats if they are at least half of the held ones, and
+// otherwise none. Adds the number to `discarded`.
+fn leaving(held: usize, discarded: &mut usize, at: usize) -> usize
+    requires { IsBetween discarded.old at held }
+    ensures counted { discarded.new ≡ discarded.old + result }
+    ensures past { discarded.new ≤ at }
+    ensures all { result ≡ going (at - discarded.old) held }
 {
-    let past = at - *gone;
+    let past = at - *discarded;
     let count = if past >= held - past { past } else { 0 };
-    *gone += count;
+    *discarded += count;
     count
 }
 
-/// Returns how many of the beats of a script that comes piece by piece have to go now, if `gone` have
-/// gone before and the first `at` are done with, and counts them in `gone`. On each channel they are all
-/// that are done with if these are at least half of the beats held, else none. So dropping them costs no
-/// more than reading them, and fewer done beats stay than waiting ones (this project's choice).
-pub fn let_leave<const C: usize, const M: usize>(
-    gone: &mut Counts,
+/// Returns how many of the held beats of a script, read incrementally, must be discarded now, and
+/// adds them to `discarded`, which counts those discarded before. On each channel, the first `at` are done.
+/// The result is all done beats if they are at least half of the held ones, and otherwise none. So
+/// discarding costs no more than reading, and fewer done beats remain than waiting ones (this
+/// project's choice).
+pub fn count_discardable<const C: usize, const M: usize>(
+    discarded: &mut Counts,
     held: &Script<C, M>,
     at: &PerChannel<usize>,
 ) -> Counts
-    requires { AreBetween gone.old at.now held.now }
+    requires { AreBetween discarded.old at.now held.now }
     ensures counts { HasCounts result held.now }
-    ensures going { AreGoing gone.old at.now held.now result }
-    ensures gone { HaveGone gone.old result gone.new }
-    ensures rest { (rest : Script C M) → HasLetGo result held.now rest →
-        AreBetween gone.new at.now rest }
-    ensures waiting { (rest : Script C M) → HasLetGo result held.now rest →
-        AreWaiting gone.new at.now rest }
+    ensures going { AreGoing discarded.old at.now held.now result }
+    ensures discarded { AreDiscarded discarded.old result discarded.new }
+    ensures rest { (rest : Script C M) → HasRemoved result held.now rest →
+        AreBetween discarded.new at.now rest }
+    ensures waiting { (rest : Script C M) → HasRemoved result held.now rest →
+        AreWaiting discarded.new at.now rest }
 {
     Counts {
-        a: leaving(held.a.len(), &mut gone.a, at.a),
-        b: leaving(held.b.len(), &mut gone.b, at.b),
-        c: leaving(held.c.len(), &mut gone.c, at.c),
-        d: leaving(held.d.len(), &mut gone.d, at.d),
-        e: leaving(held.e.len(), &mut gone.e, at.e),
+        a: leaving(held.a.len(), &mut discarded.a, at.a),
+        b: leaving(held.b.len(), &mut discarded.b, at.b),
+        c: leaving(held.c.len(), &mut discarded.c, at.c),
+        d: leaving(held.d.len(), &mut discarded.d, at.d),
+        e: leaving(held.e.len(), &mut discarded.e, at.e),
     }
 }

@@ -1,11 +1,13 @@
-//! The run of a script over a bridge in one thread: of a whole one (`run_sync`), and of one that comes
-//! piece by piece (`SyncRun`). And what they share with the run in two threads, which `tl_bridge` has:
-//! where far beats go, where a run ends, and what comes of it; what becomes of a channel's next beat is in
-//! `tl_offer`. Callers of a bridge need `tl_bridge` alone, which gives the names of these runs, too.
+//! The run of a script over a bridge in one thread: of a whole script (`run_sync`), and of one that
+//! is read incrementally (`SyncRun`). Also the parts shared with the run in two threads, in
+//! `tl_bridge`: the destination of far beats, and the end and the outcome of a run. The outcome of
+//! a channel's next beat is in `tl_offer`. Callers of a bridge need only `tl_bridge`, which
+//! re-exports the names of these runs.
 #![tactic(auto)]
 
-// A private function has one `requires`, since the checker states each clause by itself at each call. So
-// has what is public for the run in two threads or for a check alone.
+// A private function has one `requires`, because the checker proves each clause separately at each
+// call. The same holds for functions that are public only for the run in two threads or for a
+// check.
 
 mod ahead;
 mod channel_state;
@@ -20,7 +22,7 @@ mod taken;
 mod turn;
 
 pub use far_sink::FarSink;
-pub use leaving::let_leave;
+pub use leaving::count_discardable;
 pub use outcome::{Outcome, RunFault};
 pub use rounds::{End, outcome_at};
 pub use streaming::SyncRun;

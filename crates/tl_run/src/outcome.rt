@@ -1,4 +1,4 @@
-//! What a run ends in, or why there is none.
+//! The outcome of a run, or the reason why there is none.
 ghost use Rattle.std.specs.Prelude.{◌≡◌, Some};
 ghost use Rattle.tl_msg.specs.Names.{numbered};
 ghost use Rattle.tl_run.specs.Inner.Running.{stop_verdict};
@@ -9,9 +9,9 @@ use thiserror::Error;
 use tl_msg::{Beat, ChA, ChB, ChC, ChD, ChE, SideFault, Verdict};
 use tl_offer::Stop;
 
-/// What a script ends in: the far beats that each side took, one verdict for each channel from A to
-/// E, and how many rounds the run had. The manager's side takes A, C and E, on `M` lanes; the
-/// client's side takes B and D, on `C` lanes.
+/// The outcome of a script: the far beats that each side took, one verdict for each channel from A
+/// to E, and the number of rounds of the run. The manager's side takes A, C and E, on `M` lanes;
+/// the client's side takes B and D, on `C` lanes.
 #[derive(Drop)]
 pub struct Outcome<const C: usize, const M: usize> {
     pub a: Vec<Beat<ChA, M>>,
@@ -23,20 +23,20 @@ pub struct Outcome<const C: usize, const M: usize> {
     pub rounds: u64,
 }
 
-/// Why a script was not run. `RingSize` is tested first.
+/// The reason why a script was not run. `RingSize` is tested first.
 #[derive(Clone, Copy, PartialEq, Eq, Debug, Error)]
 pub enum RunFault {
-    /// 12: the rings are to hold no beat, or more than 4,096 (this project's choice).
+    /// 12: the size of the rings is 0 or more than 4,096 beats (this project's choice).
     RingSize,
-    /// 13: there was no memory for the bridge or for the far beats.
+    /// 13: the allocator failed for the bridge or for the far beats.
     OutOfMemory,
-    /// 20: the two sides stopped moving before all beats had arrived. No run ends so: the name stays
-    /// for its number.
+    /// 20: the two sides stopped moving before all beats had arrived. No run ends in this way; the
+    /// name is kept for its number.
     Stalled,
 }
 
 impl RunFault {
-    /// The fault's number: 12, 13 or 20 (this project's choice).
+    /// Returns the number of the fault: 12, 13 or 20 (this project's choice).
     pub fn number(&self) -> u8
         ensures { result ≡ run_fault_number self.now }
     {
@@ -47,7 +47,7 @@ impl RunFault {
         }
     }
 
-    /// The fault's name, spelled as the variant (this project's choice).
+    /// Returns the name of the fault, spelled like the variant (this project's choice).
     pub fn name(&self) -> &'static str
         ensures { result.now ≡ run_fault_name self.now }
     {
@@ -59,7 +59,7 @@ impl RunFault {
     }
 }
 
-// The number and the name, as in `12 RingSize`.
+// Prints the number and the name, for example `12 RingSize`.
 impl fmt::Display for RunFault {
     ghost output = { λ fault. Some (numbered (run_fault_number fault) (run_fault_name fault)) };
 
@@ -68,8 +68,8 @@ impl fmt::Display for RunFault {
     }
 }
 
-// The verdict of a channel that offers no more, where so many near beats were accepted and so many
-// far beats taken.
+// Returns the verdict of a channel that offers no more beats, after `near` accepted near beats and
+// `far` taken far beats.
 pub(crate) fn verdict(stop: &Stop, near: usize, far: usize) -> Verdict
     ensures { result ≡ stop_verdict stop.now near far }
 {

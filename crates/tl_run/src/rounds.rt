@@ -1,9 +1,10 @@
 //! The rounds of a run in one thread, and how each channel ends.
-ghost use Rattle.std.specs.Prelude.{◌≡◌, ◌↔◌, ℕ, IsTrue, IfSome, IsNone};
+ghost use Rattle.std.specs.Prelude.{◌≡◌, ◌↔◌, ◌≤◌, ℕ, IsTrue, IfSome, IsNone};
 ghost use Rattle.tl_lanes.specs.Lanes.{IsWidth};
 ghost use Rattle.tl_settle.specs.Outcomes.{Beats, verdicts};
-ghost use Rattle.tl_sides.specs.Bridges.{Bridge, Past, StandsFor};
+ghost use Rattle.tl_sides.specs.Bridges.{Bridge, Past, StandsFor, nothing_yet};
 ghost use Rattle.tl_run.specs.Arrivals.{no_beats};
+ghost use Rattle.tl_run.specs.InRounds.{TakesRounds};
 ghost use Rattle.tl_run.specs.Scripts.{AreBelow, EndsIn, HasShortLists, near_beats, near_counts};
 ghost use Rattle.tl_offer.specs.Widths.{AreWidths};
 ghost use Rattle.tl_run.specs.Inner.Arriving.{HasRoomFor, beats_of};
@@ -19,8 +20,8 @@ use tl_ring::Standing;
 use tl_sides::{PerChannel, Standings, SyncBridge};
 use tl_trace::Script;
 
-/// Where a run has ended: how many beats of each channel were accepted, why it offers no more, and
-/// how many rounds there were (this project's choice).
+/// The end of a run: the number of accepted beats of each channel, the reason why it offers no
+/// more, and the number of rounds (this project's choice).
 #[derive(Drop)]
 pub struct End {
     pub at: PerChannel<usize>,
@@ -28,14 +29,14 @@ pub struct End {
     pub rounds: u64,
 }
 
-// Whether nothing is under way on a channel.
+// Returns whether nothing is under way on a channel.
 fn is_empty(standing: &Standing) -> bool
     ensures { IsTrue result ↔ (standing_count standing.now ≡ 0) }
 {
     (standing.staged == 0) & (standing.in_ring == 0) & (standing.inbox == 0)
 }
 
-// Whether nothing is under way: on no channel a beat stands in the stage, the ring or the inbox.
+// Returns whether nothing is under way: the stages, rings and inboxes of all channels are empty.
 pub(crate) fn are_empty(standings: &Standings) -> bool
     ensures { IsTrue result ↔ (all_standing standings.now ≡ 0) }
 {
@@ -46,7 +47,8 @@ pub(crate) fn are_empty(standings: &Standings) -> bool
         & is_empty(&standings.e)
 }
 
-// What becomes of the next beat of a list. (It takes the list itself: a caller would owe more for a slice of one.)
+// Offers the next beat of a list and returns its outcome. (The function takes the whole list: with
+// a slice, a caller would have more to prove.)
 #[inline(always)]
 fn offer_of<B, S: Offers<B>>(side: &mut S, list: &Vec<B>, at: usize) -> Offered
     requires { S.CanOffer }
@@ -55,10 +57,11 @@ fn offer_of<B, S: Offers<B>>(side: &mut S, list: &Vec<B>, at: usize) -> Offered
     side.offer_next(list, at)
 }
 
-// One round: both sides take all that stands in their inboxes, which goes behind the far beats of the
-// lists; then each offers the next beat of each of its channels, first the client's side, then the
-// manager's, each in the order of letters, and `at` counts what is accepted; and then what is staged and
-// what stands in the rings moves on, as far as there is room.
+// Runs one round. First both sides take all beats of their inboxes, which are appended to the far
+// beats of the lists. Then each offers the next beat of each of its channels, first the client's
+// side, then the manager's, each in alphabetical order, and `at` counts the accepted beats. Then
+// staged beats and beats in the rings move on, as far as there is room. Returns the outcome on each
+// channel.
 fn round<const C: usize, const M: usize>(
     bridge: &mut SyncBridge<C, M>,
     script: &Script<C, M>,
@@ -74,7 +77,7 @@ fn round<const C: usize, const M: usize>(
     ensures counted { at.new ≡ counted at.old result }
     ensures room { HasRoomFor (near_beats script.now) far.new }
 {
-    // never refused: the lists have room for all that comes
+    // never fails: the lists have room for all far beats
     let _ = take_from_each(bridge, far);
     let a = offer_of(bridge, &script.a, at.a);
     let c = offer_of(bridge, &script.c, at.c);
@@ -88,8 +91,8 @@ fn round<const C: usize, const M: usize>(
     offers
 }
 
-// Why each channel offers no more after a round, where nothing is under way. None where there is
-// another round.
+// Returns the reason why each channel offers no more beats after a round, if nothing is under way.
+// Returns `None` if there is another round.
 fn stops_at_rest<const C: usize, const M: usize>(
     bridge: &SyncBridge<C, M>,
     offers: &PerChannel<Offered>,
@@ -110,7 +113,8 @@ fn stops_at_rest<const C: usize, const M: usize>(
     Some(stops)
 }
 
-// The verdicts of a run that has ended there, where so many far beats of each channel were taken.
+// Returns the verdicts of a run that has ended with these counts and reasons, after `taken` far
+// beats of each channel.
 pub(crate) fn verdicts_at(
     at: &PerChannel<usize>,
     stops: &PerChannel<Stop>,
@@ -129,7 +133,7 @@ pub(crate) fn verdicts_at(
     ]
 }
 
-// Rounds, up to the first one in which no channel could offer more, and after which nothing is
+// Runs rounds, up to the first one in which no channel could offer more, and after which nothing is
 // under way. The far beats go into lists that have room for all of them.
 pub(crate) fn run_rounds<const C: usize, const M: usize>(
     bridge: &mut SyncBridge<C, M>,
@@ -141,6 +145,8 @@ pub(crate) fn run_rounds<const C: usize, const M: usize>(
     ensures ended { HasEnded (near_beats script.now) result.at (beats_of far.new) bridge.new
         result.stops result.rounds }
     ensures each { AreBelow result.at result.rounds }
+    ensures exact { (ring : ℕ) → 1 ≤ ring → StandsFor bridge.old (nothing_yet ring) →
+        TakesRounds (near_beats script.now) ring result.rounds }
 {
     let mut at = PerChannel {
         a: 0,
@@ -159,8 +165,8 @@ pub(crate) fn run_rounds<const C: usize, const M: usize>(
     }
 }
 
-/// The outcome of a run that has ended there, by the far beats that it took: these, the verdict of each
-/// channel and the number of rounds (this project's choice).
+/// Returns the outcome of a run from its end and the far beats that it took: these, the verdict of
+/// each channel and the number of rounds (this project's choice). Requires: `C` and `M` are widths.
 pub fn outcome_at<const C: usize, const M: usize>(end: End, far: Taken<C, M>) -> Outcome<C, M>
     requires { AreWidths C M }
     ensures outcome { (near : Beats C M) (s : Bridge C M) →

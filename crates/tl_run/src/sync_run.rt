@@ -5,6 +5,7 @@ ghost use Rattle.tl_lanes.specs.Lanes.{IsWidth};
 ghost use Rattle.tl_run.specs.declared.outcome.RunFault.TheVariants.{RingSize, OutOfMemory, Stalled};
 ghost use Rattle.tl_sides.specs.Bridges.{Bridge};
 ghost use Rattle.tl_run.specs.Arrivals.{no_beats};
+ghost use Rattle.tl_run.specs.InRounds.{TakesRounds};
 ghost use Rattle.tl_run.specs.Scripts.{AreBelow, HasShortLists, SettlesTo, near_beats, near_counts};
 ghost use Rattle.tl_run.specs.Inner.Arriving.{HasRoomFor, beats_of};
 ghost use Rattle.tl_run.specs.Inner.Running.{HasEnded};
@@ -18,20 +19,21 @@ use tl_ring::MAX_RING;
 use tl_sides::SyncBridge;
 use tl_trace::Script;
 
-/// Runs a script over a bridge in one thread, to its end: the far beats and the verdicts are those
-/// that the script settles to.
+/// Runs a script over a bridge in one thread, to its end. Returns the far beats and the verdicts that
+/// the script settles to, and the number of rounds.
 ///
-/// The run is made of rounds. In each, both sides take all that stands in their inboxes; then each
-/// offers the next beat of each of its channels, where that one is ready, the client's side first;
-/// then staged beats go into the rings, and beats of the rings into the inboxes, as many as there
-/// is room for. A refused beat stays next. A channel whose list is used up between two messages is
-/// closed. The run ends after the first round in which no beat was accepted and after which nothing
-/// is under way: there are more rounds than beats of any channel that are accepted.
+/// In each round, both sides take all beats in their inboxes. Then each side, the client's first, offers
+/// the next beat of each of its channels that is ready. Then staged beats move into the rings, and beats
+/// of the rings into the inboxes, as many as there is room for. A refused beat stays next. A channel
+/// whose list is used up between two messages is closed. The run ends after the first round in which no
+/// channel could offer more and after which nothing is under way. `TakesRounds` says which round that is
+/// (this project's choice).
 ///
-/// The rings hold `ring` beats each. Refused with `RingSize` exactly where that is 0 or above
-/// 4,096, which is tested first, and else with `OutOfMemory` where there is no memory for the
-/// bridge or for the far beats: all of it is asked for before the first round. `Stalled` never
-/// comes. Each list has at most `2^40` beats.
+/// Errors: `RingSize` if and only if `ring` is 0 or above 4,096, which is tested first. `OutOfMemory` if
+/// there is no memory for the bridge or for the far beats; all of it is reserved before the first round.
+/// `Stalled` never occurs.
+///
+/// Requires: each list has at most `2^40` beats.
 pub fn run_sync<const C: usize, const M: usize>(
     alloc: Global,
     script: &Script<C, M>,
@@ -43,16 +45,19 @@ pub fn run_sync<const C: usize, const M: usize>(
     ensures outcome { IfOk result (SettlesTo script.now) }
     ensures rounds { IfOk result (λ outcome.
         AreBelow (near_counts (near_beats script.now)) outcome.rounds) }
+    ensures exact { IfOk result (λ outcome.
+        TakesRounds (near_beats script.now) ring outcome.rounds) }
     ensures size { IsOk result → (1 ≤ ring) × (ring ≤ MAX_RING) }
     ensures ring_size { IfErr result (λ fault. (fault ≡ RingSize) ↔
         ((ring ≡ 0) ⊎ (MAX_RING < ring))) }
     ensures never_stalled { IfErr result (λ fault. fault ≢ Stalled) }
 {
-    // the lists are asked for first, and then the rings
+    // the lists are allocated first, and then the rings
     if ring == 0 || ring > MAX_RING {
         return Err(RunFault::RingSize);
     }
-    let Ok(mut far) = Taken::new(alloc, script) else {
+    let mut far = Taken::new(alloc);
+    let Ok(()) = far.reserve(script) else {
         return Err(RunFault::OutOfMemory);
     };
     match run_into_lists(alloc, script, ring, &mut far) {
@@ -61,9 +66,9 @@ pub fn run_sync<const C: usize, const M: usize>(
     }
 }
 
-// A run over a new bridge, whose far beats go into lists that have room for all of them: its rounds ask
-// for no memory. The rings' size was tested before: there is no bridge for want of memory alone. (The
-// rounds get the bridge lent, so that one way out alone drops it.)
+// Runs a script over a new bridge. The far beats go into lists that have room for all of them, so
+// the rounds allocate nothing. The size of the rings was tested before, so the only error is
+// `OutOfMemory`. (The rounds borrow the bridge, so that only one return path drops it.)
 fn run_into_lists<const C: usize, const M: usize>(
     alloc: Global,
     script: &Script<C, M>,
@@ -75,6 +80,7 @@ fn run_into_lists<const C: usize, const M: usize>(
     ensures ended { IfOk result (λ end. (s : Bridge C M) ×
         HasEnded (near_beats script.now) end.at (beats_of far.new) s end.stops end.rounds) }
     ensures each { IfOk result (λ end. AreBelow end.at end.rounds) }
+    ensures exact { IfOk result (λ end. TakesRounds (near_beats script.now) ring end.rounds) }
     ensures size { IsOk result → (1 ≤ ring) × (ring ≤ MAX_RING) }
     ensures memory { IfErr result (λ fault. fault ≡ OutOfMemory) }
 {
@@ -82,6 +88,6 @@ fn run_into_lists<const C: usize, const M: usize>(
         return Err(RunFault::OutOfMemory);
     };
     let end = run_rounds(&mut bridge, script, far);
-    bridge.let_go();
+    bridge.discard();
     Ok(end)
 }

@@ -20,7 +20,7 @@ use tl_msg::{Beat, ChA, ChB, ChC, ChD, ChE, Verdict};
 use tl_sides::{PerChannel, SyncBridge};
 use tl_trace::Script;
 
-/// The far beats that a run has taken, by channel, in lists that grow no more: those of A, C and E on
+/// The far beats that a run has taken, by channel, in lists that never grow: those of A, C and E on
 /// `M` lanes, those of B and D on `C` (this project's choice).
 #[derive(Drop)]
 pub struct Taken<const C: usize, const M: usize> {
@@ -31,14 +31,14 @@ pub struct Taken<const C: usize, const M: usize> {
     pub e: Vec<Beat<ChE, M>>,
 }
 
-// A beat of each width fits memory.
+// Lemma: a beat of each width fits in memory.
 #[inline(always)]
 fn beats_fit<const C: usize, const M: usize>()
     requires { AreWidths C M }
     ensures { BeatFits C × BeatFits M }
 {}
 
-// A list of at most `2^40` beats.
+// Returns a list as a slice. Requires: it has at most `2^40` beats.
 #[inline(always)]
 fn short<B>(list: &Vec<B>) -> &[B]
     requires { length list.now.items ≤ 2 ^ 40 }
@@ -48,7 +48,8 @@ fn short<B>(list: &Vec<B>) -> &[B]
     list
 }
 
-// How many far beats of each channel a script makes due at most: no more room is asked for than that.
+// Returns the largest number of far beats of each channel that a script can make due. No more room
+// than that is allocated.
 fn far_rooms<const C: usize, const M: usize>(script: &Script<C, M>) -> PerChannel<usize>
     requires { AreWidths C M × HasShortLists script.now }
     ensures { AreDueCounts (near_beats script.now) result }
@@ -63,34 +64,40 @@ fn far_rooms<const C: usize, const M: usize>(script: &Script<C, M>) -> PerChanne
 }
 
 impl<const C: usize, const M: usize> Taken<C, M> {
-    /// Empty lists, with room for all far beats that a script can make due. Refused where there is no
-    /// memory for them. Each list of the script has at most `2^40` beats.
-    #[inline(never)]
-    pub fn new(alloc: Global, script: &Script<C, M>) -> Result<Self, AllocError>
-        requires { AreWidths C M × HasShortLists script.now }
-        ensures empty { IfOk result (λ far. beats_of far ≡ no_beats) }
-        ensures room { IfOk result (HasRoomFor (near_beats script.now)) }
+    /// Creates five empty lists. Allocates nothing. Requires: `C` and `M` are widths.
+    pub fn new(alloc: Global) -> Self
+        requires { AreWidths C M }
+        ensures { beats_of result ≡ no_beats }
     {
-        let room = far_rooms(script);
-        let mut far = Taken {
+        Taken {
             a: Vec::new(alloc),
             b: Vec::new(alloc),
             c: Vec::new(alloc),
             d: Vec::new(alloc),
             e: Vec::new(alloc),
-        };
-        let a = far.a.reserve_exact(room.a);
-        let b = far.b.reserve_exact(room.b);
-        let c = far.c.reserve_exact(room.c);
-        let d = far.d.reserve_exact(room.d);
-        let e = far.e.reserve_exact(room.e);
-        let Ok(()) = a.and(b).and(c).and(d).and(e) else {
-            return Err(AllocError);
-        };
-        Ok(far)
+        }
     }
 
-    // The outcome of a run that took these and ended with these verdicts, after so many rounds.
+    /// Reserves room for all far beats that a script can make due. The lists stay empty. Errors:
+    /// `AllocError` if the allocator fails. Requires: `C` and `M` are widths, each list of the
+    /// script has at most `2^40` beats, and the five lists are empty.
+    #[inline(never)]
+    pub fn reserve(&mut self, script: &Script<C, M>) -> Result<(), AllocError>
+        requires { AreWidths C M × HasShortLists script.now × (beats_of self.old ≡ no_beats) }
+        ensures empty { beats_of self.new ≡ no_beats }
+        ensures room { OnOk result (HasRoomFor (near_beats script.now) self.new) }
+    {
+        let room = far_rooms(script);
+        let a = self.a.reserve_exact(room.a);
+        let b = self.b.reserve_exact(room.b);
+        let c = self.c.reserve_exact(room.c);
+        let d = self.d.reserve_exact(room.d);
+        let e = self.e.reserve_exact(room.e);
+        a.and(b).and(c).and(d).and(e)
+    }
+
+    // Returns the outcome of a run that took these far beats and ended with these verdicts after
+    // `rounds` rounds.
     pub(crate) fn into_outcome(self, found: [Verdict; 5], rounds: u64) -> Outcome<C, M>
         requires { AreWidths C M }
         ensures ends { (near : Beats C M) → found ≡ verdicts near →
@@ -111,7 +118,7 @@ impl<const C: usize, const M: usize> Taken<C, M> {
     }
 }
 
-// Appends the beats of an inbox to a list. In most rounds there is none, or one.
+// Appends the beats of an inbox to a list. Usually there is at most one.
 #[inline(always)]
 fn append<B: Copy>(list: &mut Vec<B>, beats: &[B]) -> Result<(), AllocError>
     ensures items { OnOk result (list.new.items ≡ list.old.items ++ beats.now) }
@@ -135,7 +142,7 @@ impl<const C: usize, const M: usize> FarSink<C, M> for Taken<C, M> {
 
     ghost made_with = { λ _. 0 };
 
-    // The lists have room for all that comes.
+    // The lists have room for all far beats.
     fn take(
         &mut self,
         a: &[Beat<ChA, M>],
@@ -153,8 +160,8 @@ impl<const C: usize, const M: usize> FarSink<C, M> for Taken<C, M> {
     }
 }
 
-// So many beats of each channel are counted. (A count stops at the largest number, which no run comes
-// to: that need not be known here.)
+// Adds `more` to the counts of each channel. (A count saturates at the largest number, which no run
+// reaches; that need not be known here.)
 pub(crate) fn add_counts(counts: &mut PerChannel<usize>, more: &PerChannel<usize>)
     ensures { CanAdd counts.old more.now → counts.new ≡ added counts.old more.now }
 {
@@ -165,8 +172,8 @@ pub(crate) fn add_counts(counts: &mut PerChannel<usize>, more: &PerChannel<usize
     counts.e = counts.e.saturating_add(more.e);
 }
 
-// Each side takes all that stands in its inboxes, which goes to `far`: how many beats of each channel
-// that is.
+// Takes all beats of the inboxes of both sides, and passes them to `far`. Returns their number on
+// each channel. Errors: `AllocError` if `far` runs out of memory.
 pub(crate) fn take_from_each<F: FarSink<C, M>, const C: usize, const M: usize>(
     bridge: &mut SyncBridge<C, M>,
     far: &mut F,

@@ -1,4 +1,5 @@
-//! What the sides of a run in two threads have done in their turns, and when such a run ends.
+//! The result of the turns of each side of a run in two threads, and the condition for the end of
+//! such a run.
 ghost use Rattle.std.specs.Prelude.{◌≡◌, ◌≢◌, ◌⊎◌, ◌↔◌, true, IfSome, IsNone};
 ghost use Rattle.tl_sides.specs.declared.per_channel.PerChannel.{PerChannel};
 ghost use Rattle.tl_offer.specs.declared.offered.Offered.{Offered};
@@ -9,8 +10,8 @@ use crate::rounds::are_empty;
 use tl_offer::{Offered, Stop};
 use tl_sides::{PerChannel, Standings};
 
-/// What a side has done in some turns: how many beats of each channel were accepted after them, what
-/// became of its next beats in the last one, whether it accepted a beat in any, and whether it
+/// The result of some turns of a side: the number of accepted beats of each channel after them, the
+/// outcomes of its next beats in the last one, whether it accepted a beat in any, and whether it
 /// accepted, pumped or fetched one (this project's choice).
 #[derive(Drop)]
 pub struct Turn {
@@ -20,7 +21,7 @@ pub struct Turn {
     pub moved: bool,
 }
 
-// Whether one of two things is so.
+// Returns whether at least one of the two is true.
 fn either(one: bool, other: bool) -> bool
     ensures { (result ≡ true) ↔ ((one ≡ true) ⊎ (other ≡ true)) }
 {
@@ -28,8 +29,9 @@ fn either(one: bool, other: bool) -> bool
 }
 
 impl Turn {
-    /// One turn, before which `at` beats were accepted, in which these were the offers, and `others`
-    /// beats were pumped and fetched.
+    /// Returns the result of one turn, before which `at` beats were accepted, with these outcomes
+    /// of its offers, in which `others` beats were pumped and fetched. Requires: the counts are
+    /// below `2^41`.
     pub fn new(at: &PerChannel<usize>, offers: PerChannel<Offered>, others: usize) -> Turn
         requires few { HaveRoomToCount at.now }
         ensures at { result.at ≡ counted at.now offers }
@@ -52,7 +54,7 @@ impl Turn {
         }
     }
 
-    /// These turns, and another one after them.
+    /// Returns the result of these turns followed by another one.
     pub fn then(self, last: &Turn) -> Turn
         ensures at { result.at ≡ last.now.at }
         ensures offers { result.offers ≡ last.now.offers }
@@ -69,8 +71,8 @@ impl Turn {
         }
     }
 
-    /// What both sides have done in a round, by the turns of the client's side and those of the
-    /// manager's: each offers on its own channels.
+    /// Returns the result of both sides in a round, from the turns of the client's side and those
+    /// of the manager's. Each side offers on its own channels.
     pub fn beside(&self, manager: &Turn) -> Turn
         ensures at { result.at ≡ of_both self.now.at manager.now.at }
         ensures offers { result.offers ≡ of_both self.now.offers manager.now.offers }
@@ -99,8 +101,9 @@ impl Turn {
         }
     }
 
-    /// Why each channel offers no more after the turns of both sides, where no beat was accepted in
-    /// them and nothing is under way at the meeting after them. None where the run goes on.
+    /// Returns the reason why each channel offers no more beats after the turns of both sides, if
+    /// no beat was accepted in them and nothing is under way at the meeting after them. Returns
+    /// `None` if the run continues.
     pub fn stops_at(&self, standings: &Standings) -> Option<PerChannel<Stop>>
         ensures stops { IfSome result (λ stops. self.now.offers ≡ all_stopped stops) }
         ensures rests { IfSome result (λ _. all_standing standings.now ≡ 0) }

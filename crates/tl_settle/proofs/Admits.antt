@@ -1,4 +1,5 @@
--- At every state that steps lead to, what was accepted is handed, and the next beat has no fault exactly where it is admitted.
+-- In every state that steps reach, the accepted beats are handed, and the next beat has no fault if and only if it is
+-- admitted.
 use Rattle.tl_settle.proofs.Names.{◌≡◌, ◌<◌, ◌↔◌, ℕ, None, List, All, IsBeat, rules_a, rules_d, HeadA, HeadD, BeatOf, IsHanded, IsAdmitted}
 use Rattle.tl_settle.proofs.Names.{fault_after, Reaches, goes_a, goes_d, reads, opens_is}
 use Rattle.tl_settle.specs.Laws.{IsAtAdmitted}

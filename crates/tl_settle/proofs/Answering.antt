@@ -1,4 +1,5 @@
--- What a side answers to a beat, by the beat's fault, by whether it opens a message, and by what the side's history says of its source.
+-- The result of a side for a beat, from the beat's fault, whether it opens a message, and the side's history of its
+-- source.
 use Rattle.std.proofs.Common.{rules, ◌≡◌, ℕ, Bool, true, false, cond, Option, None, Some, List, refl, sym, ap, ◌∙◌}
 use Rattle.std.specs.Prelude.{◌==◌, ◌↔◌}
 use Rattle.std.proofs.lemmas.Bool.{false≢true}
@@ -17,7 +18,7 @@ use Rattle.tl_settle.proofs.Between.{opens}
 pub stopped : {A : Type 0} {o : Option A} {x : A} → o ≡ Some x → (false ≡ true) ↔ (o ≡ None)
 stopped {x = x} stops = (λ ok. absurd (false≢true ok), λ none. absurd (none-some x (sym none ∙ stops)))
 
--- the beat's fault comes first, and then, where it opens a message, what the side says
+-- the beat's fault comes first and then, if it opens a message, the result of the side
 abbrev gate : Option BeatFault → (opens : Bool) → Option SideFault → Option SideFault
 gate fault opens side = option_map_or (λ f. Some (Beat f)) fault (cond opens side None)
 
@@ -48,7 +49,7 @@ pub client_fault : {w : ℕ} (es : List (Event w)) (b : BeatOf HeadA w) (f : Bea
 client_fault {w} es b f e =
     gate_fault (fault_after rules_a (asked es) b) (left rules_a w (asked es) == 0) (busy_fault (is_some (open_request b.head.source (marks es)))) f e
 
--- and what its book says, by whether the source of a first beat is busy
+-- and the result of its book, from whether the source of a first beat is busy
 pub client_says : {K : Type 0} {w : ℕ} (es : List (Event w)) (b : BeatOf HeadA w) (place : Place K HeadA) (busy : Bool) →
     IsNext rules_a (asked es) b place →
     busy ≡ cond (place.index == 0) (is_some (open_request place.head.source (marks es))) false → client_answer es b ≡ busy_fault busy

@@ -5,7 +5,7 @@ use Rattle.tl_settle.proofs.Names.{Rules, BeatOf, left, rest_of, burst_of, count
 use Rattle.tl_settle.specs.Books.{IsNext}
 
 module _ {H K : Type 0} (r : Rules H) {w : ℕ} (bs : List (BeatOf H w)) (b : BeatOf H w) (place : Place K H) where
-  -- a beat stands at the first place exactly where nothing is left of the last message
+  -- a beat is at the first place if and only if nothing is left of the last message
   pub opens : IsNext r bs b place → (place.index == 0) ≡ (left r w bs == 0)
   opens next = by_rest (rest_of r w bs) (left-zero r w next.handed.handed) next.is_place.index
     where

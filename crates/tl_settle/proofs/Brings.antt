@@ -1,4 +1,4 @@
--- What a channel's accepted beats bring, in whole messages, and why its list goes no further.
+-- The whole messages in a channel's accepted beats, and the reason why its list stops.
 use Rattle.tl_settle.proofs.Names.{◌≡◌, ◌≢◌, ◌≤◌, ◌<◌, ◌+◌, ◌^◌, ◌↔◌, ℕ, suc, Bool, true, false, cond, Option, None, Some, List, [], ◌∷◌, ◌++◌}
 use Rattle.tl_settle.proofs.Names.{length, map, take, drop, refl, sym, ap, subst, ◌∙◌, arith, length-append, take-append-drop, ◌==◌, slice_get}
 use Rattle.tl_settle.proofs.Names.{option_map_or, IsBeat, BeatOf, BeatFault, SideFault, Beat, SourceBusy, NoRequest, SizeMismatch, Message, beats_of}
@@ -36,7 +36,7 @@ gathered_heads : {H : Type 0} (r : Rules H) (v : ℕ) (ms : List (Message H)) �
 gathered_heads r v [] = refl
 gathered_heads r v (m ∷ ms) = ap (λ q. m.head ∷ q) (gathered_heads r v ms)
 
--- what the layers below say of one channel, as `one_channel` ensures it
+-- the laws of the layers below for one channel, as `one_channel` ensures them
 abbrev pub Known : {H : Type 0} (r : Rules H) (w v : ℕ) → Type 0
 Known {H} r w v = record {
   exact : (bs : List (BeatOf H w)) (b : BeatOf H w) → IsHanded r bs → IsBeat r b →
@@ -51,7 +51,7 @@ Known {H} r w v = record {
 }
 
 module _ {H : Type 0} (r : Rules H) {w : ℕ} (some : (h : H) → 0 < beats_of r h w) where
-  -- where a head tells the home, the homes are those that the heads tell
+  -- if a head determines the home, the homes are those that the heads determine
   own_begun : ((h : H) (x : ℕ) → r.lane_address h x ≡ r.lane_address h 0) →
       {bs : List (BeatOf H w)} {homes : List ℕ} {ms : List (Message H)} {rest : List (BeatOf H w)} →
       Handed r w bs homes ms rest →
@@ -82,7 +82,7 @@ module _ {H : Type 0} (r : Rules H) {w : ℕ} (some : (h : H) → 0 < beats_of r
       is_handed : IsHanded r (take n near)
       is_handed = record { homes = homes; messages = ms; rest = rest; handed = handed }
 
-      -- what stops the next beat
+      -- the reason why the next beat is refused
       abbrev pub stops_next : BeatOf H w → Option SideFault
       stops_next b =
           option_map_or (λ fault. Some (Beat fault)) (fault_after r (take n near) b)
@@ -208,7 +208,7 @@ module _ {H : Type 0} (r : Rules H) {w : ℕ} (some : (h : H) → 0 < beats_of r
       abbrev own : List (BeatOf H w) → List ℕ
       own xs = map (λ h. r.lane_address h 0) (heads r w xs)
 
-      -- what stops the next beat, where nothing holds it back
+      -- the reason why the next beat is refused, if nothing holds it back
       abbrev fault_alone : List (BeatOf H w) → BeatOf H w → Option SideFault
       fault_alone xs b = option_map_or (λ fault. Some (Beat fault)) (fault_after r xs b) None
 

@@ -1,4 +1,4 @@
--- What the traits of A and D promise of their rules, said of the rules themselves.
+-- The laws of the traits of A and D, stated for their rules.
 use Rattle.tl_settle.proofs.Names.{◌≡◌, ℕ, true, false, Bool, refl, subst, ◌==◌, ◌&&◌, rules_a, rules_d, HeadA, HeadD, equal_true}
 use Rattle.std.specs.Bool.{beq}
 use Rattle.tl_burst.proofs.FaultsExact.{ChannelLaws}

@@ -1,5 +1,5 @@
--- What a script ends in, in whole messages: A and D at a state that steps lead to and that no step
--- leaves, and each other channel by itself.
+-- The final state of a script, in whole messages: A and D at a state that steps reach and that no step leaves, and each
+-- other channel by itself.
 use Rattle.tl_settle.proofs.Names.{◌≡◌, ◌≢◌, ◌≤◌, ◌<◌, ◌+◌, ◌-◌, ◌^◌, ◌↔◌, ℕ, zero, suc, Bool, true, false, cond, Option, None, Some, List, [], ◌∷◌}
 use Rattle.tl_settle.proofs.Names.{◌++◌, length, map, take, refl, sym, ap, subst, ◌∙◌, arith, append_assoc, length-filter}
 use Rattle.tl_settle.proofs.Names.{◌==◌, ◌&&◌, not, slice_get, All, option_map_or, is_none, filter, IsBeat, rules_a, rules_b, rules_c, rules_d}
@@ -21,7 +21,7 @@ use Rattle.tl_settle.proofs.Manager.{whole_asks}
 use Rattle.tl_settle.proofs.Settles.{Good, good, one_settled, there_behind, within}
 use Rattle.tl_settle.proofs.Sides.{nth_stays}
 
--- the next beat is stopped where no step goes
+-- the next beat is refused if no step is possible
 stays : {X Y : Type 0} (s : X → Option Y) (o : Option X) →
     option_map_or (λ x. is_none (s x)) o false ≡ false → (x : X) → o ≡ Some x → s x ≢ None
 stays s None e x f g = cc
@@ -30,7 +30,7 @@ stays s (Some y) e x f g =
     let u : is_none (s y) ≡ true = ap (λ z. is_none (s z)) same ∙ ap (λ q. is_none q) g in
     cc
 
--- what holds a beat back is no fault of its own
+-- the reason why a beat is held back is not a fault of its own
 never_a : (f : Bool) (fault : BeatFault) → cond f None (Some SourceBusy) ≡ Some (Beat fault) → ⊥
 never_a true fault e = cc
 never_a false fault e = cc
@@ -228,7 +228,7 @@ module _ {C M : ℕ} (near : 0 < C) (far : 0 < M) (a : List (BeatOf HeadA C))
       (held_response a d i j) (λ h fault e. never_d (is_release_ack h) _ _ fault e)
       (λ b. stops_d a d i j b) (λ b. refl) (stays (stops_d a d i j) (slice_get d j) stop))
 
--- a channel that nothing couples to another one, where a head tells the home
+-- a channel that does not depend on another channel, if a head determines the home
 alone : {H : Type 0} (r : Rules H) {w v : ℕ} → 0 < w → 0 < v → Known r w v →
     ((h : H) (x : ℕ) → r.lane_address h x ≡ r.lane_address h 0) →
     (bs : List (BeatOf H w)) → All (λ b. IsBeat r b) bs →

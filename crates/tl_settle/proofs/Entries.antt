@@ -1,4 +1,5 @@
--- A table stands for a side's history while each request begins an entry and each response other than ReleaseAck ends one.
+-- A table represents a side's history as long as each request begins an entry and each response other than ReleaseAck
+-- ends one.
 use Rattle.std.proofs.Common.{rules, ◌≡◌, ℕ, zero, suc, Bool, true, false, cond, Option, None, Some, List, [], ◌∷◌, ◌++◌, ◌<◌, length, map, refl, sym}
 use Rattle.std.proofs.Common.{ap, ◌∙◌, replicate}
 use Rattle.std.specs.Prelude.{slice_index_or, slice_set, ◌==◌, ◌&&◌, not}
@@ -44,7 +45,7 @@ remembered_none : (b : Bool) (o : Option HeadA) → remembered_of (cond b None o
 remembered_none true o = refl
 remembered_none false o = refl
 
--- a new table stands for no messages
+-- a new table represents no messages
 pub new_busy : (t : List Bool) → ((s : ℕ) → is_busy t s ≡ false) → AreBusy t []
 new_busy t e = record { each = e }
 

@@ -1,4 +1,4 @@
--- What is due goes on as more beats of a script are accepted.
+-- The far beats that are due grow as more beats of a script are accepted.
 use Rattle.tl_settle.proofs.Names.{◌≡◌, ◌≤◌, ◌<◌, ℕ, suc, List, [], ◌∷◌, ◌++◌, length, map, refl, sym, ap, ◌∙◌, arith, append_assoc, append-nil}
 use Rattle.tl_settle.proofs.Names.{length-map, map-append, rules_a, rules_d, HeadA, HeadD, BeatOf, Extends, more, take-grows, heads_extend, NoFaults}
 use Rattle.tl_settle.proofs.Names.{home_of, homes_after, far_a, far_d, requests, responses, heads}

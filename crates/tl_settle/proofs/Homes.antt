@@ -62,7 +62,7 @@ module _ {C M : ℕ} (near : 0 < C) (far : 0 < M) (a : List (BeatOf HeadA C)) (d
       (extends-on (there_on near far a d i (good near far a d r).a_fine) (whole_asks near far a d i)) in
       homes_given m.ordered (heads rules_a C a) on ∙ ap (λ hs. homes_after (heads rules_a C a) [] hs) (manager_answers near far a d i j es m)
 
-  -- so what the beats accepted on each side make due, with the homes given there, is what the definitions say
+  -- so the far beats of the beats accepted on each side, with the homes given there, are those of the definitions
   pub far_d_given : (i j : ℕ) (es : List (Event M)) → Reaches (goes_a a d) (goes_d a d) i j → ManagerIs a d i j es →
       due rules_d M C (answered es) (manager_homes es) ≡ far_d a d j
   far_d_given i j es r m =

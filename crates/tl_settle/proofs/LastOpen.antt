@@ -23,7 +23,8 @@ last_is_open s ms h i =
     ap (λ q. open_from s None q) i.parts ∙ open_over s None i.before (Asks h ∷ i.after) ∙
     ap (λ b. open_from s (cond b (Some h) (open_from s None i.before)) i.after) i.is_its ∙ rests s (Some h) i.after i.is_last
 
--- where a request is open, it is the last of its source that began, or it was open before, and none of its source began
+-- if a request is outstanding, it is the last of its source that began, or it was outstanding before, and none of its
+-- source began
 abbrev Found : (s : ℕ) (o : Option HeadA) (ms : List Mark) (h : HeadA) → Type 0
 Found s o ms h = IsOpenRequest s ms h ⊎ ((o ≡ Some h) × (list_all (λ m. not (is_of s m)) ms ≡ true))
 
@@ -64,7 +65,7 @@ found s o (Answers g ∷ ms) h e =
 pub open_is_last : (s : ℕ) (ms : List Mark) (h : HeadA) → open_request s ms ≡ Some h → IsOpenRequest s ms h
 open_is_last s ms h e = ⊎_elim (λ i. i) (λ p. let f : None ≡ Some h = p.0 in cc) (found s None ms h e)
 
--- a message that is of no source answers none
+-- a message that is of no source responds to none
 no_answer : (s : ℕ) (ms : List Mark) → list_all (λ m. not (is_of s m)) ms ≡ true → list_all (λ m. not (answers_to s m)) ms ≡ true
 no_answer s [] e = refl
 no_answer s (Asks h ∷ ms) e = no_answer s ms (and_parts (not (is_request_of s h)) (list_all (λ m. not (is_of s m)) ms) e).1
@@ -76,7 +77,7 @@ some_cond : (b : Bool) (h : HeadA) (o : Option HeadA) → is_some o ≡ true →
 some_cond true h o e = refl
 some_cond false h o e = e
 
--- an open request stays where no response of its source begins
+-- an outstanding request stays if no response of its source begins
 stays : (s : ℕ) (o : Option HeadA) (ms : List Mark) → is_some o ≡ true → list_all (λ m. not (answers_to s m)) ms ≡ true →
     is_some (open_from s o ms) ≡ true
 stays s o [] is e = is

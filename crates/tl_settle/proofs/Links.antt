@@ -1,4 +1,4 @@
--- Two links that a bridge joins: what it hands on at one of them is what the other one lets go.
+-- Two links that a bridge joins: the beats that it passes on from one of them are accepted by the rules of the other.
 use Rattle.tl_settle.proofs.Names.{◌≡◌, ◌≤◌, ◌<◌, ℕ, zero, suc, Bool, true, false, cond, Option, None, Some, List, [], ◌∷◌, ◌++◌, length, refl}
 use Rattle.tl_settle.proofs.Names.{sym, ap, subst, ◌∙◌, arith, length-filter, ◌==◌, slice_get, slice_get_past, option_map_or, is_some, filter}
 use Rattle.tl_settle.proofs.Names.{rules_a, rules_d, HeadA, HeadD, BeatOf, BeatFault, Beat, SourceBusy, Extends}
@@ -19,7 +19,7 @@ use Rattle.tl_settle.proofs.Orders.{asks, answers}
 use Rattle.tl_settle.proofs.SameHeads.{same_a, same_d}
 use Rattle.tl_settle.proofs.Sides.{nth_stays, to_response}
 
--- no fault, and where a message opens nothing that holds it back: that is an answer of None
+-- no fault and, if a message opens, nothing that holds it back: that is the result None
 ask_goes : (o : Option BeatFault) (request : Option HeadA) (l : ℕ) → o ≡ None → (l ≡ 0 → request ≡ None) →
     option_map_or (λ x. Some (Beat x)) o (cond (l == 0) (cond (is_some request) (Some SourceBusy) None) None) ≡ None
 ask_goes o request zero e f = rw (e, f refl) refl
@@ -42,8 +42,8 @@ module _ {C M : ℕ} (cw : IsWidth C) (mw : IsWidth M) where
   far = (width_bounds M mw).0
 
   module _ {client : List (Event C)} {manager : List (Event M)} (on_client : Obeyed client) (on_manager : Obeyed manager) where
-    -- A request comes to the manager's link where its source has none open: of each source, the client's link began no more requests than it saw
-    -- responses, and one; and the manager's link began those responses
+    -- A request comes to the manager's link while its source has none outstanding there. For each source, the client's
+    -- link began at most one request more than it received responses, and the manager's link began those responses
     request_free : (b : BeatOf HeadA M) → Extends (heads rules_a M (asked manager ++ b ∷ [])) (heads rules_a C (asked client)) →
         Extends (heads rules_d C (answered client)) (heads rules_d M (answered manager)) → left rules_a M (asked manager) ≡ 0 →
         open_request b.head.source (marks manager) ≡ None
@@ -70,7 +70,7 @@ module _ {C M : ℕ} (cw : IsWidth C) (mw : IsWidth M) where
         let high = there.high in
         here.is ∙ slice_get_past (filter (is_request_of s) (asks (marks manager))) (responses_to s (answers (marks manager))) (omega arith)
 
-    -- so it is let go there
+    -- so it is accepted there
     pub request_goes : (b : BeatOf HeadA M) → fault_after rules_a (asked manager) b ≡ None →
         Extends (heads rules_a M (asked manager ++ b ∷ [])) (heads rules_a C (asked client)) →
         Extends (heads rules_d C (answered client)) (heads rules_d M (answered manager)) → client_answer manager b ≡ None
@@ -78,8 +78,8 @@ module _ {C M : ℕ} (cw : IsWidth C) (mw : IsWidth M) where
         ask_goes (fault_after rules_a (asked manager) b) (open_request b.head.source (marks manager)) (left rules_a M (asked manager)) fine
         (request_free b on seen)
 
-    -- A response comes to the client's link where its request is open, with that size: it has the same number there among those of its source, and
-    -- the manager's link began it where the request of that number was open
+    -- A response comes to the client's link while its request is outstanding, with that size: it has the same number
+    -- there among those of its source, and the manager's link began it while the request of that number was outstanding
     response_meets : (b : BeatOf HeadD C) → Extends (heads rules_a M (asked manager)) (heads rules_a C (asked client)) →
         Extends (heads rules_d C (answered client ++ b ∷ [])) (heads rules_d M (answered manager)) → left rules_d C (answered client) ≡ 0 →
         is_release_ack b.head ≡ false →
@@ -106,7 +106,7 @@ module _ {C M : ℕ} (cw : IsWidth C) (mw : IsWidth M) where
         ap (λ hs. slice_get (filter (is_request_of s) hs) k) (asks_heads 0 0 client) ∙ nth_stays (is_request_of s) k q.0 seen begun in
         (q.0, here.is ∙ met, q.2)
 
-    -- so it is let go there
+    -- so it is accepted there
     pub response_goes : (b : BeatOf HeadD C) → fault_after rules_d (answered client) b ≡ None →
         Extends (heads rules_a M (asked manager)) (heads rules_a C (asked client)) →
         Extends (heads rules_d C (answered client ++ b ∷ [])) (heads rules_d M (answered manager)) → manager_answer client b ≡ None
@@ -114,7 +114,7 @@ module _ {C M : ℕ} (cw : IsWidth C) (mw : IsWidth M) where
         answer_goes (fault_after rules_d (answered client) b) (open_request b.head.source (marks client)) b.head (left rules_d C (answered client))
         (is_release_ack b.head) fine (response_meets b seen on)
 
-  -- what has begun there of what has come has begun here
+  -- the messages begun there by the beats that have arrived have begun here
   pub asks_behind : (es : List (Event C)) (homes : List ℕ) {taken : List (BeatOf HeadA M)} → Obeyed es →
       Extends taken (due rules_a C M (asked es) homes) → Extends (heads rules_a M taken) (heads rules_a C (asked es))
   asks_behind es homes o on =
@@ -125,7 +125,7 @@ module _ {C M : ℕ} (cw : IsWidth C) (mw : IsWidth M) where
   answers_behind es homes o on =
       extends-on (heads_extend rules_d C on) (due_behind rules_d same_d M far C near (answered es) homes (read_d far o))
 
-  -- the same for as many beats as are taken, one after the other, where these beats were accepted
+  -- the same for all beats that are taken, one after the other, if these beats were accepted
   module _ (sent_a : List (BeatOf HeadA C)) (a_homes : List ℕ) (sent_d : List (BeatOf HeadD M)) (d_homes : List ℕ)
       (handed_a : IsHandedWith rules_a sent_a a_homes) (handed_d : IsHandedWith rules_d sent_d d_homes)
     where
@@ -187,7 +187,8 @@ answered-append [] fs = refl
 answered-append (Ask b ∷ es) fs = answered-append es fs
 answered-append (Answer b ∷ es) fs = ap (λ q. b ∷ q) (answered-append es fs)
 
--- A round that begins where both links obey the rules: each side goes on by itself, and takes only what was due then. So both links obey them still
+-- A round that begins when both links obey the rules: each side advances by itself, and takes only beats that were due
+-- then. So both links still obey them
 module _ {C M : ℕ} (cw : IsWidth C) (mw : IsWidth M) (client : List (Event C)) (manager : List (Event M)) (oc : Obeyed client) (om : Obeyed manager)
     (a_homes d_homes : List ℕ) (handed_a : IsHandedWith rules_a (asked client) a_homes) (handed_d : IsHandedWith rules_d (answered manager) d_homes)
   where

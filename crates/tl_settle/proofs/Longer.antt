@@ -1,4 +1,4 @@
--- A script that goes on: its steps stay possible, and what it ends in only grows.
+-- A longer script: its steps stay possible, and its final state only grows.
 use Rattle.tl_settle.proofs.Names.{◌≡◌, ◌≤◌, ◌<◌, ℕ, zero, suc, Bool, true, false, cond, Option, None, Some, List, [], ◌∷◌, ◌++◌, length, take, map}
 use Rattle.tl_settle.proofs.Names.{refl, sym, ap, subst, ◌∙◌, arith, append_assoc, append-nil, length-map, length-filter, ◌==◌, nat_lt, slice_get}
 use Rattle.tl_settle.proofs.Names.{length-append, SideFault, option_map_or, is_none, filter, rules_a, rules_b, rules_c, rules_d, rules_e, HeadA, HeadD, BeatOf, BeatFault}
@@ -147,7 +147,8 @@ module _ {C M : ℕ} (near : 0 < C) (far : 0 < M) (a others_a : List (BeatOf Hea
         ap (λ bs. stops rules_a (take i a) (λ h. unless (requests_of h.source (requests a d i) ==
         responses_to h.source (heads rules_d C bs)) SourceBusy) b) same_far_d
 
-    -- what holds back a response that begins after these beats, where these requests are the manager's side's, by all requests of a script
+    -- the reason why a response that begins after these beats is held back, if these requests are the manager's side's,
+    -- given all requests of a script
     abbrev held : List HeadA → List (BeatOf HeadD M) → List (BeatOf HeadA M) → BeatOf HeadD M → Option SideFault
     held qs bs asks b = stops rules_d bs (λ h.
         cond (is_release_ack h) None

@@ -35,7 +35,7 @@ manager_first None true request h f e = cc
 manager_first None false None h f e = cc
 manager_first None false (Some q) h f e = (q, refl)
 
--- what a request that is open, or isn't, answers
+-- the result for a request that is outstanding, or is not
 same_request : (request : Option HeadA) (h : HeadD) (n s : Bool) → (request ≡ None → n ≡ false) →
     ((q : HeadA) → request ≡ Some q → (n ≡ true) × (s ≡ (q.size == h.size))) →
     to_request request h ≡ cond n (cond s None (Some SizeMismatch)) (Some NoRequest)
@@ -57,7 +57,7 @@ module _ {C M : ℕ} (near : 0 < C) (far : 0 < M) (a : List (BeatOf HeadA C)) (d
   whole_asks i = subst (λ bs. Extends (requests a d i) (heads rules_a C bs)) (take-append-drop i a)
       (heads_grow rules_a C 0 (take i a) (drop i a))
 
-  -- what is open at the manager's side is the partner of the next response, and has begun there
+  -- the request that is outstanding at the manager's side is the partner of the next response, and has begun there
   opened : (i j s : ℕ) (es : List (Event M)) (q : HeadA) → Reaches (goes_a a d) (goes_d a d) i j → ManagerIs a d i j es →
       open_request s (marks es) ≡ Some q →
       (partner (heads rules_a C a) (responses a d j) s ≡ Some q) ×
@@ -117,7 +117,7 @@ module _ {C M : ℕ} (near : 0 < C) (far : 0 < M) (a : List (BeatOf HeadA C)) (d
     ordered = answer_ordered es b (left rules_d M (answered es)) (is_release_ack b.head) refl refl m.ordered ok;
   }
 
-  -- a request comes where its source has none open
+  -- a request arrives while its source has none outstanding
   request_comes : (i j : ℕ) (es : List (Event M)) (b : BeatOf HeadA M) → Reaches (goes_a a d) (goes_d a d) i j → ManagerIs a d i j es →
       Extends (asked es ++ b ∷ []) (far_a a d i) → left rules_a M (asked es) ≡ 0 → open_request b.head.source (marks es) ≡ None
   request_comes i j es b r m on e =
@@ -151,7 +151,7 @@ module _ {C M : ℕ} (near : 0 < C) (far : 0 < M) (a : List (BeatOf HeadA C)) (d
     ordered = ask_ordered i j es b (left rules_a M (asked es)) refl r m on;
   }
 
-  -- once all is taken, the side's answer is what stops the step
+  -- once all beats are taken, the side's reason to refuse a beat is the one of the step
   none_open : (i j s : ℕ) (es : List (Event M)) → ManagerIs a d i j es → asked es ≡ far_a a d i → open_request s (marks es) ≡ None →
       nat_lt (responses_to s (responses a d j)) (requests_of s (requests_there a d i)) ≡ false
   none_open i j s es m all e =

@@ -1,4 +1,5 @@
--- What the proofs of this crate name most, of the library and of the definitions, passed on by one module.
+-- The names that the proofs of this crate use most, from the library and from the definitions, re-exported by one
+-- module.
 pub use Rattle.std.proofs.Common.{◌≡◌, ◌<◌, ◌↔◌, ℕ, None, List, ◌≢◌, ◌≤◌, ◌+◌, ◌^◌, suc, Bool, true, false, cond, Option, Some, [], ◌∷◌, ◌++◌, length}
 pub use Rattle.std.proofs.Common.{map, take, drop, refl, sym, ap, subst, ◌∙◌, arith, length-append, ◌-◌, zero, zero-le, append_assoc, append-nil, ◌⊎◌}
 pub use Rattle.std.proofs.Common.{inl, inr, ⊎_elim}

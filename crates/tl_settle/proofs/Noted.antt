@@ -1,4 +1,4 @@
--- What a book notes of one event more.
+-- The record of one more event in a book.
 use Rattle.tl_settle.proofs.Names.{◌≡◌, ◌==◌, ℕ, zero, suc, Bool, List, [], ◌∷◌, ◌++◌, refl, sym, ap, ◌∙◌}
 use Rattle.tl_settle.proofs.Names.{rules_a, rules_d, HeadA, HeadD, BeatOf, left, Event, Ask, Answer, Asks, Answers, asked, answered, marks}
 use Rattle.tl_settle.proofs.Names.{equal_true, not_equal}
@@ -29,7 +29,7 @@ marks_answer {w} es b = by_left (left rules_d w (answered es)) refl
         marks_answer_inside 0 0 n es b e ∙
         ap (λ t. begun_with t (Answers b.head) (marks es)) (sym (not_equal (left rules_d w (answered es)) 0 (λ z. absurd (cc (z, e)))))
 
--- what a side has noted of an event is what its history says, where `seen` are the beats of that channel
+-- the record of a side for an event is the one of its history, if `seen` are the beats of that channel
 pub noted_ask : {w : ℕ} (es : List (Event w)) (b : BeatOf HeadA w) (seen : List (BeatOf HeadA w)) (first : Bool) → asked es ≡ seen →
     first ≡ (left rules_a w seen == 0) → begun_with first (Asks b.head) (marks es) ≡ marks (es ++ Ask b ∷ [])
 noted_ask {w} es b seen first same opens =

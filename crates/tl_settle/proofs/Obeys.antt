@@ -22,7 +22,7 @@ pub data Obeyed {w : ℕ} : List (Event w) → Type 0 where
   with_ask : (es : List (Event w)) (b : BeatOf HeadA w) → Obeyed es → client_answer es b ≡ None → Obeyed (es ++ Ask b ∷ [])
   with_answer : (es : List (Event w)) (b : BeatOf HeadD w) → Obeyed es → manager_answer es b ≡ None → Obeyed (es ++ Answer b ∷ [])
 
--- ---- the two ways to say it
+-- ---- the two formulations
 
 obeyed_on : {w : ℕ} (es before rest : List (Event w)) → ObeysRules es → Obeyed before → es ≡ before ++ rest → Obeyed es
 obeyed_on es before [] o b e = subst Obeyed (sym (e ∙ append-nil before)) b
@@ -35,7 +35,7 @@ obeyed_on es before (Answer x ∷ rest) o b e =
 pub obeyed : {w : ℕ} (es : List (Event w)) → ObeysRules es → Obeyed es
 obeyed es o = obeyed_on es [] es o silent refl
 
--- an event stands in a list with one more where it stood before, or is the last one
+-- an event is in a list with one more if it was in it before, or is the last one
 at_last : {X : Type 0} (es : List X) (x y : X) (before after : List X) → es ++ x ∷ [] ≡ before ++ y ∷ after →
     ((others : List X) × (es ≡ before ++ y ∷ others)) ⊎ ((es ≡ before) × (x ≡ y))
 at_last es x y before after e = ⊎_elim
@@ -67,7 +67,7 @@ same_ask e = cc
 same_answer : {w : ℕ} {x y : BeatOf HeadD w} → Answer x ≡ Answer y → x ≡ y
 same_answer e = cc
 
--- one event more, which is let go where it is of that channel
+-- one more event, which is accepted if it is of that channel
 pub requests_ask : {w : ℕ} (es : List (Event w)) (b : BeatOf HeadA w) → RequestsObey es → client_answer es b ≡ None → RequestsObey (es ++ Ask b ∷ [])
 requests_ask es b o fine before after c e = ⊎_elim
     (λ (others, f). o before others c f)
@@ -110,7 +110,7 @@ obeys_ask es b o fine = record { requests = requests_ask es b o.requests fine; r
 pub obeys_answer : {w : ℕ} (es : List (Event w)) (b : BeatOf HeadD w) → ObeysRules es → manager_answer es b ≡ None → ObeysRules (es ++ Answer b ∷ [])
 obeys_answer es b o fine = record { requests = requests_answer es b o.requests; responses = responses_answer es b o.responses fine }
 
--- ---- what an answer of None says
+-- ---- the meaning of the result None
 
 no_fault : (o : Option BeatFault) (rest : Option SideFault) → option_map_or (λ x. Some (Beat x)) o rest ≡ None → o ≡ None
 no_fault (Some x) rest e = cc
@@ -175,7 +175,7 @@ ordered silent = unmarked
 ordered (with_ask es b o ok) = ordered_ask es b (left rules_a _ (asked es)) refl ok (ordered o)
 ordered (with_answer es b o ok) = ordered_answer es b (left rules_d _ (answered es)) (is_release_ack b.head) refl refl ok (ordered o)
 
--- ---- each response has the size of the request that it answers
+-- ---- each response has the size of its request
 
 abbrev pub AreSized : List HeadA → List HeadD → Type 0
 AreSized qs rs = (s k : ℕ) (h : HeadD) → slice_get (filter (is_response_to s) rs) k ≡ Some h →
@@ -237,7 +237,7 @@ sized silent = λ s k h e. absurd (cc)
 sized (with_ask es b o ok) = sized_ask es b (left rules_a _ (asked es)) refl (sized o)
 sized (with_answer es b o ok) = sized_answer es b (left rules_d _ (answered es)) refl (ordered o) ok (sized o)
 
--- ---- the heads of its beats tell where messages begin
+-- ---- the heads of its beats determine where messages begin
 
 pub read_a : {w : ℕ} (near : 0 < w) {es : List (Event w)} → Obeyed es → IsRead rules_a same_a w near (asked es)
 read_a near silent = is-read-none rules_a same_a _ near

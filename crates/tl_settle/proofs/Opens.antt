@@ -54,7 +54,8 @@ at_end [] x (suc k) e = absurd (omega arith)
 at_end (y ∷ xs) x zero e = absurd (omega arith)
 at_end (y ∷ xs) x (suc k) e = at_end xs x k (omega arith)
 
--- What is open at s is the request whose number is that of the responses so far; of these there are as many as requests, or one less.
+-- The outstanding request at s is the one whose number is the number of responses so far; there are as many responses
+-- as requests, or one less.
 pub record Match (o : Option HeadA) (qs : List HeadA) (rs : List HeadD) (s : ℕ) : Type 0 where
   pub is : o ≡ partner qs rs s
   pub low : responses_to s rs ≤ requests_of s qs

@@ -13,7 +13,8 @@ answers [] = []
 answers (Asks h ∷ ms) = answers ms
 answers (Answers h ∷ ms) = h ∷ answers ms
 
--- each request begins where its source has none open, and each response other than ReleaseAck where one is open
+-- each request begins when its source has none outstanding, and each response other than ReleaseAck when one is
+-- outstanding
 pub data Ordered : List Mark → Type 0 where
   unmarked : Ordered []
   ask : (ms : List Mark) (h : HeadA) → Ordered ms → open_request h.source ms ≡ None → Ordered (ms ++ Asks h ∷ [])

@@ -2,7 +2,8 @@
 use Rattle.tl_settle.proofs.Names.{◌≡◌, ◌≤◌, ◌<◌, ◌+◌, ◌⊎◌, ℕ, zero, suc, Bool, true, false, refl, sym, ap, subst, ◌∙◌, arith, zero-le, ⊎_elim, cond}
 use Rattle.tl_settle.proofs.Names.{true≢false, IsTheSettled, Reaches, Settled, State, by_a, by_d, next, settle, start}
 
--- A step that may go stays possible while the other list goes on: so there is one settled state, and no run goes past it.
+-- A possible step stays possible while the other list advances: so there is one settled state, and no run goes beyond
+-- it.
 module _ (goes_a goes_d : ℕ → ℕ → Bool) (n m : ℕ)
     (Good : ℕ → ℕ → Type 0)
     (good_start : Good 0 0)
@@ -18,7 +19,7 @@ module _ (goes_a goes_d : ℕ → ℕ → Bool) (n m : ℕ)
     good (by_a i j r g) = good_a i j (good r) g
     good (by_d i j r g) = good_d i j (good r) g
 
-    -- a number that isn't above k, or is k itself
+    -- a number that is not above k, or is k itself
     split : (i k : ℕ) → i ≤ k → (suc i ≤ k) ⊎ (i ≡ k)
     split i k h = grind arith
 
@@ -54,12 +55,12 @@ module _ (goes_a goes_d : ℕ → ℕ → Bool) (n m : ℕ)
         ap (λ c. cond c (record { a = suc s.a; d = s.d }) (cond (goes_d s.a s.d) (record { a = s.a; d = suc s.d }) s)) e ∙
         ap (λ c. cond c (record { a = s.a; d = suc s.d }) s) f
 
-    -- where nothing goes, more fuel changes nothing
+    -- if no step is possible, more fuel changes nothing
     still : (fuel : ℕ) (s : State) → goes_a s.a s.d ≡ false → goes_d s.a s.d ≡ false → settle goes_a goes_d fuel s ≡ s
     still zero s e f = refl
     still (suc fuel) s e f = ap (λ x. settle goes_a goes_d fuel x) (next_none s e f) ∙ still fuel s e f
 
-    -- a state that may be reached goes on to a settled one
+    -- a state that can be reached leads to a settled one
     onward : (fuel : ℕ) (s : State) (p q : Bool) → goes_a s.a s.d ≡ p → goes_d s.a s.d ≡ q → Reaches goes_a goes_d s.a s.d →
         (s.a ≤ n) × (s.d ≤ m) → n + m ≤ s.a + s.d + fuel →
         Settled goes_a goes_d (settle goes_a goes_d fuel s).a (settle goes_a goes_d fuel s).d

@@ -1,4 +1,5 @@
--- Worked examples: the verdicts of A and D at settled states, what crosses, and what each side answers by its history.
+-- Worked examples: the verdicts of A and D at settled states, the far beats, and the result of each side, given its
+-- history.
 use Rattle.tl_settle.proofs.Names.{◌≡◌, ℕ, false, None, Some, List, [], ◌∷◌, refl, map, range_with_len, HeadA, HeadD, BeatOf, Beat, SourceBusy}
 use Rattle.tl_settle.proofs.Names.{NoRequest, SizeMismatch, rules_a, rules_e, far_a, far_d, settled_state, Ask, Answer, client_answer, manager_answer}
 use Rattle.tl_settle.proofs.Names.{manager_home, verdict_a, verdict_d, verdict_alone}
@@ -39,12 +40,12 @@ unasked = refl
 twice : outcome {C = 4} {M = 4} (get_at 1 0 ∷ get_at 1 4 ∷ []) (tells 4 1 0 2 1 17 ∷ tells 4 1 0 2 1 34 ∷ []) ≡ (Done 2 2, Done 2 2)
 twice = refl
 
--- the same, where the first response is to a request that never goes out
+-- the same, if the first response is to a request that never goes out
 crossed : outcome {C = 4} {M = 4} (get_at 1 0 ∷ get_at 1 4 ∷ get_at 2 8 ∷ []) (tells 4 1 0 2 2 17 ∷ tells 4 1 0 2 1 34 ∷ []) ≡
     (Waiting 1 SourceBusy, Waiting 0 NoRequest)
 crossed = refl
 
--- a response that is smaller than its bus stands on the lanes of its request's address
+-- a response that is smaller than its bus is on the lanes of its request's address
 abbrev wide_reply : BeatOf HeadD 16
 wide_reply = record {
   head = record { opcode = 1; param = 0; size = 2; source = 17; sink = 0; denied = false };
@@ -76,7 +77,7 @@ unseen = refl
 seen : outcome {C = 4} {M = 4} (asks 4 0 3 1 16 15 ∷ []) (tells 4 0 0 3 1 0 ∷ []) ≡ (Cut 1 1, Done 1 1)
 seen = refl
 
--- half a response frees its source where the client sees it
+-- half a response frees its source when the client sees it
 freed : outcome {C = 4} {M = 4} (asks 4 6 3 1 0 15 ∷ asks 4 6 3 1 0 15 ∷ []) (tells 4 5 1 3 1 0 ∷ []) ≡ (Done 2 2, Cut 1 1)
 freed = refl
 
@@ -102,7 +103,7 @@ broken_alone = refl
 cut_short : outcome {C = 4} {M = 8} (asks 4 0 4 1 32 15 ∷ asks 4 0 4 1 32 15 ∷ asks 4 0 4 1 32 15 ∷ []) [] ≡ (Cut 3 1, Done 0 0)
 cut_short = refl
 
--- faults of single beats: a mask that isn't whole, an address that isn't aligned
+-- faults of single beats: an incomplete mask, an unaligned address
 masked : outcome {C = 4} {M = 4} (asks 4 4 2 0 0 7 ∷ []) [] ≡ (Refused 0 (Beat Mask), Done 0 0)
 masked = refl
 
@@ -120,7 +121,7 @@ two_acknowledged = refl
 nothing_sent : verdict_alone rules_e {w = 4} 8 [] ≡ Done 0 0
 nothing_sent = refl
 
--- ---- what crosses
+-- ---- the far beats
 
 abbrev only_far_a : List (BeatOf HeadA 4)
 only_far_a = let a = get_at 1 0 ∷ get_at 1 4 ∷ get_at 2 8 ∷ [] in let d = tells 4 1 0 2 2 17 ∷ tells 4 1 0 2 1 34 ∷ [] in
@@ -137,7 +138,7 @@ none_back = refl
 released : outcome {C = 64} {M = 1} [] (tells 1 6 0 6 3 0 ∷ []) ≡ (Done 0 0, Done 1 1)
 released = refl
 
--- ---- what the client's side answers
+-- ---- the results of the client's side
 
 -- a source is busy from its request on
 in_use : client_answer (Ask (get_at 1 0) ∷ []) (get_at 1 4) ≡ Some SourceBusy
@@ -154,7 +155,7 @@ free_at_first_beat = refl
 not_released : client_answer (Ask (get_at 1 0) ∷ Answer (tells 4 6 0 2 1 0) ∷ []) (get_at 1 4) ≡ Some SourceBusy
 not_released = refl
 
--- a beat's own fault comes before a busy source
+-- a beat's own fault is reported before a busy source
 fault_first : client_answer (Ask (get_at 1 0) ∷ []) (asks 4 4 2 1 2 15) ≡ Some (Beat Unaligned)
 fault_first = refl
 
@@ -162,7 +163,7 @@ fault_first = refl
 inside_a_burst : client_answer (Ask (asks 4 0 3 1 16 15) ∷ []) (asks 4 0 3 1 16 15) ≡ None
 inside_a_burst = refl
 
--- ---- what the manager's side answers
+-- ---- the results of the manager's side
 
 unknown : manager_answer {w = 4} [] (tells 4 1 0 2 1 0) ≡ Some NoRequest
 unknown = refl

@@ -128,7 +128,7 @@ module _ {C M : ℕ} (near : 0 < C) (far : 0 < M) (a : List (BeatOf HeadA C)) (d
       ap (λ o. option_map_or (λ x. is_none (stops_d a d i j x)) o false) e ∙
       not_none (stops_d a d i j b) (λ f. stops b e (manager.manager_stops near far a d i j em b r m all ∙ f))
 
-  -- a run that is over is at the settled state, and each side's last answer is what the verdict reads
+  -- a run that is over is at the settled state, and each side's last result is the one that the verdict reads
   pub over : (i j : ℕ) (ec : List (Event C)) (em : List (Event M)) → IsOver a d i j ec em → IsSettledRun a d i j ec em
   over i j ec em o =
       let r : RunIs i j ec em = run_is o.run in

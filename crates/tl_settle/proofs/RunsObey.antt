@@ -33,11 +33,11 @@ module _ {C M : ℕ} (cw : IsWidth C) (mw : IsWidth M) (a : List (BeatOf HeadA C
   abbrev pub d_homes : ℕ → List ℕ
   d_homes j = homes_after (heads rules_a C a) [] (responses a d j)
 
-  -- where i beats of A and j of D were accepted in the end, which are handed
+  -- i beats of A and j of D were accepted at the end, which are handed
   module _ (i j : ℕ) (fine_a : NoFaults rules_a a i) (fine_d : NoFaults rules_d d j) (handed_a : IsHandedWith rules_a (take i a) (a_homes i))
       (handed_d : IsHandedWith rules_d (take j d) (d_homes j))
     where
-      -- a far beat that was taken before has no fault where it stands
+      -- a far beat that was taken before has no fault at its place
       fine_there_a : (k : ℕ) → k ≤ i → (taken : List (BeatOf HeadA M)) (b : BeatOf HeadA M) → Extends (taken ++ b ∷ []) (far_a a d k) →
           fault_after rules_a taken b ≡ None
       fine_there_a k l taken b on =
@@ -98,7 +98,7 @@ module _ {C M : ℕ} (cw : IsWidth C) (mw : IsWidth M) (a : List (BeatOf HeadA C
             manager_obeys x y ec em r o.0 o.1 x_before y_before y' fm manager_part,
           )
 
-  -- what was accepted is handed, with the homes that each side gave: so each link obeys the rules
+  -- the accepted beats are handed, with the homes that each side gave: so each link obeys the rules
   pub run_obeys : {i j : ℕ} {ec : List (Event C)} {em : List (Event M)} → Run a d i j ec em →
       IsHandedWith rules_a (asked ec) (map (λ h. h.address) (heads rules_a C (asked ec))) → IsHandedWith rules_d (answered em) (manager_homes em) →
       ObeysRules ec × ObeysRules em

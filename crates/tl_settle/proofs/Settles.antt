@@ -1,4 +1,5 @@
--- The settled state of A and D: a step that may go stays possible while the other channel goes on, and the steps of a round lead on.
+-- The settled state of A and D: a possible step stays possible while the other channel advances, and the steps of a
+-- round continue.
 use Rattle.tl_settle.proofs.Names.{◌≡◌, ◌≤◌, ◌<◌, ◌+◌, ◌-◌, ◌≢◌, ℕ, zero, suc, Bool, true, false, cond, Option, None, Some, List, [], ◌∷◌, ◌++◌}
 use Rattle.tl_settle.proofs.Names.{length, take, map, refl, sym, ap, subst, ◌∙◌, arith, zero-le, ⊎_elim, eqb_tells, slice_get_within, nat_lt, ◌==◌}
 use Rattle.tl_settle.proofs.Names.{◌&&◌, not, slice_get, option_map_or, is_none, rules_a, rules_d, HeadA, HeadD, BeatOf, BeatFault, SideFault, Beat}
@@ -11,7 +12,7 @@ use Rattle.tl_settle.proofs.SameHeads.{same_a, same_d}
 use Rattle.tl_settle.proofs.Orders.{IsRound}
 use Rattle.tl_settle.proofs.Persist.{settles}
 
--- what stops a beat, by its parts
+-- the reason why a beat is refused, by its parts
 busy_imp : (o : Option BeatFault) (l f f' : Bool) → (f ≡ true → f' ≡ true) →
     is_none (option_map_or (λ x. Some (Beat x)) o (cond l (cond f None (Some SourceBusy)) None)) ≡ true →
     is_none (option_map_or (λ x. Some (Beat x)) o (cond l (cond f' None (Some SourceBusy)) None)) ≡ true
@@ -50,8 +51,8 @@ abbrev pub responses_there : {C M : ℕ} (a : List (BeatOf HeadA C)) (d : List (
 responses_there {C} {M} a d j = heads rules_d C (far_d a d j)
 
 module _ {C M : ℕ} (near : 0 < C) (far : 0 < M) (a : List (BeatOf HeadA C)) (d : List (BeatOf HeadD M)) where
-  -- what holds at every state that steps lead to: no beat has a fault, and of each source no more responses have begun than requests have begun
-  -- at the manager's side
+  -- the property of every state that steps reach: no beat has a fault, and for each source no more responses have begun
+  -- than requests at the manager's side
   pub record Good (i j : ℕ) : Type 0 where
     pub a_fine : NoFaults rules_a a i
     pub d_fine : NoFaults rules_d d j
@@ -142,7 +143,8 @@ module _ {C M : ℕ} (near : 0 < C) (far : 0 < M) (a : List (BeatOf HeadA C)) (d
             (sym (take-next d j found.0 found.1)) (after_d i j found.0 (left rules_d M (take j d)) refl found.2 g s);
       }
 
-  -- a beat of A that may go stays so while D goes on: what has come back lies between what came back before and what was asked
+  -- a beat of A that can be accepted stays so while D advances: the responses that have come back are between those
+  -- before and the requests
   pub stays_a : (i j k : ℕ) → Good i k → j ≤ k → goes_a a d i j ≡ true → goes_a a d i k ≡ true
   stays_a i j k g h e =
       map_imp (λ b. is_none (stops_a a d i j b)) (λ b. is_none (stops_a a d i k b)) (slice_get a i)
@@ -159,7 +161,7 @@ module _ {C M : ℕ} (near : 0 < C) (far : 0 < M) (a : List (BeatOf HeadA C)) (d
       stop)
       e
 
-  -- and a beat of D that may go stays so while A goes on
+  -- and a beat of D that can be accepted stays so while A advances
   pub stays_d : (i j k : ℕ) → Good k j → i ≤ k → goes_d a d i j ≡ true → goes_d a d k j ≡ true
   stays_d i j k g h e =
       map_imp (λ b. is_none (stops_d a d i j b)) (λ b. is_none (stops_d a d k j b)) (slice_get d j)

@@ -1,4 +1,5 @@
--- The client's side within a run: what it accepts is a step, and what it answers, once all that is due is taken, is what stops the step.
+-- The client's side within a run: accepting a beat is a step, and its reason to refuse one, once all due beats are
+-- taken, is the one of the step.
 use Rattle.tl_settle.proofs.Names.{◌≡◌, ◌≤◌, ◌<◌, ◌≢◌, ℕ, zero, suc, Bool, true, false, cond, Option, None, Some, List, [], ◌∷◌, ◌++◌, length, take}
 use Rattle.tl_settle.proofs.Names.{refl, sym, ap, subst, ◌∙◌, arith, zero-le, ⊎_elim, inl, inr, eqb_tells, slice_get_within, length-filter, ◌==◌}
 use Rattle.tl_settle.proofs.Names.{◌&&◌, not, slice_get, option_map_or, is_none, is_some, filter, rules_a, rules_d, HeadA, HeadD, BeatOf, BeatFault}
@@ -41,7 +42,7 @@ swap false f e = rw e refl
 pub to_response : (s : ℕ) (h : HeadD) → is_release_ack h ≡ false → h.source ≡ s → is_response_to s h ≡ true
 to_response s h e f = ap (λ b. not b && (h.source == s)) e ∙ equal_true h.source s f
 
--- the number of a request among those of a source stays while the list goes on
+-- the number of a request among those of a source stays the same while the list grows
 pub nth_stays : {X : Type 0} (p : X → Bool) (k : ℕ) (q : X) {xs ys : List X} → Extends xs ys → slice_get (filter p xs) k ≡ Some q →
     slice_get (filter p ys) k ≡ Some q
 nth_stays {X = X} p k q (more xs rest) e = ap (λ zs. slice_get zs k) (filter-append p xs rest) ∙ first_stays (filter p xs) (filter p rest) k e
@@ -52,7 +53,7 @@ nth_stays {X = X} p k q (more xs rest) e = ap (λ zs. slice_get zs k) (filter-ap
     first_stays (u ∷ us) vs (suc n) f = first_stays us vs n f
 
 module _ {C M : ℕ} (near : 0 < C) (far : 0 < M) (a : List (BeatOf HeadA C)) (d : List (BeatOf HeadD M)) where
-  -- of each source, no more requests have begun than responses at the client's side, and one
+  -- for each source, at most one request more has begun than responses at the client's side
   abbrev pub Tight : ℕ → ℕ → Type 0
   Tight i j = (s : ℕ) → requests_of s (requests a d i) ≤ suc (responses_to s (responses_there a d j))
 
@@ -96,7 +97,7 @@ module _ {C M : ℕ} (near : 0 < C) (far : 0 < M) (a : List (BeatOf HeadA C)) (d
       responses_to s (answers (marks es)) ≤ responses_to s (responses_there a d j)
   client_answers i j s es c = rw (answers_heads 0 0 es) (count-grows (is_response_to s) (heads_extend rules_d C c.taken))
 
-  -- where its table says that a source is free, the step's rule says it too
+  -- if its table says that a source is free, the step's rule says the same
   client_free : (i j s : ℕ) (es : List (Event C)) → Reaches (goes_a a d) (goes_d a d) i j → ClientIs a d i j es →
       is_some (open_request s (marks es)) ≡ false → is_free a d i j s ≡ true
   client_free i j s es r c e =
@@ -124,7 +125,7 @@ module _ {C M : ℕ} (near : 0 < C) (far : 0 < M) (a : List (BeatOf HeadA C)) (d
       client_imp (fault_after rules_a (take i a) b) (left rules_a C (take i a) == 0) (is_some (open_request b.head.source (marks es)))
       (is_free a d i j b.head.source) (client_free i j b.head.source es r c) here
 
-  -- and after it the side stands where the step leads
+  -- and after it the side is in the state of the step
   client_ordered : (es : List (Event C)) (b : BeatOf HeadA C) (l : ℕ) → left rules_a C (asked es) ≡ l → Ordered (marks es) →
       client_answer es b ≡ None →
       Ordered (marks (es ++ Ask b ∷ []))
@@ -145,7 +146,7 @@ module _ {C M : ℕ} (near : 0 < C) (far : 0 < M) (a : List (BeatOf HeadA C)) (d
     ordered = client_ordered es b (left rules_a C (asked es)) refl c.ordered ok;
   }
 
-  -- what the client's side takes leaves it in order: a response comes where its source is busy
+  -- the beats that the client's side takes arrive in order: a response comes while its source is busy
   response_comes : (i j : ℕ) (es : List (Event C)) (b : BeatOf HeadD C) → Reaches (goes_a a d) (goes_d a d) i j → ClientIs a d i j es →
       Extends (answered es ++ b ∷ []) (far_d a d j) → left rules_d C (answered es) ≡ 0 → is_release_ack b.head ≡ false →
       (q : HeadA) × (open_request b.head.source (marks es) ≡ Some q)
@@ -185,7 +186,7 @@ module _ {C M : ℕ} (near : 0 < C) (far : 0 < M) (a : List (BeatOf HeadA C)) (d
     ordered = takes_ordered i j es b (left rules_d C (answered es)) (is_release_ack b.head) refl refl r c on;
   }
 
-  -- once all is taken, the side's answer is what stops the step
+  -- once all beats are taken, the side's reason to refuse a beat is the one of the step
   busy_free : (i j s : ℕ) (es : List (Event C)) (p : Bool) → Reaches (goes_a a d) (goes_d a d) i j → ClientIs a d i j es →
       answered es ≡ far_d a d j → is_some (open_request s (marks es)) ≡ p → is_free a d i j s ≡ not p
   busy_free i j s es false r c all e = client_free i j s es r c e

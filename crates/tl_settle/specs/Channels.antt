@@ -1,12 +1,13 @@
--- How the channels of a script depend on each other, and what a longer script ends in (this project's choice).
+-- The dependence of the channels of a script on each other, and the final state of a longer script (this project's
+-- choice).
 use Rattle.std.specs.Prelude.{◌≡◌, ℕ, slice_get}
 use mathlib.Core.List.{IsPrefix}
 use Rattle.tl_settle.specs.Outcomes.{Beats, accepted_beats, far_beats, verdicts}
 
 module _ {C M : ℕ} where
-  -- Two scripts whose lists of one channel are the same end alike on that channel, whatever their other lists are: with the same far beats and the
-  -- same verdict. That holds of B, of C and of E, each by itself, and of A and D together, since a response answers a request. (The verdicts are
-  -- those of A to E, in this order.)
+  -- Two scripts with the same list of one channel have the same far beats and the same verdict on that channel,
+  -- whatever their other lists are. That holds of B, of C and of E, each by itself, and of A and D together, because a
+  -- response needs its request. (The verdicts are those of A to E, in this order.)
   pub record NoChannelBlocksAnother (one other : Beats C M) : Type 0 where
     pub far_b : one.b ≡ other.b → (far_beats one).b ≡ (far_beats other).b
     pub far_c : one.c ≡ other.c → (far_beats one).c ≡ (far_beats other).c
@@ -27,7 +28,8 @@ module _ {C M : ℕ} where
     pub d : IsPrefix first.d whole.d
     pub e : IsPrefix first.e whole.e
 
--- What a script ends in stays while it goes on: the near beats that are accepted stay accepted, and the far beats stay, with others behind them
+-- A longer script keeps the result of a shorter one: accepted near beats stay accepted, and the far beats stay, with
+-- others after them
 pub record OnlyLengthens {C M : ℕ} (script longer : Beats C M) : Type 0 where
   pub accepted : ArePrefixes (accepted_beats script) (accepted_beats longer)
   pub far : ArePrefixes (far_beats script) (far_beats longer)

@@ -1,6 +1,6 @@
--- What a script ends in, said of whole messages: which of them each channel accepts, what arrives,
--- and what stops it (TileLink: burst rules, byte lanes, source and size of responses; the moments
--- and the verdicts: this project's choice).
+-- The final state of a script, in whole messages: those that each channel accepts, the beats that arrive, and the
+-- reason why it stops (TileLink: burst rules, byte lanes, source and size of responses; the moments and the verdicts:
+-- this project's choice).
 use Rattle.std.specs.Prelude.{◌≡◌, ◌≢◌, ◌≤◌, ◌++◌, ℕ, None, Some, Option, List, [], length, map, take, slice_get, All}
 use Rattle.tl_msg.specs.Beats.{IsBeat}
 use Rattle.tl_msg.specs.Rules.{Rules}
@@ -25,7 +25,7 @@ use Rattle.tl_settle.specs.Outcomes.{Beats, far_beats, verdict_a, verdict_d, ver
 use Rattle.tl_settle.specs.Laws.{IsAtAdmitted}
 
 module _ {H : Type 0} (r : Rules H) {w : ℕ} where
-  -- Why a list of beats goes no further than its first n, which leave rest unfinished.
+  -- The reason why only the first n beats of a list are accepted, which leave rest unfinished.
   module _ (near : List (BeatOf H w)) (n : ℕ) (rest : List (BeatOf H w)) where
     -- the next beat is admitted, and opens a message
     pub record NextOpens (b : BeatOf H w) : Type 0 where
@@ -33,9 +33,9 @@ module _ {H : Type 0} (r : Rules H) {w : ℕ} where
       pub admitted : IsAdmitted r (take n near) b
       pub between : rest ≡ []
 
-    -- The verdict, where n beats make so many far beats due: all beats were accepted, and no
-    -- message is unfinished, or one is; or the next beat is not admitted; or it opens a message
-    -- that is held back, and waits, but for a response whose size is not that of its request.
+    -- The verdict, if n beats make `far` far beats due. All beats were accepted, with or without an unfinished message
+    -- at the end, or the next beat is not admitted, or it is the first of a message that is held back. Such a beat
+    -- waits, except for a response whose size is not that of its request.
     pub data IsVerdict (far : ℕ) (held : H → Option SideFault) : Verdict → Type 0 where
       all_done : n ≡ length near → rest ≡ [] → IsVerdict far held (Done n far)
       all_cut : n ≡ length near → rest ≢ [] → IsVerdict far held (Cut n far)
@@ -47,10 +47,10 @@ module _ {H : Type 0} (r : Rules H) {w : ℕ} where
       waits : (b : BeatOf H w) (fault : SideFault) → NextOpens b → held b.head ≡ Some fault →
           fault ≢ SizeMismatch → IsVerdict far held (Waiting n fault)
 
-  -- One channel. The first n beats of its list bring whole messages, one after the other, and then
-  -- rest, which is nothing or begins one more; homes has the home of each that has begun. What
-  -- arrives on the far side is the layout of the whole messages there, and of the one more as much
-  -- as has come. It is handed itself, by the same messages: no burst of it is interrupted.
+  -- One channel. The first n beats of its list are whole messages, one after the other, and then rest, which is empty
+  -- or begins one more; homes has the home of each message that has begun. The far beats are the layout of the whole
+  -- messages, and of the last one as far as its beats go. They are handed themselves, with the same messages: no burst
+  -- of them is interrupted.
   pub record Brings {v : ℕ} (near : List (BeatOf H w)) (far : List (BeatOf H v)) (n : ℕ)
       (homes : List ℕ) (held : H → Option SideFault) (verdict : Verdict) : Type 0 where
     pub messages : List (Message H)
@@ -59,14 +59,14 @@ module _ {H : Type 0} (r : Rules H) {w : ℕ} where
     pub handed : Handed r w (take n near) homes messages rest
     pub arrives : DueOf r w v messages homes rest far
     pub far_handed : FarIsHanded r far homes messages rest
-    -- so the messages that the heads of beats are said to begin are these
+    -- so the heads of the far beats are those of these messages
     pub begun : heads r w (take n near) ≡ map (λ m. m.head) messages ++ rest_heads r w rest
     pub begun_there :
         heads r v far ≡ map (λ m. m.head) messages ++ rest_heads r v far_handed.far_rest
     pub verdict_is : IsVerdict near n rest (length far) held verdict
 
-  -- A channel that nothing couples to another one: nothing is held back, and of its list the
-  -- longest first part that is handed is accepted. The homes are those that the heads say.
+  -- A channel that does not depend on another channel: nothing is held back, and the longest handed first part of its
+  -- list is accepted. The homes are those that the heads determine.
   pub record BringsAlone {v : ℕ} (near : List (BeatOf H w)) (far : List (BeatOf H v))
       (verdict : Verdict) : Type 0 where
     pub longest : IsLongest r near
@@ -76,7 +76,7 @@ module _ {H : Type 0} (r : Rules H) {w : ℕ} where
 
 -- the near beats of a script
 module _ {C M : ℕ} (near : Beats C M) where
-  -- they are such as memory can hold
+  -- memory can hold them
   pub record AreBeats : Type 0 where
     pub a : All (λ x. IsBeat rules_a x) near.a
     pub b : All (λ x. IsBeat rules_b x) near.b
@@ -84,11 +84,10 @@ module _ {C M : ℕ} (near : Beats C M) where
     pub d : All (λ x. IsBeat rules_d x) near.d
     pub e : All (λ x. IsBeat rules_e x) near.e
 
-  -- They end at the one settled state of A and D, to which steps lead that accept admitted beats
-  -- alone. There a request is held back while its source is busy, and a response other than
-  -- ReleaseAck while no request of its source waits for it, or where that has another size. The
-  -- home of a request is its address, that of a response the address of the request that it
-  -- answers.
+  -- They end at the one settled state of A and D, which is reached by steps that accept only admitted beats. There a
+  -- request is held back while its source is busy. A response other than ReleaseAck is held back if no request of its
+  -- source waits for it, or if that request has another size. The home of a request is its address, and that of a
+  -- response the address of its request.
   pub record EndsInMessages : Type 0 where
     pub settled : IsSettledState near.a near.d (settled_state near.a near.d)
     pub admitted : (i j : ℕ) → Reaches (goes_a near.a near.d) (goes_d near.a near.d) i j →

@@ -1,4 +1,4 @@
--- How far a script comes, in the words of the link: lists in which no burst is interrupted.
+-- How far a script is accepted, in terms of the link: lists in which no burst is interrupted.
 use Rattle.std.specs.Prelude.{◌≡◌, ◌↔◌, ◌++◌, ℕ, Bool, true, false, not, None, Some, List, [], ◌∷◌, take, slice_get}
 use Rattle.std.specs.List.{list_all}
 use Rattle.std.specs.Option.{is_some}
@@ -11,9 +11,9 @@ use Rattle.tl_burst.specs.Begun.{left}
 use Rattle.tl_settle.specs.Histories.{Mark, Asks, Answers, open_request}
 use Rattle.tl_settle.specs.Requests.{is_request_of, is_response_to}
 
--- Where i beats of A and j of D were accepted, they are handed; the next beat of a list has no fault exactly where it is admitted, and it opens a
--- message exactly where nothing is left of the last one: so a step accepts only beats that are admitted, and a verdict names a beat's fault exactly
--- where the beat is not admitted
+-- After i accepted beats of A and j of D, these are handed. The next beat of a list has no fault if and only if it is
+-- admitted, and it is the first of a message if and only if nothing is left of the last one. So a step accepts only
+-- admitted beats, and a verdict names a beat's fault if and only if the beat is not admitted
 pub record IsAtAdmitted {C M : ℕ} (a : List (BeatOf HeadA C)) (d : List (BeatOf HeadD M)) (i j : ℕ) : Type 0 where
   pub a_handed : IsHanded rules_a (take i a)
   pub d_handed : IsHanded rules_d (take j d)
@@ -32,7 +32,7 @@ abbrev pub answers_to : (s : ℕ) → Mark → Bool
 answers_to s (Asks h) = false
 answers_to s (Answers h) = is_response_to s h
 
--- the open request of source s among messages that have begun, one after the other: the last of them that is of s
+-- the outstanding request of source s among messages that have begun, in order: the last of them that is of s
 pub record IsOpenRequest (s : ℕ) (ms : List Mark) (h : HeadA) : Type 0 where
   pub before : List Mark
   pub after : List Mark
@@ -49,7 +49,7 @@ pub record IsBusy (s : ℕ) (ms : List Mark) : Type 0 where
   pub is_its : is_request_of s request ≡ true
   pub unanswered : list_all (λ m. not (answers_to s m)) after ≡ true
 
--- what a side's calls look up says the same
+-- the value that a side's calls look up is the same
 pub record OpenIsLast : Type 0 where
   pub request : (s : ℕ) (ms : List Mark) (h : HeadA) → (open_request s ms ≡ Some h) ↔ IsOpenRequest s ms h
   pub busy : (s : ℕ) (ms : List Mark) → (is_some (open_request s ms) ≡ true) ↔ IsBusy s ms

@@ -1,5 +1,6 @@
--- A link obeys the protocol's rules: each beat of A and of D that it has carried was allowed by the beats before it (TileLink: burst rules, source
--- and size of responses; the moments at which a source is busy and a request is open: this project's choice).
+-- A link obeys the protocol's rules: each beat of A and of D that it has carried was allowed after the beats before it
+-- (TileLink: burst rules, source and size of responses; the moments at which a source is busy and a request is
+-- outstanding: this project's choice).
 use Rattle.std.specs.Prelude.{◌≡◌, ◌++◌, ◌∷◌, ℕ, None, List}
 use Rattle.tl_msg.specs.Tables.{rules_b, rules_c, rules_e}
 use Rattle.tl_msg.specs.declared.head.HeadA.{HeadA}
@@ -14,7 +15,8 @@ module _ {w : ℕ} where
   abbrev pub RequestsObey : List (Event w) → Type 0
   RequestsObey es = (before after : List (Event w)) (b : BeatOf HeadA w) → es ≡ before ++ Ask b ∷ after → client_answer before b ≡ None
 
-  -- each beat of D has no fault, breaks no burst, and opens a message only if the request that it answers is open and has its size
+  -- each beat of D has no fault, breaks no burst, and opens a message only if the request to which it responds is
+  -- outstanding and has its size
   abbrev pub ResponsesObey : List (Event w) → Type 0
   ResponsesObey es = (before after : List (Event w)) (b : BeatOf HeadD w) → es ≡ before ++ Answer b ∷ after → manager_answer before b ≡ None
 
@@ -24,9 +26,10 @@ module _ {w : ℕ} where
     pub requests : RequestsObey es
     pub responses : ResponsesObey es
 
--- Legal in, legal out, for a whole script. On each link there is an order of the beats of A and D that it carries, both those that are accepted
--- there and those that come out there, in which the link obeys the rules. And no far beat of B, C or E has a fault after those before it. So a
--- second bridge behind this one is offered only beats that its rules allow
+-- Legal in, legal out, for a whole script. On each link there is an order of the beats of A and D that it carries, both
+-- those that are accepted there and those that come out there, in which the link obeys the rules. No far beat of B, C
+-- or E has a fault after the beats before it. So a second bridge after this one is offered only beats that its rules
+-- allow
 pub record LinksObey {C M : ℕ} (near : Beats C M) : Type 0 where
   pub client : List (Event C)
   pub client_asked : asked client ≡ (accepted_beats near).a

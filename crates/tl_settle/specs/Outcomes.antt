@@ -1,4 +1,4 @@
--- What a script ends in: the far beats and the verdict of each channel (this project's choice).
+-- The final state of a script: the far beats and the verdict of each channel (this project's choice).
 use Rattle.std.specs.Prelude.{◌==◌, ℕ, Option, None, Some, List, [], ◌∷◌, length, map, take, slice_get, if◌then◌else◌}
 use Rattle.std.specs.Option.{option_map_or}
 use Rattle.tl_msg.specs.Rules.{Rules}
@@ -19,8 +19,8 @@ use Rattle.tl_convert.specs.Due.{due}
 use Rattle.tl_convert.specs.Accepted.{accepted_of}
 use Rattle.tl_settle.specs.Settling.{settled_state, far_a, far_d, stops_a, stops_d}
 
--- a verdict: n near beats were accepted and make so many far beats due, the last message lacks so
--- many beats, and the next beat is stopped by something, or there is none
+-- a verdict: `n` near beats were accepted and make `far` far beats due, `lacks` beats are missing from the last
+-- message, and the next beat is refused for a reason, or there is none
 abbrev pub verdict_of : (n far lacks : ℕ) → (stopped_by : Option SideFault) → Verdict
 verdict_of n far lacks None = if lacks == 0 then Done n far else Cut n far
 verdict_of n far lacks (Some SourceBusy) = Waiting n SourceBusy
@@ -28,12 +28,12 @@ verdict_of n far lacks (Some NoRequest) = Waiting n NoRequest
 verdict_of n far lacks (Some fault) = Refused n fault
 
 module _ {H : Type 0} (r : Rules H) {w : ℕ} where
-  -- the same of the n beats that were accepted, and of the next one, where `stops` says what stops a beat
+  -- the same for the n accepted beats and the next one, if `stops` returns the reason why a beat is refused
   abbrev pub verdict_at : (n far : ℕ) (accepted : List (BeatOf H w)) (next : Option (BeatOf H w)) (stops : BeatOf H w → Option SideFault) → Verdict
   verdict_at n far accepted next stops = verdict_of n far (left r w accepted) (option_map_or stops next None)
 
-  -- a channel that nothing couples to another one, B, C or E: of its list the longest first part that is handed is accepted, which is the beats
-  -- before the first one that has a fault where it stands
+  -- a channel that does not depend on another channel, B, C or E: the longest handed first part of its list is
+  -- accepted, that is, the beats before the first one that has a fault at its place
   abbrev pub far_alone : (v : ℕ) → List (BeatOf H w) → List (BeatOf H v)
   far_alone v bs = due r w v (accepted_of r bs) (map (λ h. r.lane_address h 0) (heads r w (accepted_of r bs)))
 
@@ -50,8 +50,8 @@ module _ {C M : ℕ} (a : List (BeatOf HeadA C)) (d : List (BeatOf HeadD M)) whe
   abbrev pub verdict_d : Verdict
   verdict_d = let s = settled_state a d in verdict_at rules_d s.d (length (far_d a d s.d)) (take s.d d) (slice_get d s.d) (stops_d a d s.a s.d)
 
--- the beats of the five channels, those of A, C and E on C lanes and those of B and D on M lanes: the near beats of a script, on the lanes of
--- their senders. Its far beats, on the lanes of their takers, are Beats M C
+-- the beats of the five channels, those of A, C and E on C lanes and those of B and D on M lanes: the near beats of a
+-- script, on the lanes of their senders. Its far beats, on the lanes of their receivers, are Beats M C
 pub record Beats (C M : ℕ) : Type 0 where
   pub a : List (BeatOf HeadA C)
   pub b : List (BeatOf HeadB M)
@@ -59,9 +59,9 @@ pub record Beats (C M : ℕ) : Type 0 where
   pub d : List (BeatOf HeadD M)
   pub e : List (BeatOf HeadE C)
 
--- what the near beats of a script end in
+-- the final state of the near beats of a script
 module _ {C M : ℕ} (near : Beats C M) where
-  -- the near beats that are accepted
+  -- the accepted near beats
   abbrev pub accepted_beats : Beats C M
   accepted_beats = record {
     a = take (settled_state near.a near.d).a near.a;

@@ -1,6 +1,7 @@
--- What both sides may do at the same time (this project's choice). A run is made of rounds. Within a round each side makes its own calls in any
--- order: it takes beats that had come to it by the last meeting of the two sides, and it accepts beats of its own list by its own history. So
--- neither side knows anything that the other one does in the same round.
+-- The concurrent behaviour of both sides (this project's choice). A run is made of rounds. Within a round each side
+-- makes its own calls in any order: it takes beats that had arrived by the last meeting of the two sides, and it
+-- accepts beats of its own list by its own history. So neither side knows anything that the other one does in the same
+-- round.
 use Rattle.std.specs.Prelude.{◌≡◌, ◌≢◌, ℕ, zero, suc, None, Some, List, [], ◌∷◌, ◌++◌, slice_get}
 use mathlib.Core.List.{IsPrefix}
 use Rattle.tl_msg.specs.Tables.{rules_a}
@@ -14,8 +15,9 @@ use Rattle.tl_settle.specs.Histories.{Event, Ask, Answer, asked, answered, clien
 
 -- the near beats a of channel A, at the client's width C, and d of channel D, at the manager's width M
 module _ {C M : ℕ} (a : List (BeatOf HeadA C)) (d : List (BeatOf HeadD M)) where
-  -- What the client's side does within a round that begins with history es, where x beats of A and j of D were accepted: it ends with another
-  -- history, where so many beats of A were accepted. What it takes is due by the j beats of D; what it accepts is the next beat of A
+  -- The moves of the client's side within a round that begins with history es, when x beats of A and j of D were
+  -- accepted: the round ends with another history and number of accepted beats of A. A beat that it takes is among the
+  -- far beats of the j beats of D; a beat that it accepts is the next beat of A
   pub data ClientMoves (j x : ℕ) (es : List (Event C)) : (accepted : ℕ) → List (Event C) → Type 0 where
     client_rests : ClientMoves j x es x es
     client_takes : (y : ℕ) (fs : List (Event C)) (b : BeatOf HeadD C) → ClientMoves j x es y fs →
@@ -23,8 +25,9 @@ module _ {C M : ℕ} (a : List (BeatOf HeadA C)) (d : List (BeatOf HeadD M)) whe
     client_accepts : (y : ℕ) (fs : List (Event C)) (b : BeatOf HeadA C) → ClientMoves j x es y fs →
         slice_get a y ≡ Some b → client_answer fs b ≡ None → ClientMoves j x es (suc y) (fs ++ Ask b ∷ [])
 
-  -- What the manager's side does within a round that begins with history es, where i beats of A and x of D were accepted: what it takes is due by
-  -- the i beats of A, and what it accepts is the next beat of D
+  -- The moves of the manager's side within a round that begins with history es, when i beats of A and x of D were
+  -- accepted: a beat that it takes is among the far beats of the i beats of A, and a beat that it accepts is the next
+  -- beat of D
   pub data ManagerMoves (i x : ℕ) (es : List (Event M)) : (accepted : ℕ) → List (Event M) → Type 0 where
     manager_rests : ManagerMoves i x es x es
     manager_takes : (y : ℕ) (fs : List (Event M)) (b : BeatOf HeadA M) → ManagerMoves i x es y fs →
@@ -38,7 +41,7 @@ module _ {C M : ℕ} (a : List (BeatOf HeadA C)) (d : List (BeatOf HeadD M)) whe
     round : (i j x y : ℕ) (client client' : List (Event C)) (manager manager' : List (Event M)) → Run i j client manager →
         ClientMoves j i client x client' → ManagerMoves i j manager y manager' → Run x y client' manager'
 
-  -- a run is over where all that is due was taken, and each side refuses the next beat of its list
+  -- a run is over if all far beats that are due were taken, and each side refuses the next beat of its list
   pub record IsOver (i j : ℕ) (client : List (Event C)) (manager : List (Event M)) : Type 0 where
     pub run : Run i j client manager
     pub a_taken : asked manager ≡ far_a a d i
@@ -46,8 +49,9 @@ module _ {C M : ℕ} (a : List (BeatOf HeadA C)) (d : List (BeatOf HeadD M)) whe
     pub a_stops : (b : BeatOf HeadA C) → slice_get a i ≡ Some b → client_answer client b ≢ None
     pub d_stops : (b : BeatOf HeadD M) → slice_get d j ≡ Some b → manager_answer manager b ≢ None
 
-  -- the accepted beats are those of the settled state, what a side answers to a beat is what stops it there, which the verdict reads, and the
-  -- homes that the manager's side gave to the messages of D are the addresses of the requests that these answer
+  -- the accepted beats are those of the settled state, the reason for which a side refuses a beat is the one there,
+  -- which the verdict reads, and the homes that the manager's side gave to the messages of D are the addresses of their
+  -- requests
   pub record IsSettledRun (i j : ℕ) (client : List (Event C)) (manager : List (Event M)) : Type 0 where
     pub a_there : i ≡ (settled_state a d).a
     pub d_there : j ≡ (settled_state a d).d

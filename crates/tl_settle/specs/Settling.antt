@@ -1,5 +1,6 @@
--- How far a script comes: which beats of A and D may go, and where both stop (TileLink: source and size of responses; when a source is free
--- again and when a response may be offered: this project's choice).
+-- How far a script is accepted: which beats of A and D may be accepted, and the places at which both lists stop.
+-- TileLink has the rules on source and size of responses. The moments at which a source is free again and a response may
+-- be offered are this project's choice.
 use Rattle.std.specs.Prelude.{◌+◌, ◌==◌, ℕ, Bool, false, Option, None, Some, List, [], length, map, take, nat_lt, slice_get, if◌then◌else◌}
 use Rattle.std.specs.Option.{option_map_or, is_none}
 use Rattle.tl_msg.specs.Firsts.{unless}
@@ -16,7 +17,8 @@ use Rattle.tl_convert.specs.Due.{due}
 use Rattle.tl_settle.specs.Requests.{requests_of, responses_to, is_release_ack, partner, homes_after}
 use Rattle.tl_settle.specs.Steps.{State, settle, IsTheSettled}
 
--- what stops a beat after those that were accepted: a fault of its own, or, where it opens a message, what holds that back
+-- the reason why a beat is refused after the accepted ones: its own fault or, if it is the first of a message, the
+-- reason why that is held back
 abbrev pub stops : {H : Type 0} (r : Rules H) {w : ℕ} (accepted : List (BeatOf H w)) (held : H → Option SideFault) → BeatOf H w → Option SideFault
 stops r {w} accepted held b =
     option_map_or (λ fault. Some (Beat fault)) (fault_after r accepted b) (if left r w accepted == 0 then held b.head else None)
@@ -37,16 +39,16 @@ module _ {C M : ℕ} (a : List (BeatOf HeadA C)) (d : List (BeatOf HeadD M)) whe
   abbrev pub far_d : (j : ℕ) → List (BeatOf HeadD C)
   far_d j = due rules_d M C (take j d) (homes_after (heads rules_a C a) [] (responses j))
 
-  -- a source is free where each of its requests has an answer that began at the client's side
+  -- a source is free if a response to each of its requests has begun at the client's side
   abbrev pub is_free : (i j s : ℕ) → Bool
   is_free i j s = requests_of s (requests i) == responses_to s (heads rules_d C (far_d j))
 
-  -- what holds back a request that would begin: a source that is not free
+  -- the reason why a request that would begin is held back: its source is not free
   abbrev pub held_request : (i j : ℕ) → HeadA → Option SideFault
   held_request i j h = unless (is_free i j h.source) SourceBusy
 
-  -- what holds back a response that would begin: nothing holds back ReleaseAck; any other waits for a request of its source at the manager's
-  -- side, and has to be of that request's size
+  -- the reason why a response that would begin is held back. ReleaseAck never is. Any other response waits for a request
+  -- of its source at the manager's side, and must have that request's size
   abbrev pub held_response : (i j : ℕ) → HeadD → Option SideFault
   held_response i j h =
       if is_release_ack h then None else
@@ -54,21 +56,21 @@ module _ {C M : ℕ} (a : List (BeatOf HeadA C)) (d : List (BeatOf HeadD M)) whe
       then unless (option_map_or (λ q. q.size == h.size) (partner (heads rules_a C a) (responses j) h.source) false) SizeMismatch
       else Some NoRequest
 
-  -- what stops the next beat
+  -- the reason why the next beat is refused
   abbrev pub stops_a : (i j : ℕ) → BeatOf HeadA C → Option SideFault
   stops_a i j b = stops rules_a (take i a) (held_request i j) b
 
   abbrev pub stops_d : (i j : ℕ) → BeatOf HeadD M → Option SideFault
   stops_d i j b = stops rules_d (take j d) (held_response i j) b
 
-  -- whether the next beat may go
+  -- whether the next beat is accepted
   abbrev pub goes_a : (i j : ℕ) → Bool
   goes_a i j = option_map_or (λ b. is_none (stops_a i j b)) (slice_get a i) false
 
   abbrev pub goes_d : (i j : ℕ) → Bool
   goes_d i j = option_map_or (λ b. is_none (stops_d i j b)) (slice_get d j) false
 
-  -- the state in the end, whatever the order of steps
+  -- the final state, whatever the order of steps
   abbrev pub settled_state : State
   settled_state = settle goes_a goes_d (length a + length d) (record { a = 0; d = 0 })
 

@@ -1,5 +1,4 @@
-//! What each side of the bridge knows: its book, kept up to the history of its own beats of A and
-//! D.
+//! The book of each side of the bridge: its knowledge of the history of its own beats of A and D.
 ghost use Rattle.std.specs.Prelude.{◌≡◌, ◌++◌, ◌∷◌, [], List, Ok, true, false, cond, Some, None, IfOk, IfErr};
 ghost use Rattle.std.specs.Option.{is_some};
 ghost use Rattle.tl_lanes.specs.Lanes.{IsWidth};
@@ -20,13 +19,13 @@ use std::marker::Model;
 use tl_burst::{BurstCounter, Place};
 use tl_msg::{BeatFault, ChA, ChD, HeadA, HeadD, OutOfMemory, SideFault};
 
-/// The opcode of ReleaseAck, which answers a message of channel C, and no request (TileLink: opcode
-/// tables).
+/// The opcode of ReleaseAck, which responds to a message of channel C and not to a request
+/// (TileLink: opcode tables).
 const RELEASE_ACK: u8 = 6;
 
-/// What the client's side, on a bus of `C` bytes, keeps of the beats of A that it offers and of the
-/// beats of D that it takes: which sources are busy, and where it stands in D. It decides whether a
-/// request may go. Whoever holds the side's ends of A and D calls it, once for each beat.
+/// The book of the client's side, on a bus of `C` bytes: which sources are busy, and its position
+/// in the responses on D. It decides whether a request is accepted. The owner of the side's ends of
+/// A and D calls it once for each beat of A offered and each beat of D taken.
 ///
 /// A source is busy from the first beat of its request, accepted on A, until the first beat of the
 /// response is taken on D (TileLink: source of requests; the moments: this project's choice).
@@ -45,8 +44,8 @@ impl<const C: usize, A: Allocator> Model for ClientBook<C, A> {
 }
 
 impl<const C: usize, A: Allocator> ClientBook<C, A> {
-    /// The book of a side that has accepted and taken nothing yet. Want of memory for its table is
-    /// the only refusal.
+    /// Creates the book of a side that has accepted and taken nothing yet. Errors: `OutOfMemory` if
+    /// the allocator fails for its table.
     pub fn new(alloc: A) -> Result<Self, OutOfMemory>
         ensures { IfOk result (λ book. KnowsClient {w = C} book []) }
     {
@@ -57,10 +56,12 @@ impl<const C: usize, A: Allocator> ClientBook<C, A> {
         })
     }
 
-    /// Whether a beat of A may go, by what its tracker says of it, and where it stands then. The book notes it. It is refused
-    /// with the beat's own fault, else, where it opens a message, with `SourceBusy` exactly where its source is busy, and
-    /// nothing changes then.
-    // inlined, as the check whose wide answer it reads
+    /// Decides whether a beat of A is accepted, from the result of its tracker, and records an
+    /// accepted beat. Returns its place in its message.
+    ///
+    /// Errors: the beat's own fault; otherwise `SourceBusy` if and only if the beat is the first of
+    /// a message whose source is busy. Nothing changes then.
+    // inlined, like the check whose large result it reads
     #[inline(always)]
     pub fn admit(&mut self, checked: Result<Place<ChA>, BeatFault>) -> Result<Place<ChA>, SideFault>
         ensures admits { Admits {w = C} client_decides checked self.old result self.new }
@@ -78,8 +79,9 @@ impl<const C: usize, A: Allocator> ClientBook<C, A> {
         Ok(place)
     }
 
-    /// Notes that the side takes a beat of D with this head, which no fault of its own stops.
-    pub fn note_answer(&mut self, head: &HeadD)
+    /// Records that the side takes a beat of D with this head. Requires: `C` is a width, and the
+    /// head has no fault.
+    pub fn record_response(&mut self, head: &HeadD)
         requires width { IsWidth C }
         requires lawful { rules_d.fault head.now ≡ None }
         ensures { (es : List (Event C)) (b : BeatOf HeadD C) → KnowsClient self.old es →
@@ -92,13 +94,13 @@ impl<const C: usize, A: Allocator> ClientBook<C, A> {
     }
 }
 
-/// What the manager's side, on a bus of `M` bytes, keeps of the beats of A that it takes and of the
-/// beats of D that it offers: the open requests, and where it stands in A. It decides whether a
-/// response may go, and at which address it stands. Whoever holds the side's ends of A and D calls
-/// it, once for each beat.
+/// The book of the manager's side, on a bus of `M` bytes: the outstanding requests, and its
+/// position in the requests on A. It decides whether a response is accepted, and at which address
+/// it is. The owner of the side's ends of A and D calls it once for each beat of A taken and each
+/// beat of D offered.
 ///
-/// A request is open from its first beat, taken on A, until the first beat of the response is
-/// accepted on D (TileLink: source and size of responses; the moments: this project's choice).
+/// A request is outstanding from its first beat, taken on A, until the first beat of the response
+/// is accepted on D (TileLink: source and size of responses; the moments: this project's choice).
 #[derive(Drop)]
 pub struct ManagerBook<const M: usize, A: Allocator = Global> {
     requests: RequestTable<A>,
@@ -114,8 +116,8 @@ impl<const M: usize, A: Allocator> Model for ManagerBook<M, A> {
 }
 
 impl<const M: usize, A: Allocator> ManagerBook<M, A> {
-    /// The book of a side that has accepted and taken nothing yet. Want of memory for its table is
-    /// the only refusal.
+    /// Creates the book of a side that has accepted and taken nothing yet. Errors: `OutOfMemory` if
+    /// the allocator fails for its table.
     pub fn new(alloc: A) -> Result<Self, OutOfMemory>
         ensures { IfOk result (λ book. KnowsManager {w = M} book []) }
     {
@@ -126,11 +128,14 @@ impl<const M: usize, A: Allocator> ManagerBook<M, A> {
         })
     }
 
-    /// Whether a beat of D may go, by what its tracker says of it, and then where it stands and, where it opens a message, the
-    /// message's home: the address of its request in bytes, and 0 for ReleaseAck. The book notes it. It is refused with the
-    /// beat's own fault, else, where it opens a message other than ReleaseAck, with `NoRequest` exactly where its source has no
-    /// open request, with `SizeMismatch` exactly where that request has another size, and nothing changes then.
-    // inlined, as the check whose wide answer it reads
+    /// Decides whether a beat of D is accepted, from the result of its tracker, and records an
+    /// accepted beat. Returns its place in its message and, for the first beat of a message, the
+    /// message's home: the address of its request in bytes, and 0 for ReleaseAck.
+    ///
+    /// Errors: the beat's own fault; otherwise, for the first beat of any message except
+    /// ReleaseAck, `NoRequest` if and only if its source has no outstanding request, and
+    /// `SizeMismatch` if and only if that request has another size. Nothing changes then.
+    // inlined, like the check whose large result it reads
     #[inline(always)]
     pub fn admit(
         &mut self,
@@ -156,8 +161,9 @@ impl<const M: usize, A: Allocator> ManagerBook<M, A> {
         Ok((place, home))
     }
 
-    /// Notes that the side takes a beat of A with this head, which no fault of its own stops.
-    pub fn note_ask(&mut self, head: &HeadA)
+    /// Records that the side takes a beat of A with this head. Requires: `M` is a width, and the
+    /// head has no fault.
+    pub fn record_request(&mut self, head: &HeadA)
         requires width { IsWidth M }
         requires lawful { rules_a.fault head.now ≡ None }
         ensures { (es : List (Event M)) (b : BeatOf HeadA M) → KnowsManager self.old es →
@@ -170,8 +176,9 @@ impl<const M: usize, A: Allocator> ManagerBook<M, A> {
     }
 }
 
-/// The books of both sides of a new bridge, on buses of `C` and `M` bytes: those of its client's and
-/// of its manager's side. Want of memory for one of their tables is the only refusal.
+/// Creates the books of both sides of a new bridge, on buses of `C` and `M` bytes. Returns the
+/// client's and the manager's. Errors: `OutOfMemory` if the allocator fails for one of their
+/// tables.
 pub fn new_books<const C: usize, const M: usize, A: Allocator + Copy>(
     alloc: A,
 ) -> Result<(ClientBook<C, A>, ManagerBook<M, A>), OutOfMemory>
@@ -183,14 +190,14 @@ pub fn new_books<const C: usize, const M: usize, A: Allocator + Copy>(
     Ok((client, manager))
 }
 
-// Whether a message of D answers no request.
+// Returns whether a message of D is ReleaseAck, which responds to no request.
 fn is_release_ack(head: &HeadD) -> bool
     ensures { result ≡ Rattle.tl_settle.specs.Requests.is_release_ack head.now }
 {
     head.opcode == RELEASE_ACK
 }
 
-// Whether the source of a request is busy, where it opens a message.
+// Returns whether the beat is the first of a request and its source is busy.
 fn is_taken<A: Allocator>(sources: &SourceTable<A>, head: &HeadA, first: bool) -> bool
     ensures { (ms : List Mark) → AreBusy sources.now ms →
         result ≡ cond first (is_some (open_request head.now.source ms)) false }
@@ -198,8 +205,8 @@ fn is_taken<A: Allocator>(sources: &SourceTable<A>, head: &HeadA, first: bool) -
     first && sources.busy(head.source)
 }
 
-// Asks for the home of a response, where it opens a message: the address of the request that it
-// answers, and 0 for ReleaseAck.
+// Returns, for the first beat of a response, its home: the address of its request, and 0 for
+// ReleaseAck. Errors: `NoRequest` or `SizeMismatch`.
 fn ask_for_home<A: Allocator>(
     requests: &RequestTable<A>,
     head: &HeadD,
@@ -223,7 +230,7 @@ fn ask_for_home<A: Allocator>(
     Ok(request.address)
 }
 
-// A request makes its source busy, where it opens a message.
+// Marks the source of a request as busy, if the beat is the first of its message.
 fn note_asked<A: Allocator>(sources: &mut SourceTable<A>, head: &HeadA, first: bool)
     ensures { (ms : List Mark) → AreBusy sources.old ms →
         AreBusy sources.new (begun_with first (Asks head.now) ms) }
@@ -233,7 +240,7 @@ fn note_asked<A: Allocator>(sources: &mut SourceTable<A>, head: &HeadA, first: b
     }
 }
 
-// A response other than ReleaseAck frees its source, where it opens a message.
+// Frees the source of a response, if the beat is the first of its message and not of ReleaseAck.
 fn note_answered<A: Allocator>(sources: &mut SourceTable<A>, head: &HeadD, first: bool)
     ensures { (ms : List Mark) → AreBusy sources.old ms →
         AreBusy sources.new (begun_with first (Answers head.now) ms) }
@@ -243,7 +250,7 @@ fn note_answered<A: Allocator>(sources: &mut SourceTable<A>, head: &HeadD, first
     }
 }
 
-// A request begins, where it opens a message.
+// Enters a request, if the beat is the first of its message.
 fn note_request<A: Allocator>(requests: &mut RequestTable<A>, head: &HeadA, first: bool)
     ensures { (ms : List Mark) → AreOpen requests.old ms →
         AreOpen requests.new (begun_with first (Asks head.now) ms) }
@@ -257,7 +264,7 @@ fn note_request<A: Allocator>(requests: &mut RequestTable<A>, head: &HeadA, firs
     }
 }
 
-// A response other than ReleaseAck ends its request, where it opens a message.
+// Removes the request of a response, if the beat is the first of its message and not of ReleaseAck.
 fn note_response<A: Allocator>(requests: &mut RequestTable<A>, head: &HeadD, first: bool)
     ensures { (ms : List Mark) → AreOpen requests.old ms →
         AreOpen requests.new (begun_with first (Answers head.now) ms) }

@@ -1,5 +1,5 @@
-//! Laws over the definitions, for the proofs above. Each function is there for its contract, and
-//! changes nothing.
+//! Laws of the definitions, for the proofs of the crates above. Each function does nothing; its
+//! contract is the law.
 ghost use Rattle.std.specs.Prelude.{◌≡◌, ◌<◌, ◌↔◌, ◌^◌, ◌++◌, ◌∷◌, [], ℕ, None, List, All};
 ghost use Rattle.tl_lanes.specs.Lanes.{IsWidth};
 ghost use Rattle.tl_msg.specs.declared.head.HeadA.{HeadA};
@@ -24,16 +24,17 @@ use tl_burst::laws::{faults_are_exact, homes_are_kept};
 use tl_convert::laws::{accepted_is_longest, due_has_no_faults, due_is_handed, due_is_one};
 use tl_msg::{ChA, ChB, ChC, ChD, ChE, Channel};
 
-/// For every script there is one settled state, and no order of steps goes past it.
+/// Lemma: for every script there is exactly one settled state, and no order of steps goes beyond
+/// it.
 pub fn one_settled_state()
     ensures { (c m : ℕ) → IsWidth c → IsWidth m →
         (a : List (BeatOf HeadA c)) (d : List (BeatOf HeadD m)) →
         IsSettledState a d (settled_state a d) }
 {}
 
-/// Whatever the two sides do at the same time within rounds, a run that is over is at the settled
-/// state, each side answers the next beat of its list as the verdict says, and each response was
-/// given the address of the request that it answers.
+/// Lemma: whatever the two sides do concurrently within rounds, a run that is over is at the
+/// settled state. The result of each side for the next beat of its list is the one in the verdict,
+/// and the home of each response is the address of its request.
 pub fn every_run()
     ensures { (c m : ℕ) → IsWidth c → IsWidth m →
         (a : List (BeatOf HeadA c)) (d : List (BeatOf HeadD m)) →
@@ -41,10 +42,10 @@ pub fn every_run()
         IsOver a d i j client manager → IsSettledRun a d i j client manager }
 {}
 
-/// Legal in, legal out: in every run each link obeys the rules that an offer is held to, whatever the
-/// two sides do at the same time within rounds. A beat that comes out of the bridge has no fault and
-/// breaks no burst at its width. When a request comes out, its source is free. When a response comes
-/// out, its request is open and has its size.
+/// Lemma: legal in, legal out. In every run each link obeys the rules that an offer is held to,
+/// whatever the two sides do concurrently within rounds. A beat that comes out of the bridge has no
+/// fault and breaks no burst at its width. When a request comes out, its source is free. When a
+/// response comes out, its request is outstanding and has its size.
 pub fn every_run_obeys<const C: usize, const M: usize>()
     requires client { IsWidth C }
     requires manager { IsWidth M }
@@ -57,9 +58,10 @@ pub fn every_run_obeys<const C: usize, const M: usize>()
     one_channel::<ChD, M, C>();
 }
 
-/// Legal in, legal out, for a whole script of beats that memory can hold: what comes out on each link
-/// obeys the rules there, together with what that link's own side sends. So a second bridge behind this
-/// one, of widths `M` and any other, is offered only beats that its rules allow.
+/// Lemma: legal in, legal out, for a whole script of beats that memory can hold. The beats that
+/// come out on each link, together with those that the link's own side sends, obey the rules there.
+/// So a second bridge after this one, of widths `M` and any other, is offered only beats that its
+/// rules allow.
 pub fn links_obey<const C: usize, const M: usize>()
     requires client { IsWidth C }
     requires manager { IsWidth M }
@@ -75,23 +77,24 @@ pub fn links_obey<const C: usize, const M: usize>()
     due_has_no_faults::<ChE, C, M>();
 }
 
-/// No channel blocks another: the far beats and the verdict of B depend on the near beats of B alone.
-/// The same holds of C and of E. Those of A and D depend on the near beats of A and D alone.
+/// Lemma: no channel blocks another. The far beats and the verdict of B depend only on the near
+/// beats of B. The same holds of C and of E. Those of A and D depend only on the near beats of A
+/// and D.
 pub fn no_channel_blocks_another()
     ensures { (c m : ℕ) → (one other : Beats c m) → NoChannelBlocksAnother one other }
 {}
 
-/// A longer script only lengthens: if each list of a script is a prefix of that of another script, then
-/// each near beat that the first one accepts is accepted in the other one, and its far beats are a
-/// prefix of the other's, on each channel.
+/// Lemma: a longer script only lengthens the result. If each list of a script is a prefix of that
+/// of another script, then each near beat that the first one accepts is accepted in the other one,
+/// and its far beats are a prefix of the other's, on each channel.
 pub fn a_longer_script_only_lengthens()
     ensures { (c m : ℕ) → IsWidth c → IsWidth m → (script longer : Beats c m) →
         ArePrefixes script longer → OnlyLengthens script longer }
 {}
 
-/// Wherever steps lead, the beats accepted on A and on D are handed, the next beat of each list has
-/// no fault exactly where it is admitted, and it opens a message exactly where no burst is
-/// unfinished.
+/// Lemma: in every state that steps reach, the beats accepted on A and on D are handed. The next
+/// beat of each list has no fault if and only if it is admitted, and it is the first of a message
+/// if and only if no burst is unfinished.
 pub fn steps_are_admitted<const C: usize, const M: usize>()
     requires client { IsWidth C }
     requires manager { IsWidth M }
@@ -103,20 +106,21 @@ pub fn steps_are_admitted<const C: usize, const M: usize>()
     faults_are_exact::<ChD, M>();
 }
 
-/// Among messages that have begun, the open request of a source is its last message, where that is
-/// a request; and a source is busy exactly where no response other than ReleaseAck has begun since a
-/// request of it (TileLink: source and size of responses; the moments: this project's choice).
+/// Lemma: among messages that have begun, the outstanding request of a source is its last message,
+/// if that is a request. A source is busy if and only if no response to it other than ReleaseAck
+/// has begun since one of its requests (TileLink: source and size of responses; the moments: this
+/// project's choice).
 pub fn open_request_is_last()
     ensures { OpenIsLast }
 {}
 
-/// What a script of beats that memory can hold ends in, in whole messages. For each channel:
-/// the beats that are accepted bring whole messages, one after the other, and then perhaps the
-/// first beats of one more; what arrives on the far side is their layout there, of the last one as
-/// much as has come, and no burst of it is interrupted; and the verdict is `Done` or `Cut` where
-/// all beats are accepted, and else says what becomes of the next one. And what comes out on each link
-/// obeys the rules there (TileLink: burst rules, byte lanes, source and size of responses; the moments
-/// and the verdicts: this project's choice).
+/// Lemma: the final state of a script of beats that memory can hold, in whole messages. On each
+/// channel, the accepted beats are whole messages, one after the other, and then perhaps the first
+/// beats of one more. The far beats are the layout of these messages, as far as the beats of the
+/// last one go, and no burst of it is interrupted. The verdict is `Done` or `Cut` if all beats are
+/// accepted, and otherwise says what happens to the next one. The beats that come out on each link
+/// obey the rules there (TileLink: burst rules, byte lanes, source and size of responses; the
+/// moments and the verdicts: this project's choice).
 pub fn ends_in_messages<const C: usize, const M: usize>()
     requires client { IsWidth C }
     requires manager { IsWidth M }
@@ -130,7 +134,7 @@ pub fn ends_in_messages<const C: usize, const M: usize>()
     one_channel::<ChE, C, M>();
 }
 
-// What the layers below say of one channel by itself.
+// Lemma: the laws of the layers below for one channel by itself.
 fn one_channel<K: Channel, const W: usize, const V: usize>()
     requires near { IsWidth W }
     requires far { IsWidth V }

@@ -1,4 +1,5 @@
-//! What each side knows of the requests under way, and what a script of A and D settles to, whatever the two sides do.
+//! The knowledge of each side about the requests under way, and the final state of a script of A
+//! and D, whatever the two sides do.
 #![tactic(auto)]
 
 mod books;

@@ -1,4 +1,4 @@
-//! What a side remembers of each source.
+//! The tables in which a side keeps an entry for each source.
 ghost use Rattle.std.specs.Prelude.{◌≡◌, ◌==◌, ℕ, List, Bool, Option, true, false, None, Some, cond, map, vec_len, IfOk};
 ghost use Rattle.tl_settle.specs.declared.tables.Request.{Request};
 ghost use Rattle.tl_settle.specs.declared.tables.TheConstants.{SOURCES};
@@ -9,7 +9,7 @@ use std::alloc::{Allocator, Global};
 use std::marker::Model;
 use tl_msg::{OutOfMemory, SourceId};
 
-/// How many sources there are, by the bits of a [`SourceId`].
+/// The number of sources, from the bits of a [`SourceId`].
 const SOURCES: usize = 1 << SourceId::BITS;
 
 /// A request that waits for its response (TileLink: source and size of responses).
@@ -17,12 +17,12 @@ const SOURCES: usize = 1 << SourceId::BITS;
 pub struct Request {
     /// The message is of 2 to this power bytes; the response has the same size.
     pub size: u8,
-    /// The address in bytes, which is the response's home.
+    /// The address in bytes, which is the home of the response.
     pub address: u64,
 }
 
-/// The sources that are in use: those whose request was accepted and whose response has not come
-/// yet. In a contract it is a list that says of each of the 65,536 sources whether it is busy.
+/// The busy sources: their request was accepted, and its response has not come yet. In a contract
+/// the table is a list that says of each of the 65,536 sources whether it is busy.
 #[derive(Drop)]
 pub struct SourceTable<A: Allocator = Global> {
     busy: Vec<bool, A>,
@@ -40,8 +40,8 @@ impl<A: Allocator> SourceTable<A> {
     ghost use Rattle.std.specs.Prelude.{◌≡◌, ◌==◌, ℕ, true, false, cond, IfOk};
     ghost use Rattle.tl_settle.specs.Tables.{is_busy};
 
-    /// A table in which no source is busy. It takes a byte for each source, 64 KiB, once and for
-    /// all (this project's choice). Want of memory is the only refusal.
+    /// Creates a table in which no source is busy. It allocates one byte for each source, 64 KiB,
+    /// and never grows (this project's choice). Errors: `OutOfMemory` if the allocator fails.
     pub fn new(alloc: A) -> Result<Self, OutOfMemory>
         ensures { IfOk result (λ table. (s : ℕ) → is_busy table s ≡ false) }
     {
@@ -49,22 +49,22 @@ impl<A: Allocator> SourceTable<A> {
         Ok(SourceTable { busy })
     }
 
-    /// Whether a source is busy.
+    /// Returns whether a source is busy.
     pub fn busy(&self, source: SourceId) -> bool
         ensures { result ≡ is_busy self.now source }
     {
         self.busy[source as usize]
     }
 
-    /// A request of this source begins: from now on it is busy. The other sources stay as they are.
+    /// Marks this source as busy, because a request of it begins. The other sources are unchanged.
     pub fn begin(&mut self, source: SourceId)
         ensures { (s : ℕ) → is_busy self.new s ≡ cond (source == s) true (is_busy self.old s) }
     {
         self.busy[source as usize] = true;
     }
 
-    /// A response to this source begins: from now on it is free. The other sources stay as they
-    /// are, and a source that was free stays free.
+    /// Marks this source as free, because a response to it begins. The other sources are unchanged,
+    /// and a source that was free stays free.
     pub fn end(&mut self, source: SourceId)
         ensures { (s : ℕ) → is_busy self.new s ≡ cond (source == s) false (is_busy self.old s) }
     {
@@ -72,16 +72,17 @@ impl<A: Allocator> SourceTable<A> {
     }
 }
 
-/// The place of a source in a [`RequestTable`], in 16 bytes, where an `Option<Request>` has 24.
+/// The entry of a source in a [`RequestTable`]. It has 16 bytes; an `Option<Request>` would have
+/// 24.
 #[derive(Clone, Copy)]
 struct Entry {
-    // Whether the source has a request; else its size and address mean nothing.
+    // Whether the source has a request. If not, size and address have no meaning.
     open: bool,
     size: u8,
     address: u64,
 }
 
-/// The place of a source without a request.
+/// The entry of a source without a request.
 const FREE: Entry = Entry {
     open: false,
     size: 0,
@@ -109,8 +110,8 @@ impl Entry {
     }
 }
 
-/// The request of each source that waits for a response. In a contract it is a list that has the
-/// request of each of the 65,536 sources, or None.
+/// The outstanding request of each source. In a contract the table is a list that has the request
+/// of each of the 65,536 sources, or `None`.
 #[derive(Drop)]
 pub struct RequestTable<A: Allocator = Global> {
     entries: Vec<Entry, A>,
@@ -128,8 +129,8 @@ impl<A: Allocator> RequestTable<A> {
     ghost use Rattle.std.specs.Prelude.{◌≡◌, ◌==◌, ℕ, None, Some, cond, IfOk};
     ghost use Rattle.tl_settle.specs.Tables.{entry};
 
-    /// A table in which no source has a request. It takes 16 bytes for each source, 1 MiB, once
-    /// and for all (this project's choice). Want of memory is the only refusal.
+    /// Creates a table in which no source has a request. It allocates 16 bytes for each source, 1
+    /// MiB, and never grows (this project's choice). Errors: `OutOfMemory` if the allocator fails.
     pub fn new(alloc: A) -> Result<Self, OutOfMemory>
         ensures { IfOk result (λ table. (s : ℕ) → entry table s ≡ None) }
     {
@@ -137,15 +138,15 @@ impl<A: Allocator> RequestTable<A> {
         Ok(RequestTable { entries })
     }
 
-    /// The request of a source.
+    /// Returns the request of a source, or `None`.
     pub fn get(&self, source: SourceId) -> Option<Request>
         ensures { result ≡ entry self.now source }
     {
         self.entries[source as usize].request()
     }
 
-    /// A request of this source begins. It takes the place of the one that the source had, if any;
-    /// the other sources stay as they are.
+    /// Enters a request of this source. It replaces the one that the source had, if any. The other
+    /// sources are unchanged.
     pub fn begin(&mut self, source: SourceId, request: Request)
         ensures { (s : ℕ) →
             entry self.new s ≡ cond (source == s) (Some request) (entry self.old s) }
@@ -153,8 +154,8 @@ impl<A: Allocator> RequestTable<A> {
         self.entries[source as usize] = Entry::of(request);
     }
 
-    /// A response to this source begins: its request is answered. A source without a request stays
-    /// so, and the other sources stay as they are.
+    /// Removes the request of this source, because a response to it begins. A source without a
+    /// request is unchanged, and so are the other sources.
     pub fn end(&mut self, source: SourceId)
         ensures { (s : ℕ) → entry self.new s ≡ cond (source == s) None (entry self.old s) }
     {

@@ -18,7 +18,7 @@ bridge_type C M = layout (the_row (param 0 (number C)) (param 1 (number M)) (par
 abbrev pub bridge_size : (C M : ℕ) → ℕ
 bridge_size C M = size (bridge_type C M)
 
--- what is small at each pair of widths, as a test of each pair tells, is small at every pair
+-- a size that is small at each pair of widths, as a test of each pair shows, is small at every pair
 pub small_at_widths : (f : ℕ → ℕ → ℕ) → at_widths (λ C. at_widths (λ M. nat_lt (f C M) (2 ^ 63))) ≡ true → (C M : ℕ) →
     IsWidth C → IsWidth M → f C M < 2 ^ 63
 small_at_widths f passes C M c m =

@@ -1,9 +1,9 @@
--- Each call of a bridge takes it to what it stands for after the same events.
+-- Each call of a bridge has the effect of the same events on the past that it represents.
 use Rattle.std.proofs.Common.{◌≡◌, ◌≤◌, ◌+◌, ◌*◌, ◌↔◌, ℕ, Bool, true, false, cond, None, Some, List, [], ◌∷◌, ◌++◌, map, length, take}
 use Rattle.std.proofs.Common.{drop, refl, sym, ap, subst, ◌∙◌, append-nil, append_assoc}
 use Rattle.std.specs.Prelude.{◌==◌, slice_get}
 use Rattle.tl_sides.proofs.Words.{Rules, mask_fits, is_clean, IsLawfulBeat, rules_a, rules_b, rules_c, rules_d, rules_e, Mask, Corrupt, first_none}
-use Rattle.tl_sides.proofs.Words.{HeadA, HeadB, HeadC, HeadD, HeadE, BeatOf, left, rest_of, with_home, due, World, offered, pushed, popped, ROOM}
+use Rattle.tl_sides.proofs.Words.{HeadA, HeadB, HeadC, HeadD, HeadE, BeatOf, left, rest_of, with_home, due, World, offered, pushed, popped, STAGE_CAPACITY}
 use Rattle.tl_sides.proofs.Words.{Pipe, Event, Ask, Answer, Mark, Asks, Answers, asked, answered, marks, home_after, homes_from, manager_home}
 use Rattle.tl_sides.proofs.Words.{manager_homes, equal_true, not_equal, from_ask, from_answer}
 use Rattle.tl_settle.proofs.Noted.{marks_ask, marks_answer}
@@ -34,7 +34,7 @@ homes_answer : {w : ℕ} (es : List (Event w)) (b : BeatOf HeadD w) →
     manager_homes (es ++ Answer b ∷ []) ≡ manager_homes es ++ cond (left rules_d w (answered es) == 0) (manager_home es b.head ∷ []) []
 homes_answer {w} es b = ap (λ ms. homes_from [] ms) (marks_answer es b) ∙ homes_begun_answer (left rules_d w (answered es) == 0) (marks es) b.head
 
--- the home of a beat is read where it opens a message alone
+-- the home of a beat is read only if it opens a message
 homes_opened : {w : ℕ} (b : BeatOf HeadD w) (homes : List ℕ) (home : ℕ) (rest : List (BeatOf HeadD w)) (n : ℕ) → (n ≡ 0) ↔ (rest ≡ []) →
     homes ++ cond (n == 0) (home ∷ []) [] ≡ with_home rules_d home rest homes
 homes_opened b homes home [] n f = ap (λ t. homes ++ cond t (home ∷ []) []) (equal_true n 0 (f.1 refl))
@@ -46,7 +46,7 @@ same_homes : {w : ℕ} (homes : List ℕ) (home other : ℕ) (rest : List (BeatO
 same_homes homes home other [] n f e = ap (λ x. homes ++ x ∷ []) (e (f.1 refl))
 same_homes homes home other (x ∷ rest) n f e = refl
 
--- the requests of a history, and its responses, with so many more of either
+-- the requests of a history, and its responses, after more of either
 pub asked_answers : {w : ℕ} (es : List (Event w)) (bs : List (BeatOf HeadD w)) → asked (es ++ map Answer bs) ≡ asked es
 asked_answers [] [] = refl
 asked_answers [] (b ∷ bs) = asked_answers [] bs
@@ -64,7 +64,7 @@ pub homes_asks : {w : ℕ} (es : List (Event w)) (bs : List (BeatOf HeadA w)) �
 homes_asks es [] = ap manager_homes (append-nil es)
 homes_asks es (b ∷ bs) = ap manager_homes (sym (append_assoc es (Ask b ∷ []) (map Ask bs))) ∙ homes_asks (es ++ Ask b ∷ []) bs ∙ homes_ask es b
 
--- a beat of D crosses by its home where it opens a message alone
+-- a beat of D crosses with its home only if it opens a message
 pub home_given : {w v : ℕ} (x : World HeadD w v) (b : BeatOf HeadD w) (home given : ℕ) →
     (left rules_d w x.accepted ≡ 0) ↔ (rest_of rules_d w x.accepted ≡ []) → (left rules_d w x.accepted ≡ 0 → home ≡ given) →
     offered rules_d b home x ≡ offered rules_d b given x
@@ -74,7 +74,7 @@ home_given {w} {v} x b home given between right = ap (λ hs. record x {
   stage = drop (length (due rules_d w v x.accepted x.homes)) (due rules_d w v (x.accepted ++ b ∷ []) hs);
 }) (same_homes x.homes home given (rest_of rules_d w x.accepted) (left rules_d w x.accepted) between right)
 
--- the homes of a history that accepts a beat of D, where these beats were accepted
+-- the homes of a history that accepts a beat of D, after these beats were accepted
 pub homes_given : {w : ℕ} (es : List (Event w)) (b : BeatOf HeadD w) (accepted : List (BeatOf HeadD w)) (homes : List ℕ) →
     (left rules_d w accepted ≡ 0) ↔ (rest_of rules_d w accepted ≡ []) → answered es ≡ accepted → manager_homes es ≡ homes →
     manager_homes (es ++ Answer b ∷ []) ≡ with_home rules_d (manager_home es b.head) (rest_of rules_d w accepted) homes
@@ -86,7 +86,7 @@ homes_given {w} es b accepted homes between same so_far =
     homes_opened b homes given (rest_of rules_d w accepted) (left rules_d w accepted) between
 
 module _ {C M : ℕ} (s : Bridge C M) (x : Past C M) (h : StandsFor s x) where
-  -- the crossings go on, and what was accepted and taken of A and D, and the homes, stay
+  -- the crossings advance, and the beats of A and D that were accepted and taken, and the homes, stay
   pub go_on : (a : Pipe HeadA M) (b : Pipe HeadB C) (c : Pipe HeadC M) (d : Pipe HeadD C) (e : Pipe HeadE M)
       (xa : World HeadA C M) (xb : World HeadB M C) (xc : World HeadC C M) (xd : World HeadD M C) (xe : World HeadE C M) →
       piping.StandsFor rules_a a xa → piping.StandsFor rules_b b xb → piping.StandsFor rules_c c xc → piping.StandsFor rules_d d xd →
@@ -110,7 +110,7 @@ module _ {C M : ℕ} (s : Bridge C M) (x : Past C M) (h : StandsFor s x) where
     manager_obeys = h.manager_obeys;
   }
 
-  -- what happens between the ends of one crossing, or closes it
+  -- the events between the ends of one crossing, and its closing
   pub with_a : (p : Pipe HeadA M) (y : World HeadA C M) → piping.StandsFor rules_a p y → (y.accepted ≡ x.a.accepted) × (y.taken ≡ x.a.taken) →
       StandsFor (record s { a = p }) (record x { a = y })
   with_a p y k same = go_on p s.b s.c s.d s.e y x.b x.c x.d x.e k h.b h.c h.d h.e same (refl, refl, refl)
@@ -128,7 +128,7 @@ module _ {C M : ℕ} (s : Bridge C M) (x : Past C M) (h : StandsFor s x) where
   pub with_e : (p : Pipe HeadE M) (y : World HeadE C M) → piping.StandsFor rules_e p y → StandsFor (record s { e = p }) (record x { e = y })
   with_e p y k = go_on s.a s.b s.c s.d p x.a x.b x.c x.d y h.a h.b h.c h.d k (refl, refl) (refl, refl, refl)
 
-  -- the client's side goes on, on A and D
+  -- the client's side advances on A and D
   pub client_goes_on : (a : Pipe HeadA M) (d : Pipe HeadD C) (book : Client) (es : List (Event C)) (xa : World HeadA C M) (xd : World HeadD M C) →
       piping.StandsFor rules_a a xa → piping.StandsFor rules_d d xd → asked es ≡ xa.accepted → answered es ≡ xd.taken → KnowsClient book es →
       ObeysRules es → xa.taken ≡ x.a.taken → (xd.accepted ≡ x.d.accepted) × (xd.homes ≡ x.d.homes) →
@@ -176,7 +176,7 @@ module _ {C M : ℕ} (s : Bridge C M) (x : Past C M) (h : StandsFor s x) where
 pub lawful_head : {H : Type 0} (r : Rules H) {w : ℕ} (b : BeatOf H w) → IsLawfulBeat r b → r.fault b.head ≡ None
 lawful_head r b e = first_none (r.fault b.head) (unless (mask_fits r b) Mask or_else unless (is_clean r b) Corrupt) e
 
--- what an inbox has first
+-- the first beat of an inbox
 pub some_taken : {A : Type 0} (bs : List A) (b : A) → slice_get bs 0 ≡ Some b → take 1 bs ≡ b ∷ []
 some_taken [] b e = cc
 some_taken (x ∷ bs) b e = let f : x ≡ b = cc in ap (λ y. y ∷ []) f
@@ -185,13 +185,13 @@ pub none_taken : {A : Type 0} (bs : List A) → slice_get bs 0 ≡ None → take
 none_taken [] e = refl
 none_taken (x ∷ bs) e = cc
 
--- what a pump of a crossing says, or a fetch, which moves n of its beats by `step`, and so makes another pipe of it
+-- the property of a pump or a fetch of a crossing that moves n of its beats by `step`, and so makes another pipe of it
 abbrev pub Moves : {H : Type 0} (r : Rules H) (w : ℕ) {v : ℕ} (p p' : Pipe H v) (result n : ℕ) (step : ℕ → World H w v → World H w v)
     (next : Pipe H v → Pipe H v) → Type 0
 Moves {H} r w {v} p p' result n step next = record {
   count : result ≡ n;
   moved : (x : World H w v) → piping.StandsFor r p x → piping.StandsFor r p' (step result x);
-  most : result ≤ ROOM;
+  most : result ≤ STAGE_CAPACITY;
   is : p' ≡ next p;
 }
 
@@ -201,12 +201,12 @@ pub moved_by : {H : Type 0} (r : Rules H) (w : ℕ) {v : ℕ} (p p' : Pipe H v) 
 moved_by r w p p' result n step next e x h = subst (λ k. piping.StandsFor r p' (step k x)) e.count (e.moved x h)
 
 module _ {C M : ℕ} where
-  -- and what one of all five says
+  -- and the property of one on all five
   abbrev pub AllMove : (s s' : Bridge C M) (result total : ℕ) (next : Past C M → Past C M) (each : Bridge C M → Bridge C M) → Type 0
   AllMove s s' result total next each = record {
     count : result ≡ total;
     moved : (x : Past C M) → StandsFor s x → StandsFor s' (next x);
-    most : result ≤ 5 * ROOM;
+    most : result ≤ 5 * STAGE_CAPACITY;
     each : s' ≡ each s;
   }
 

@@ -3,7 +3,7 @@ use Rattle.std.proofs.Common.{◌≡◌, ◌≤◌, ◌-◌, ◌++◌, ◌∷◌
 use Rattle.std.proofs.Common.{arith}
 use Rattle.tl_sides.proofs.Words.{Buffer, buffer, Rules, partial_not_c, partial_not_d, rules_a, rules_b, rules_c, rules_d, rules_e, HeadA, HeadB}
 use Rattle.tl_sides.proofs.Words.{HeadC, HeadD, HeadE, BeatOf, homes_with, Outgoing, HasSent, IsOpen, World, offered, pushed, popped, took}
-use Rattle.tl_sides.proofs.Words.{inbox_room, ROOM, stands_new, stands_offered, stands_pushed, stands_popped, stands_took, stands_emptied}
+use Rattle.tl_sides.proofs.Words.{inbox_room, STAGE_CAPACITY, stands_new, stands_offered, stands_pushed, stands_popped, stands_took, stands_emptied}
 use Rattle.tl_sides.proofs.Words.{stands_shut, Event, Ask, Answer, asked, answered, manager_home, manager_homes, asked_ask, asked_answer}
 use Rattle.tl_sides.proofs.Words.{answered_ask, answered_answer, SideFault, EndFault}
 use Rattle.tl_settle.specs.Books.{KnowsClient, KnowsManager}
@@ -45,7 +45,7 @@ masked_d h = partial_not_d h.opcode
 pub masked_e : (h : HeadE) → rules_e.partial h ≡ true → rules_e.masked ≡ true
 masked_e h e = e
 
--- what a side has done at either end of a crossing
+-- the past of a side at either end of a crossing
 abbrev pub sent_of : {H : Type 0} {w v : ℕ} → World H w v → List (BeatOf H v)
 sent_of x = x.taken ++ x.inbox ++ x.ring
 
@@ -55,7 +55,7 @@ away_of x = record { accepted = x.accepted; homes = x.homes; sent = sent_of x }
 abbrev pub hither_of : {H : Type 0} {w v : ℕ} → World H w v → Hither H v
 hither_of x = record { received = x.taken ++ x.inbox; taken = x.taken }
 
--- what the client's side has done, and the manager's
+-- the past of the client's side, and of the manager's
 module _ {C M : ℕ} where
   abbrev pub client_of : Past C M → ClientDone C M
   client_of x = record {
@@ -83,7 +83,7 @@ abbrev pub as_bridge : {A : Type 0} {C M : ℕ} → Inside C M A → Bridge C M
 as_bridge q = bridge_of q.client q.manager q.a q.b q.c q.d q.e
 
 module _ {A : Type 0} {C M : ℕ} (q : Inside C M A) (x : Past C M) (h : StandsFor (as_bridge q) x) where
-  -- each side stands for its own part of the past
+  -- each side represents its own part of the past
   pub client_stands : ClientStands q.client (client_of x)
   client_stands = record {
     a = subst (λ z. HasSent rules_a q.client.a z x.a.homes (sent_of x.a)) (sym h.client_asked) h.a.outbox;
@@ -105,7 +105,7 @@ module _ {A : Type 0} {C M : ℕ} (q : Inside C M A) (x : Past C M) (h : StandsF
     book = h.manager;
   }
 
-  -- both sides take all that stands in their inboxes
+  -- both sides take all beats of their inboxes
   pub all_taken : (s' : ClientNow C M) (t' : ManagerNow C M) → s' ≡ record q.client { b = []; d = []; book = s'.book } →
       t' ≡ record q.manager { a = []; c = []; e = []; book = t'.book } → KnowsClient s'.book (x.client ++ map Answer q.client.d) →
       KnowsManager t'.book (x.manager ++ map Ask q.manager.a) → StandsFor (as_bridge (record q { client = s'; manager = t' })) (after_take_all x)
@@ -283,7 +283,7 @@ module _ {A : Type 0} {C M : ℕ} (q : Inside C M A) where
 module _ {H : Type 0} (r : Rules H) (masked : (h : H) → r.partial h ≡ true → r.masked ≡ true) (w : ℕ) {v : ℕ} (o : Outgoing H v)
     (ring : Buffer (BeatOf H v)) (inbox : List (BeatOf H v)) (k : ℕ) where
   pub pumped : {o' : Outgoing H v} {ring' : Buffer (BeatOf H v)} → k ≡ min (length o.stage) (ring.capacity - length ring.items) →
-      o' ≡ record o { stage = drop k o.stage } → ring' ≡ buffer (ring.items ++ take k o.stage) ring.capacity → k ≤ ROOM →
+      o' ≡ record o { stage = drop k o.stage } → ring' ≡ buffer (ring.items ++ take k o.stage) ring.capacity → k ≤ STAGE_CAPACITY →
       Moves r w (pipe_of o ring inbox) (pipe_of o' ring' inbox) k (pump_count (pipe_of o ring inbox)) pushed calls.pumped
   pumped count rest grown most = record {
     count = count;
@@ -293,7 +293,7 @@ module _ {H : Type 0} (r : Rules H) (masked : (h : H) → r.partial h ≡ true �
   }
 
   pub fetched : {ring' : Buffer (BeatOf H v)} {inbox' : List (BeatOf H v)} → k ≡ min (length ring.items) (inbox_room - length inbox) →
-      ring' ≡ buffer (drop k ring.items) ring.capacity → inbox' ≡ inbox ++ take k ring.items → k ≤ ROOM →
+      ring' ≡ buffer (drop k ring.items) ring.capacity → inbox' ≡ inbox ++ take k ring.items → k ≤ STAGE_CAPACITY →
       Moves r w (pipe_of o ring inbox) (pipe_of o ring' inbox') k (fetch_count (pipe_of o ring inbox)) popped calls.fetched
   fetched count left more most = record {
     count = count;

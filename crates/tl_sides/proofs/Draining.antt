@@ -1,4 +1,4 @@
--- A side takes all that stands in an inbox, one beat after another.
+-- A side takes all beats of an inbox, one after another.
 use Rattle.std.proofs.Common.{◌≡◌, ℕ, ◌+◌, ◌<◌, List, [], ◌∷◌, ◌++◌, length, take, map, sym, ap, ◌∙◌, get_or, append-nil, append_assoc}
 use Rattle.std.proofs.lemmas.List.{take_more}
 use Rattle.tl_sides.proofs.Words.{HeadA, HeadD, BeatOf, Event, Ask, Answer, asked, answered, asked_ask, answered_answer}

@@ -1,5 +1,5 @@
--- What receipts say of the channels of a side.
-use Rattle.std.proofs.Common.{◌≡◌, ◌↔◌, ◌&&◌, ◌++◌, ℕ, Bool, true, Option, None, Some, List, [], refl, sym, subst, ◌∙◌}
+-- The facts that receipts show about the channels of a side.
+use Rattle.std.proofs.Common.{◌≡◌, ◌↔◌, ◌&&◌, ℕ, Bool, true, Option, None, Some, List, [], refl, subst}
 use Rattle.std.specs.Prelude.{IsTrue, IfSome}
 use Rattle.std.proofs.lemmas.Bool.{and_parts}
 use Rattle.tl_ring.specs.Ends.{Ended, LookedAfter, Shows, Shown}
@@ -11,7 +11,7 @@ use Rattle.tl_sides.specs.Receipts.{ShowsClient, ShowsManager, ClientIsShown, Ma
 use Rattle.tl_sides.specs.declared.receipts.ClientReceipt.{ClientReceipt}
 use Rattle.tl_sides.specs.declared.receipts.ManagerReceipt.{ManagerReceipt}
 
--- two answers together, and three
+-- two results together, and three
 pub both : (x y : Bool) {P Q : Type 0} → (IsTrue x ↔ P) → (IsTrue y ↔ Q) → IsTrue (x && y) ↔ (P × Q)
 both x y p q = (
   λ all. (let each = and_parts x y all in (p.0 each.0, q.0 each.1)),
@@ -24,12 +24,12 @@ all_three x y z p q r = (
   λ (h, k, l). (let first : x ≡ true = p.1 h in let second : y ≡ true = q.1 k in let third : z ≡ true = r.1 l in rw (first, second, third) refl),
 )
 
--- what is so of a value that may be there
+-- a property of a value that is there
 pub some_weaker : {X : Type 0} (o : Option X) {P Q : X → Type 0} → ((x : X) → P x → Q x) → IfSome o P → IfSome o Q
 some_weaker None f p = tt
 some_weaker (Some x) f p = f x p
 
--- what a look after the other end's receipt says of a channel
+-- the facts that a look after the other end's receipt shows about a channel
 abbrev pub DrainsEnd : {K A H : Type 0} (r : Rules H) (w : ℕ) {v : ℕ} (e e' : Ended K A H v) (t t' : Taking K A H v) (is_so : Bool) → Type 0
 DrainsEnd {K} {A} {H} r w {v} e e' t t' is_so = record {
   looked : LookedAfter e t e' t';

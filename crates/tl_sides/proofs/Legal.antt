@@ -1,4 +1,4 @@
--- What stands in an inbox obeys the rules of the link that takes it.
+-- The beats in an inbox obey the rules of the link that takes them.
 use Rattle.std.proofs.Common.{◌≡◌, ◌++◌, ◌∷◌, ℕ, List, map, take, drop, sym, subst, ap, ◌∙◌, append_assoc, take-append-drop}
 use Rattle.tl_convert.specs.Laws.{HasNoFaults, DueHasNoFaults}
 use Rattle.tl_ring.specs.Laws.{Crosses}
@@ -14,7 +14,7 @@ use Rattle.tl_sides.specs.Sides.{ClientState, ManagerState, ClientPast, ManagerP
 pub first_of : {X : Type 0} (xs : List X) → Extends (take 1 xs) xs
 first_of xs = subst (λ ys. Extends (take 1 xs) ys) (take-append-drop 1 xs) (more (take 1 xs) (drop 1 xs))
 
--- what was taken, and then some of what stands next, begins all that is due
+-- the beats taken, followed by some of the next ones, are a beginning of all that are due
 begins_due : {X : Type 0} (taken inbox ring stage all bs : List X) → taken ++ inbox ++ ring ++ stage ≡ all → Extends bs inbox → Extends (taken ++ bs) all
 begins_due taken inbox ring stage all bs e on =
     subst (λ ys. Extends (taken ++ bs) ys) (sym (append_assoc (taken ++ inbox) ring stage) ∙ e)
@@ -45,7 +45,7 @@ module _ {C M : ℕ} (s : Bridge C M) (x : Past C M) (h : StandsFor s x) where
       (extends-on (more (asked x.manager) (take 0 x.a.inbox)) (taken_a (take 0 x.a.inbox) (more (take 0 x.a.inbox) x.a.inbox)))
       (taken_d bs on)
 
--- what was taken of a channel has no fault
+-- the beats taken of a channel have no fault
 pub taken_fine : {H : Type 0} (r : Rules H) {w v : ℕ} (x : World H w v) → Crosses r x → DueHasNoFaults r w v → HasNoFaults r x.taken
 taken_fine r x crosses fine before after b e =
     let all = fine x.accepted x.homes crosses.messages crosses.rest crosses.handed in

@@ -14,3 +14,4 @@ mod Layouts
 pub mod Legal
 pub mod Separate
 pub mod Finishing
+mod Totals

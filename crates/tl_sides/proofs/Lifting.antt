@@ -1,10 +1,11 @@
--- What a call does to a part of who holds a channel, it does to the whole: an outbox is lifted to its port, and a port to the bridge and to its side.
+-- The effect of a call on a part of a channel's holder is its effect on the whole: an outbox is lifted to its port, and
+-- a port to the bridge and to its side.
 use Rattle.std.specs.Prelude.{◌≡◌, ◌↔◌, ℕ, None, Some, [], Option, Result, IsOk, IfErr, IfSome, slice_get}
 use Rattle.std.proofs.Common.{sym, subst, ap, ◌∙◌}
 use Rattle.tl_sides.proofs.Words.{IsLawfulBeat, BeatOf, SideFault, rest_of, EndFault, on_ok, on_err}
 use Rattle.tl_sides.specs.Calls.{SendingChannel, TakingChannel, OffersBeat, ClosesChannel, TakesBeat}
 
--- a part s of the whole `up s`, which stands for what the part of a past `down y` is of the past y
+-- a part s of the whole `up s`, which represents the part `down y` of the past y
 module _ {S P T Q H : Type 0} {w : ℕ} (k : SendingChannel S P H w) (j : SendingChannel T Q H w) (up : S → T) (down : Q → P) (s s' : S)
     (part : (y : Q) → j.Stands (up s) y → k.Stands s (down y)) where
   pub offer_lifted : (b : BeatOf H w) (answer : Result (Unit {0}) SideFault) → ((y : Q) → k.stops (down y) b ≡ j.stops y b) →

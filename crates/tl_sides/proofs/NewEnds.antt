@@ -1,4 +1,4 @@
--- What both sides over new rings are.
+-- The properties of both sides over new rings.
 use Rattle.std.proofs.Common.{◌≡◌, ℕ, List, [], refl}
 use Rattle.tl_settle.proofs.Obeys.{requests_none, responses_none}
 use Rattle.tl_sides.proofs.Words.{rules_a, rules_b, rules_c, rules_d, rules_e, ChA, ChB, ChC, ChD, ChE, HeadA, HeadB, HeadC, HeadD, HeadE}

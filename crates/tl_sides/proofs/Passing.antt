@@ -1,4 +1,4 @@
--- What is staged of a channel passes on into its ring, and where that has too little room the ring's beats go on first.
+-- The staged beats of a channel move into its ring; if it has too little room, the ring's beats move on first.
 use Rattle.std.proofs.Common.{◌≡◌, ◌-◌, ◌++◌, ℕ, Bool, true, false, cond, [], List, length, take, drop, min, refl, sym, subst, ap, ◌∙◌, append-nil}
 use Rattle.std.proofs.Common.{arith}
 use Rattle.std.specs.Prelude.{◌==◌}
@@ -9,13 +9,14 @@ use Rattle.tl_sides.specs.Bridges.{pump_count, fetch_count}
 use Rattle.tl_sides.specs.ChannelCalls.{after_pass_on, fetched, passed, passed_on, pumped}
 use Rattle.tl_sides.specs.Joining.{pipe_of}
 
--- where beats went into a ring alone, none came out and none more went in
+-- beats only entered a ring, if none came out and no more entered
 none-again : {H : Type 0} {w v : ℕ} (k : ℕ) (x : World H w v) → pushed k x ≡ passed_on k 0 0 x
 none-again k x = sym (ap (λ l. record (pushed k x) { ring = l; inbox = x.inbox ++ [] }) (append-nil (pushed k x).ring) ∙
     ap (λ l. record (pushed k x) { inbox = l }) (append-nil x.inbox))
 
 module _ {H : Type 0} {v : ℕ} where
-  -- what a pump says of an outbox and a ring is said of their pipe, and what a fetch says of a ring and an inbox
+  -- the effect of a pump on an outbox and a ring is the one on their pipe, and that of a fetch on a ring and an inbox
+  -- also
   pub is_pumped : (o : Outgoing H v) {o' : Outgoing H v} (ring : Buffer (BeatOf H v)) {ring' : Buffer (BeatOf H v)}
       (inbox : List (BeatOf H v)) (k : ℕ) → k ≡ min (length o.stage) (ring.capacity - length ring.items) → o' ≡ record o { stage = drop k o.stage } →
       ring' ≡ buffer (ring.items ++ take k o.stage) ring.capacity → pipe_of o' ring' inbox ≡ pumped (pipe_of o ring inbox)
@@ -51,7 +52,7 @@ module _ {H : Type 0} (r : Rules H) (masked : (h : H) → r.partial h ≡ true �
       let out = stands_popped r masked (fetch_count (pumped p)) (pumped p) _ (omega (arith)) first in
       pumps (fetched (pumped p)) _ out
 
-  -- a channel that stood for a crossing stands for it after the same moves
+  -- a channel that represented a crossing represents it after the same moves
   pub passes : (p q : Pipe H v) → q ≡ passed p → (x : World H w v) → StandsFor r p x → StandsFor r q (after_pass_on p x)
   passes p q is x h =
       subst (λ q. StandsFor r q (after_pass_on p x)) (sym is) (either_passes (length (pumped p).stage == 0) p x h)

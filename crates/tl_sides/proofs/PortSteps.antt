@@ -1,4 +1,4 @@
--- What the calls of a side keep.
+-- The properties that the calls of a side keep.
 use Rattle.std.proofs.Common.{◌≡◌, ◌↔◌, ◌++◌, ◌∷◌, [], ℕ, List, Option, Some, Result, Ok, Err, map, take, refl, sym, subst, ap, ◌∙◌, append-nil}
 use Rattle.std.specs.Prelude.{IfOk, IfErr}
 use Rattle.tl_sides.proofs.Words.{Rules, rules_a, rules_b, rules_c, rules_d, rules_e, HeadA, HeadB, HeadC, HeadD, HeadE, BeatOf, left, IsPlaceOf}
@@ -12,7 +12,7 @@ use Rattle.tl_sides.specs.Ports.{outbox_sends, port_sends_b, port_sends_c, port_
 use Rattle.tl_sides.specs.Ports.{ManagerNow, ManagerDone, ManagerStands, takes}
 use Rattle.tl_sides.proofs.Draining.{answered-all, asked-all}
 
--- what an outbox's check says is said of the beats that it accepted
+-- the result of an outbox's check holds for the beats that it accepted
 pub checked_in : {K H : Type 0} (r : Rules H) {w v : ℕ} (o : Outgoing H v) (bs : List (BeatOf H w)) (homes : List ℕ) (sent : List (BeatOf H v))
     (b : BeatOf H w) (checked : Result (Place K H) BeatFault) → HasSent r o bs homes sent → IfOk checked (IsPlaceOf r w o.converter.burst b) →
     IfErr checked (λ fault. fault_after r bs b ≡ Some fault) → IsChecked r bs b checked
@@ -24,12 +24,12 @@ checked_in {H = H} r {w} o bs homes sent b (Ok place) h is stops =
       fault = tt;
     }
 
--- where nothing of a message is left, the next beat begins one
+-- if nothing of a message is left, the next beat begins one
 pub between_of : {H : Type 0} (r : Rules H) {w v : ℕ} (o : Outgoing H v) (bs : List (BeatOf H w)) (homes : List ℕ) (sent : List (BeatOf H v)) →
     HasSent r o bs homes sent → (left r w bs ≡ 0) ↔ (rest_of r w bs ≡ [])
 between_of r {w} o bs homes sent h = let (ms, rest, handed) = h.converter.handed in left-zero r w handed
 
--- a beat of D is accepted with the home that the book gave, which is the history's where one is read
+-- a beat of D is accepted with the home that the book returned, which is the history's if one is read
 pub answered_with : {C M : ℕ} (es : List (Event M)) (o o' : Outgoing HeadD C) (sent : List (BeatOf HeadD C)) (b : BeatOf HeadD M) (home : ℕ) →
     HasSent rules_d o (answered es) (manager_homes es) sent → (left rules_d M (answered es) ≡ 0 → home ≡ manager_home es b.head) →
     HasSent rules_d o' (answered es ++ b ∷ []) (homes_with rules_d (answered es) (manager_homes es) b home) sent →
@@ -43,7 +43,7 @@ answered_with {C} {M} es o o' sent b home h right h' =
     (subst (λ q. HasSent rules_d o' (answered es ++ b ∷ []) q sent) (same ∙ sym given) h')
 
 module _ {C M : ℕ} (s : ClientNow C M) (x : ClientDone C M) (h : ClientStands s x) where
-  -- one channel of the client's side goes on
+  -- one channel of the client's side advances
   pub client_a : (o : Outgoing HeadA M) (sent : List (BeatOf HeadA M)) → HasSent rules_a o (asked x.history) x.a_homes sent →
       ClientStands (record s { a = o }) (record x { a_sent = sent })
   client_a o sent k = record { a = k; b = h.b; c = h.c; d = h.d; e = h.e; book = h.book }
@@ -88,7 +88,7 @@ module _ {C M : ℕ} (s : ClientNow C M) (x : ClientDone C M) (h : ClientStands 
     book = knows;
   }
 
-  -- all that stands in the inboxes is taken
+  -- all beats of the inboxes are taken
   pub client_takes_all : (book : Client) → KnowsClient book (x.history ++ map Answer s.d) →
       ClientStands (record s { b = []; d = []; book = book }) (record x { history = x.history ++ map Answer s.d; b = takes s.b x.b })
   client_takes_all book knows = record {
@@ -101,7 +101,7 @@ module _ {C M : ℕ} (s : ClientNow C M) (x : ClientDone C M) (h : ClientStands 
   }
 
 module _ {C M : ℕ} (s : ManagerNow C M) (x : ManagerDone C M) (h : ManagerStands s x) where
-  -- one channel of the manager's side goes on
+  -- one channel of the manager's side advances
   pub manager_b : (o : Outgoing HeadB C) (y : Away HeadB M C) → HasSent rules_b o y.accepted y.homes y.sent →
       ManagerStands (record s { b = o }) (record x { b = y })
   manager_b o y k = record { a = h.a; b = k; c = h.c; d = h.d; e = h.e; book = h.book }
@@ -147,7 +147,7 @@ module _ {C M : ℕ} (s : ManagerNow C M) (x : ManagerDone C M) (h : ManagerStan
         book = knows;
       }
 
-  -- all that stands in the inboxes is taken
+  -- all beats of the inboxes are taken
   pub manager_takes_all : (book : Manager) → KnowsManager book (x.history ++ map Ask s.a) →
       ManagerStands (record s { a = []; c = []; e = []; book = book })
       (record x { history = x.history ++ map Ask s.a; c = takes s.c x.c; e = takes s.e x.e })

@@ -22,7 +22,7 @@ module _ {A : Type 0} {C M : ℕ} where
     e = same_take_then s.e t.e u.e f.e g.e;
   }
 
-  -- two sides stay those of one bridge while each goes on by itself
+  -- two sides stay those of one bridge while each advances by itself
   pub still_sides : (s s' : ClientState A C M) (t t' : ManagerState A C M) → SameClient s s' → SameManager t t' → AreSides s t → AreSides s' t'
   still_sides s s' t t' client manager sides = record {
     a = still_pair s.a s'.a t.a t'.a client.a manager.a sides.a;

@@ -1,17 +1,15 @@
--- What a channel does goes by that channel alone, and it goes on.
-use Rattle.std.proofs.Common.{◌≡◌, ◌≢◌, ◌≤◌, ◌<◌, ◌+◌, ◌-◌, ◌++◌, ℕ, List, [], length, min, take, drop, refl, sym, ap, subst, ◌∙◌, arith, length-append}
+-- The behaviour of a channel depends only on that channel, and it advances.
+use Rattle.std.proofs.Common.{◌≡◌, ◌≢◌, ◌<◌, ◌+◌, ◌-◌, ◌++◌, ℕ, [], length, min, take, drop, refl, sym, ap, subst, ◌∙◌, arith, length-append}
 use Rattle.std.proofs.lemmas.List.{length-drop, length-take}
 use Rattle.tl_convert.proofs.FarHanded.{some-length}
 use Rattle.tl_ring.specs.Pipe.{IsReady}
-use Rattle.tl_sides.proofs.Words.{Pipe, Sending, Taking, inbox_room, known_free, known_items}
+use Rattle.tl_sides.proofs.Words.{Pipe, inbox_room, known_items}
 use Rattle.tl_sides.specs.Bridges.{Bridge, pump_count, fetch_count}
 use Rattle.tl_sides.specs.ChannelCalls.{pumped, fetched}
-use Rattle.tl_sides.specs.Ends.{Pumps, Fetches}
-use Rattle.tl_sides.specs.Ends as ends
 use Rattle.tl_sides.specs.Separate.{IsSeparate, EndsAreSeparate, NoChannelBlocks, each_pumped, each_fetched}
 
 module _ {H : Type 0} {v : ℕ} where
-  -- a pump sends where there is something to send, and a place for it
+  -- a pump sends if there is a beat to send, and room for it
   pump_sends : (p : Pipe H v) → p.stage ≢ [] → length p.ring < p.room → length (pumped p).stage < length p.stage
   pump_sends p some place =
       let staged : 0 < length p.stage = some-length p.stage some in

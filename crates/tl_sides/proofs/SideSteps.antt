@@ -4,7 +4,7 @@ use Rattle.std.proofs.Common.{◌∙◌, arith, append-nil, length-append}
 use Rattle.std.proofs.lemmas.List.{length-drop}
 use Rattle.tl_sides.proofs.Words.{Rules, rules_a, rules_b, rules_c, rules_d, rules_e, ChA, ChB, ChC, ChD, ChE, HeadA, HeadB, HeadC, HeadD, HeadE}
 use Rattle.tl_sides.proofs.Words.{BeatOf, homes_with, HasSent, IsOpen, World, inbox_room, Sending, Taking, sending_of, taking_of, Sends, Takes}
-use Rattle.tl_sides.proofs.Words.{Pushed, Fetched, Met, Meets, passed, received, known_free, known_items, ROOM, Standing, sends_offered, sends_shut}
+use Rattle.tl_sides.proofs.Words.{Pushed, Fetched, Met, Meets, passed, received, known_free, known_items, STAGE_CAPACITY, Standing, sends_offered, sends_shut}
 use Rattle.tl_sides.proofs.Words.{meets_of, cut_moves, Event, Ask, Answer, asked, answered, manager_home, manager_homes, asked_ask, asked_answer}
 use Rattle.tl_sides.proofs.Words.{answered_ask, answered_answer, SideFault, EndFault}
 use Rattle.tl_sides.specs.Calls.{OffersBeat, ClosesChannel, TakesBeat}
@@ -34,7 +34,7 @@ client_side_of q = client_state_of q.port q.a q.b.half q.c q.d.half q.e
 abbrev pub manager_side_of : {A : Type 0} {C M : ℕ} → manager.Inside C M A → ManagerState A C M
 manager_side_of q = manager_state_of q.port q.a.half q.b q.c.half q.d q.e.half
 
--- what its port has done, where the side stands for a past
+-- the past of its port, if the side represents a past
 abbrev pub client_done : {A : Type 0} {C M : ℕ} → client.Inside C M A → ClientPast C M → ClientDone C M
 client_done q x = record {
   history = x.history;
@@ -67,7 +67,7 @@ module _ {A : Type 0} {C M : ℕ} (q : client.Inside C M A) (x : ClientPast C M)
     book = h.book;
   }
 
-  -- all that stands in the inboxes is taken
+  -- all beats of the inboxes are taken
   pub client_takes_all : (s' : ClientNow C M) → s' ≡ record q.port { b = []; d = []; book = s'.book } →
       KnowsClient s'.book (x.history ++ map Answer q.port.d) →
       ClientStandsFor (client_side_of (record q { port = s' })) (client_takes_d q.port.d (client_takes_b q.port.b x))
@@ -225,7 +225,7 @@ module _ {A : Type 0} {C M : ℕ} (q : manager.Inside C M A) (x : ManagerPast C 
     book = h.book;
   }
 
-  -- all that stands in the inboxes is taken
+  -- all beats of the inboxes are taken
   pub manager_takes_all : (s' : ManagerNow C M) → s' ≡ record q.port { a = []; c = []; e = []; book = s'.book } →
       KnowsManager s'.book (x.history ++ map Ask q.port.a) →
       ManagerStandsFor (manager_side_of (record q { port = s' })) (manager_takes_e q.port.e (manager_takes_c q.port.c (manager_takes_a q.port.a x)))
@@ -391,7 +391,7 @@ module _ {K A H : Type 0} {v : ℕ} where
         pushed = subst (λ n. Pushed s n s') count p;
       }
 
-  -- the count of a fetch is what came into the inbox
+  -- the count of a fetch is the number of beats that entered the inbox
   pub fetch_counted : (k : ℕ) (t t' : Taking K A H v) → Fetched t k t' → k ≡ fetch_count t t'
   fetch_counted k t t' f =
       let size : length t'.inbox ≡ length t.inbox + length f.moved = ap length f.inbox ∙ length-append t.inbox f.moved in
@@ -408,11 +408,11 @@ module _ {K A H : Type 0} {v : ℕ} where
         fetched = subst (λ n. Fetched t n t') count f;
       }
 
--- what a pump of an end says, and a fetch
+-- the property of a pump of an end, and of a fetch
 abbrev pub PumpsEnd : {K A H : Type 0} (r : Rules H) (w : ℕ) {v : ℕ} (s s' : Sending K A H v) (n : ℕ) → Type 0
 PumpsEnd {K} {A} {H} r w {v} s s' n = record {
   count : n ≡ pump_count s s';
-  most : n ≤ ROOM;
+  most : n ≤ STAGE_CAPACITY;
   pumps : Pumps s s';
   stands : (x : World H w v) → Sends r s x → Sends r s' (after_pump s s' x);
 }
@@ -425,10 +425,10 @@ FetchesEnd {K} {A} {H} {v} t t' n = record {
   takes : (taken : List (BeatOf H v)) → Takes t taken → Takes t' taken;
 }
 
--- what moved into a half of a ring, and out of one
+-- the beats that entered a half of a ring, and that came out of one
 pub pumps_end : {K A H : Type 0} (r : Rules H) (w : ℕ) {v : ℕ} (s s' : Sending K A H v) (n : ℕ) → record {
   least : min (length s.stage) (known_free s) ≤ n;
-  most : (n ≤ length s.stage) × (n ≤ ROOM);
+  most : (n ≤ length s.stage) × (n ≤ STAGE_CAPACITY);
   pushed : Pushed s n s';
   stands : (x : World H w v) → Sends r s x → Sends r s' (passed n x);
 } → PumpsEnd r w s s' n
@@ -445,7 +445,7 @@ module _ {A : Type 0} {C M : ℕ} where
   abbrev pub ClientPumps : (s s' : ClientState A C M) (n : ℕ) → Type 0
   ClientPumps s s' n = record {
     total : n ≡ pump_count s.a s'.a + pump_count s.c s'.c + pump_count s.e s'.e;
-    most : n ≤ 3 * ROOM;
+    most : n ≤ 3 * STAGE_CAPACITY;
     a : Pumps s.a s'.a;
     c : Pumps s.c s'.c;
     e : Pumps s.e s'.e;
@@ -480,7 +480,7 @@ module _ {A : Type 0} {C M : ℕ} where
   abbrev pub ManagerPumps : (s s' : ManagerState A C M) (n : ℕ) → Type 0
   ManagerPumps s s' n = record {
     total : n ≡ pump_count s.b s'.b + pump_count s.d s'.d;
-    most : n ≤ 2 * ROOM;
+    most : n ≤ 2 * STAGE_CAPACITY;
     b : Pumps s.b s'.b;
     d : Pumps s.d s'.d;
     rest : s' ≡ record s { b = s'.b; d = s'.d };
@@ -511,7 +511,7 @@ module _ {A : Type 0} {C M : ℕ} where
   abbrev pub ClientFetches : (s s' : ClientState A C M) (n : ℕ) → Type 0
   ClientFetches s s' n = record {
     total : n ≡ fetch_count s.b s'.b + fetch_count s.d s'.d;
-    most : n ≤ 2 * ROOM;
+    most : n ≤ 2 * STAGE_CAPACITY;
     b : Fetches s.b s'.b;
     d : Fetches s.d s'.d;
     rest : s' ≡ record s { b = s'.b; d = s'.d };
@@ -544,7 +544,7 @@ module _ {A : Type 0} {C M : ℕ} where
   abbrev pub ManagerFetches : (s s' : ManagerState A C M) (n : ℕ) → Type 0
   ManagerFetches s s' n = record {
     total : n ≡ fetch_count s.a s'.a + fetch_count s.c s'.c + fetch_count s.e s'.e;
-    most : n ≤ 3 * ROOM;
+    most : n ≤ 3 * STAGE_CAPACITY;
     a : Fetches s.a s'.a;
     c : Fetches s.c s'.c;
     e : Fetches s.e s'.e;
@@ -580,7 +580,7 @@ module _ {A : Type 0} {C M : ℕ} where
         };
       })
 
--- what a meeting of both ends of a channel says
+-- the facts that a meeting of both ends of a channel shows
 abbrev pub MeetsEnds : {K A H : Type 0} (r : Rules H) (w : ℕ) {v : ℕ} (s s' : Sending K A H v) (t t' : Taking K A H v) (n : Standing) → Type 0
 MeetsEnds {K} {A} {H} r w {v} s s' t t' n = record {
   met : Met s t s' t';
@@ -590,7 +590,7 @@ MeetsEnds {K} {A} {H} r w {v} s s' t t' n = record {
 
 -- both halves of a ring were looked at, and the boxes beside them counted
 pub ends_meet : {K A H : Type 0} (r : Rules H) (w : ℕ) {v : ℕ} (s s' : Sending K A H v) (t t' : Taking K A H v) (n : Standing) → Met s t s' t' →
-    n.staged ≡ length s'.stage → n.staged ≤ ROOM → n.in_ring ≡ length (known_items t') → n.inbox ≡ length t'.inbox →
+    n.staged ≡ length s'.stage → n.staged ≤ STAGE_CAPACITY → n.in_ring ≡ length (known_items t') → n.inbox ≡ length t'.inbox →
     n.inbox ≤ inbox_room → MeetsEnds r w s s' t t' n
 ends_meet r w s s' t t' n met staged few in_ring inbox most =
     let fits : length t'.inbox ≤ inbox_room = omega (arith, inbox, most) in record {

@@ -41,7 +41,7 @@ pub use Rattle.tl_ring.specs.Ends.{Fetched, Meets, Met, Pushed, SameSend, SameTa
 pub use Rattle.tl_ring.specs.Ends.{received, seen_by, sending_of, taking_of}
 pub use Rattle.tl_ring.specs.Pipe.{Pipe}
 pub use Rattle.tl_ring.specs.declared.fault.EndFault.{EndFault}
-pub use Rattle.tl_ring.specs.declared.queue.TheConstants.{ROOM}
+pub use Rattle.tl_ring.specs.declared.queue.TheConstants.{STAGE_CAPACITY}
 pub use Rattle.tl_ring.specs.declared.standing.Standing.{Standing}
 pub use Rattle.tl_settle.proofs.Homes.{from_answer, from_ask}
 pub use Rattle.tl_settle.proofs.Marks.{answered_answer, answered_ask, asked_answer, asked_ask}

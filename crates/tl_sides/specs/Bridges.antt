@@ -1,5 +1,6 @@
--- What a contract sees of the bridge of both sides in one thread: five crossings, and what each side has seen of A and D. A, C and E cross
--- from the client's side, at width C, to the manager's, at width M; B and D cross back (this project's choice).
+-- The logical view of the bridge of both sides in one thread: five crossings, and the history of A and D at each side.
+-- A, C and E cross from the client's side, at width C, to the manager's, at width M; B and D cross back (this project's
+-- choice).
 use Rattle.std.specs.Prelude.{◌≡◌, ◌-◌, ◌+◌, ◌++◌, ℕ, true, List, [], ◌∷◌, length, map, take, drop, min}
 use Rattle.tl_sides.specs.Words.{rules_a, rules_b, rules_c, rules_d, rules_e, HeadA, HeadB, HeadC, HeadD, HeadE, World, empty, offered, pushed}
 use Rattle.tl_sides.specs.Words.{popped, took, inbox_room, Pipe, Standing, Event, Ask, Answer, asked, answered, client_answer, manager_answer}
@@ -9,18 +10,18 @@ use Rattle.tl_settle.specs.Books.{Client, Manager, KnowsClient, KnowsManager}
 use Rattle.tl_settle.specs.Obeying.{ObeysRules}
 use Rattle.tl_sides.specs.Calls.{SendingChannel, TakingChannel, alone}
 
--- a bridge as it is now: it keeps no history
+-- the current state of a bridge, without its history
 pub record Bridge (C M : ℕ) : Type 0 where
   pub a : Pipe HeadA M
   pub b : Pipe HeadB C
   pub c : Pipe HeadC M
   pub d : Pipe HeadD C
   pub e : Pipe HeadE M
-  -- what each side keeps of its own beats
+  -- the book of each side
   pub client : Client
   pub manager : Manager
 
--- what has happened at a bridge: the history of each side, and what crossed on each channel
+-- the past of a bridge: the history of each side, and the crossing of each channel
 pub record Past (C M : ℕ) : Type 0 where
   pub client : List (Event C)
   pub manager : List (Event M)
@@ -30,15 +31,15 @@ pub record Past (C M : ℕ) : Type 0 where
   pub d : World HeadD M C
   pub e : World HeadE C M
 
--- a bridge stands for a past
+-- a bridge represents a past
 pub record StandsFor {C M : ℕ} (s : Bridge C M) (x : Past C M) : Type 0 where
-  -- each of its crossings is where that of the past is
+  -- each of its pipes represents the crossing of the past
   pub a : piping.StandsFor rules_a s.a x.a
   pub b : piping.StandsFor rules_b s.b x.b
   pub c : piping.StandsFor rules_c s.c x.c
   pub d : piping.StandsFor rules_d s.d x.d
   pub e : piping.StandsFor rules_e s.e x.e
-  -- the histories are those of the crossings A and D
+  -- the histories agree with the crossings of A and D
   pub client_asked : asked x.client ≡ x.a.accepted
   pub client_answered : answered x.client ≡ x.d.taken
   pub manager_asked : asked x.manager ≡ x.a.taken
@@ -48,18 +49,18 @@ pub record StandsFor {C M : ℕ} (s : Bridge C M) (x : Past C M) : Type 0 where
   -- each side's book is kept up to its history
   pub client : KnowsClient s.client x.client
   pub manager : KnowsManager s.manager x.manager
-  -- legal in, legal out: at each side all that went in and all that came out obeys the rules that an offer is held to
+  -- legal in, legal out: at each side, all beats that went in or came out obey the rules that an offer is held to
   pub client_obeys : ObeysRules x.client
   pub manager_obeys : ObeysRules x.manager
 
--- how many beats a pump moves, and a fetch
+-- the number of beats that a pump moves, and that a fetch moves
 abbrev pub pump_count : {H : Type 0} {v : ℕ} → Pipe H v → ℕ
 pump_count p = min (length p.stage) (p.room - length p.ring)
 
 abbrev pub fetch_count : {H : Type 0} {v : ℕ} → Pipe H v → ℕ
 fetch_count p = min (length p.ring) (inbox_room - length p.inbox)
 
--- how many beats stand at each place of a pipe
+-- the number of beats at each place of a pipe
 pub record IsStanding {H : Type 0} {v : ℕ} (p : Pipe H v) (s : Standing) : Type 0 where
   pub staged : s.staged ≡ length p.stage
   pub in_ring : s.in_ring ≡ length p.ring
@@ -78,8 +79,9 @@ module _ {C M : ℕ} where
     e = empty room;
   }
 
-  -- the channels that a bridge sends from one of its sides: on A the client's side has asked, and on D the manager's has answered; the home of a
-  -- message of D is the address of the request that is open there then, and 0 of ReleaseAck
+  -- The channels that a bridge sends from one of its sides. An accepted beat of A is a request in the client's history,
+  -- and one of D a response in the manager's. The home of a message of D is the address of its request, outstanding at
+  -- that moment, and 0 for ReleaseAck.
   abbrev pub bridge_sends_a : SendingChannel (Bridge C M) (Past C M) HeadA C
   bridge_sends_a = record (alone rules_a StandsFor (λ x. x.a) (λ y x. record x { a = y }) (λ s. s.a.closed)
       (λ s. record s { a = record s.a { closed = true } })
@@ -111,7 +113,8 @@ module _ {C M : ℕ} where
       (λ s. record s { e = record s.e { closed = true } })
       (λ s s'. s' ≡ record s { e = s'.e })
 
-  -- and those that it takes at the other: on A the manager's side is asked, and on D the client's is answered
+  -- the channels that it takes at the other side: a beat taken of A is a request in the manager's history, and one of D
+  -- a response in the client's
   abbrev pub bridge_takes_a : TakingChannel (Bridge C M) (Past C M) HeadA M
   bridge_takes_a = record {
     rules = rules_a;

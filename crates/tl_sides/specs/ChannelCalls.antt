@@ -1,14 +1,16 @@
--- What comes of the calls on one channel of a bridge in one thread, and of a call that takes all that has arrived (this project's choice).
+-- The effect of the calls on one channel of a bridge in one thread, and of the call that takes all beats that have
+-- arrived (this project's choice).
 use Rattle.std.specs.Prelude.{◌++◌, ◌==◌, ℕ, [], cond, drop, length, map, take}
 use Rattle.tl_sides.specs.Words.{World, Pipe, popped, pushed, Ask, Answer}
 use Rattle.tl_sides.specs.Bridges.{Bridge, Past, StandsFor, fetch_count, pump_count}
 
--- all of an inbox is taken
+-- all beats of an inbox are taken
 abbrev pub emptied : {H : Type 0} {w v : ℕ} → World H w v → World H w v
 emptied x = record x { inbox = []; taken = x.taken ++ x.inbox }
 
 module _ {C M : ℕ} where
-  -- each side takes all that stands in its inboxes: on A the manager's side is asked, and on D the client's is answered
+  -- each side takes all beats of its inboxes; a beat of A is a request in the manager's history, and one of D a
+  -- response in the client's
   abbrev pub after_take_all : Past C M → Past C M
   after_take_all x = record {
     client = x.client ++ map Answer x.d.inbox;
@@ -20,7 +22,8 @@ module _ {C M : ℕ} where
     e = emptied x.e;
   }
 
--- so many staged beats went into the ring, then so many of the ring into the inbox, and then so many more of those staged into the ring
+-- `first` staged beats moved into the ring, then `out` beats from the ring into the inbox, and then `again` more staged
+-- beats into the ring
 abbrev pub passed_on : {H : Type 0} {w v : ℕ} → (first out again : ℕ) → World H w v → World H w v
 passed_on first out again x = pushed again (popped out (pushed first x))
 
@@ -32,8 +35,9 @@ module _ {H : Type 0} {v : ℕ} where
   abbrev pub fetched : Pipe H v → Pipe H v
   fetched p = record p { ring = drop (fetch_count p) p.ring; inbox = p.inbox ++ take (fetch_count p) p.ring }
 
-  -- what is staged passes on into the ring; where that has too little room for all of it, the ring's beats go into the inbox then, and what is
-  -- still staged goes into the ring: so many beats go out of the ring, and so many more into it
+  -- Forwarding staged beats. They move into the ring. If it has too little room for all, the ring's beats move into the
+  -- inbox, and the remaining staged beats into the ring. The two counts are of the beats that then leave the ring and
+  -- enter it.
   abbrev pub out_count : Pipe H v → ℕ
   out_count p = cond (length (pumped p).stage == 0) 0 (fetch_count (pumped p))
 
@@ -43,11 +47,11 @@ module _ {H : Type 0} {v : ℕ} where
   abbrev pub after_pass_on : {w : ℕ} → Pipe H v → World H w v → World H w v
   after_pass_on p x = passed_on (pump_count p) (out_count p) (again_count p) x
 
-  -- and this is the channel then
+  -- the channel after that
   abbrev pub passed : Pipe H v → Pipe H v
   passed p = cond (length (pumped p).stage == 0) (pumped p) (pumped (fetched (pumped p)))
 
--- a bridge passes on what is staged of a channel
+-- a bridge forwards the staged beats of a channel
 module _ {C M : ℕ} where
   abbrev pub passes_a : Bridge C M → Bridge C M → Type 0
   passes_a s t = (x : Past C M) → StandsFor s x → StandsFor t (record x { a = after_pass_on s.a x.a })

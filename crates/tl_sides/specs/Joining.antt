@@ -1,4 +1,4 @@
--- The bridge of both sides in one thread is their two ports and a ring on each channel.
+-- The bridge of both sides in one thread, composed of their two ports and a ring on each channel.
 use Rattle.std.specs.Prelude.{ℕ, List}
 use Rattle.tl_sides.specs.Words.{Buffer, HeadA, HeadB, HeadC, HeadD, HeadE, BeatOf, Outgoing, Pipe}
 use Rattle.tl_sides.specs.Bridges.{Bridge}

@@ -1,4 +1,4 @@
--- What a contract sees of a side, whatever carries its beats: its own history alone.
+-- The logical view of a side, independent of the rings that carry its beats: only its own history.
 use Rattle.std.specs.Prelude.{◌≡◌, ◌++◌, ℕ, true, false, List, [], ◌∷◌, map, take, drop}
 use Rattle.tl_sides.specs.Words.{Rules, rules_a, rules_b, rules_c, rules_d, rules_e, HeadA, HeadB, HeadC, HeadD, HeadE, BeatOf, homes_with, Outgoing}
 use Rattle.tl_sides.specs.Words.{HasSent, HasTaken, Event, Ask, Answer, asked, answered, client_answer, manager_answer, manager_homes}
@@ -6,18 +6,18 @@ use Rattle.tl_settle.specs.Books.{Client, Manager, KnowsClient, KnowsManager}
 use Rattle.tl_sides.specs.Calls.{SendingChannel, TakingChannel}
 use Rattle.tl_sides.specs.Crossings.{stops_alone}
 
--- what a side did on a channel that it sends
+-- the past of a side on a channel that it sends
 pub record Away (H : Type 0) (w v : ℕ) : Type 0 where
   pub accepted : List (BeatOf H w)
   pub homes : List ℕ
   pub sent : List (BeatOf H v)
 
--- and on one that it takes
+-- the past of a side on a channel that it takes
 pub record Hither (H : Type 0) (v : ℕ) : Type 0 where
   pub received : List (BeatOf H v)
   pub taken : List (BeatOf H v)
 
--- the client's side as it is now
+-- the current state of the client's side
 pub record ClientNow (C M : ℕ) : Type 0 where
   pub a : Outgoing HeadA M
   pub b : List (BeatOf HeadB C)
@@ -26,7 +26,7 @@ pub record ClientNow (C M : ℕ) : Type 0 where
   pub e : Outgoing HeadE M
   pub book : Client
 
--- what it has done: the history has what was accepted of A and taken of D
+-- its past: the history has the accepted beats of A and the taken beats of D
 pub record ClientDone (C M : ℕ) : Type 0 where
   pub history : List (Event C)
   pub a_homes : List ℕ
@@ -44,7 +44,7 @@ pub record ClientStands {C M : ℕ} (s : ClientNow C M) (x : ClientDone C M) : T
   pub e : HasSent rules_e s.e x.e.accepted x.e.homes x.e.sent
   pub book : KnowsClient s.book x.history
 
--- the manager's side as it is now
+-- the current state of the manager's side
 pub record ManagerNow (C M : ℕ) : Type 0 where
   pub a : List (BeatOf HeadA M)
   pub b : Outgoing HeadB C
@@ -53,7 +53,8 @@ pub record ManagerNow (C M : ℕ) : Type 0 where
   pub e : List (BeatOf HeadE M)
   pub book : Manager
 
--- what it has done: the history has what was taken of A and accepted of D, and gives each message of D its home
+-- its past: the history has the taken beats of A and the accepted beats of D, and determines the home of each message
+-- of D
 pub record ManagerDone (C M : ℕ) : Type 0 where
   pub history : List (Event M)
   pub a_received : List (BeatOf HeadA M)
@@ -102,7 +103,8 @@ manager_new = record {
   e = record { received = []; taken = [] };
 }
 
--- a channel that a side sends, and that nothing couples to another one, by its outbox and by what went through that. An offer closes none
+-- a channel that a side sends and that does not depend on another channel, from its outbox and the beats that went
+-- through it. An offer does not close the channel
 abbrev pub through : {S P H : Type 0} {w v : ℕ} (r : Rules H) (Stands : S → P → Type 0) (outbox : S → Outgoing H v) (lay : Outgoing H v → S → S)
     (away : P → Away H w v) (put : Away H w v → P → P) → SendingChannel S P H w
 through r Stands outbox lay away put = record {
@@ -117,12 +119,12 @@ through r Stands outbox lay away put = record {
   Keeps = λ s s'. (s' ≡ lay (outbox s') s) × ((outbox s').closed ≡ false);
 }
 
--- an outbox alone
+-- an outbox by itself
 abbrev pub outbox_sends : {H : Type 0} (r : Rules H) {w v : ℕ} → SendingChannel (Outgoing H v) (Away H w v) H w
 outbox_sends r = through r (λ o x. HasSent r o x.accepted x.homes x.sent) (λ o. o) (λ o _. o) (λ x. x) (λ y _. y)
 
 module _ {C M : ℕ} where
-  -- the channels that each side sends: on A and D its book decides, and what is accepted is part of its history
+  -- the channels that each side sends: on A and D its book decides, and accepted beats are part of its history
   abbrev pub port_sends_a : SendingChannel (ClientNow C M) (ClientDone C M) HeadA C
   port_sends_a = record {
     rules = rules_a;
@@ -158,7 +160,7 @@ module _ {C M : ℕ} where
   abbrev pub port_sends_e : SendingChannel (ClientNow C M) (ClientDone C M) HeadE C
   port_sends_e = through rules_e ClientStands (λ s. s.e) (λ o s. record s { e = o }) (λ x. x.e) (λ y x. record x { e = y })
 
-  -- and those that it takes
+  -- the channels that it takes
   abbrev pub port_takes_a : TakingChannel (ManagerNow C M) (ManagerDone C M) HeadA M
   port_takes_a = record {
     rules = rules_a;

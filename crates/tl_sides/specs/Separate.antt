@@ -1,6 +1,7 @@
--- No channel blocks another: what a call does on a channel goes by where that channel's own beats are, whatever the other four hold. So a response
--- is never held back by a request, and the order of priority E, D, C, B, A can't be turned round inside the bridge (TileLink: priorities of channels
--- and forward progress). That a request is refused while its source is busy, and a response until its request was taken, is a rule of the link.
+-- No channel blocks another: the effect of a call on a channel depends only on where that channel's own beats are, not
+-- on the other four. So a request never holds back a response, and the order of priority E, D, C, B, A cannot be
+-- reversed inside the bridge (TileLink: priorities of channels and forward progress). A request is refused while its
+-- source is busy, and a response until its request was taken; that is a rule of the link.
 use Rattle.std.specs.Prelude.{◌≡◌, ◌≢◌, ◌≤◌, ◌<◌, ℕ, [], length}
 use Rattle.tl_ring.specs.Pipe.{IsReady}
 use Rattle.tl_sides.specs.Words.{Pipe, Sending, Taking, inbox_room, known_free, known_items, ChA, ChB, ChC, ChD, ChE, HeadA, HeadB, HeadC, HeadD, HeadE}
@@ -9,7 +10,7 @@ use Rattle.tl_sides.specs.ChannelCalls.{pumped, fetched}
 use Rattle.tl_sides.specs.Ends.{Pumps, Fetches}
 
 module _ {C M : ℕ} where
-  -- a bridge in one thread pumps, and fetches, on each channel by that channel alone
+  -- a bridge in one thread pumps and fetches on each channel, depending only on that channel
   abbrev pub each_pumped : Bridge C M → Bridge C M
   each_pumped s = record s { a = pumped s.a; b = pumped s.b; c = pumped s.c; d = pumped s.d; e = pumped s.e }
 
@@ -18,20 +19,23 @@ module _ {C M : ℕ} where
 
   -- a channel of a bridge in one thread
   pub record IsSeparate {H : Type 0} {v : ℕ} (channel : Bridge C M → Pipe H v) : Type 0 where
-    -- where it is the same in two bridges, so are the answer to whether a beat of it may be offered, what a pump makes of it, and what a fetch does
+    -- if it is the same in two bridges, so are the result of asking whether a beat of it may be offered, and the
+    -- effects of a pump and of a fetch
     pub ready : (s t : Bridge C M) → channel s ≡ channel t → IsReady (channel s) → IsReady (channel t)
     pub pump : (s t : Bridge C M) → channel s ≡ channel t → channel (each_pumped s) ≡ channel (each_pumped t)
     pub fetch : (s t : Bridge C M) → channel s ≡ channel t → channel (each_fetched s) ≡ channel (each_fetched t)
-    -- it goes on: a pump sends staged beats wherever its own ring has room, and a fetch brings them wherever its own inbox has
+    -- it advances: a pump sends staged beats if its own ring has room, and a fetch moves beats if its own inbox has
+    -- room
     pub sends : (s : Bridge C M) → (channel s).stage ≢ [] → length (channel s).ring < (channel s).room →
         length (channel (each_pumped s)).stage < length (channel s).stage
     pub arrives : (s : Bridge C M) → (channel s).ring ≢ [] → length (channel s).inbox < inbox_room →
         length (channel s).inbox < length (channel (each_fetched s)).inbox
 
--- an end of a channel at a side in a thread of its own. What a side's pump says of each of its ends, and its fetch, speaks of that end alone
+-- an end of a channel at a side in a thread of its own. The contracts of a side's pump and fetch describe each of its
+-- ends by itself
 pub record EndsAreSeparate (K A H : Type 0) (v : ℕ) : Type 0 where
-  -- it goes on: a pump sends staged beats wherever the end knows a free place of its own ring, and a fetch brings those that it knows to be in its
-  -- own ring wherever its own inbox has room
+  -- it advances: a pump sends staged beats if the end knows a free position in its own ring, and a fetch moves beats
+  -- that the end knows to be in its own ring if its own inbox has room
   pub sends : (s s' : Sending K A H v) → Pumps s s' → s.stage ≢ [] → 1 ≤ known_free s → length s'.stage < length s.stage
   pub arrives : (t t' : Taking K A H v) → Fetches t t' → known_items t ≢ [] → length t.inbox < inbox_room → length t.inbox < length t'.inbox
 

@@ -1,7 +1,6 @@
--- What a contract sees of each side of the bridge. A, C and E cross from the client's side, at
--- width C, to the manager's, at width M; B and D cross back. What a side stands for is its own
--- alone: where the beats are that it has sent, and which ones will come, only a meeting tells (this
--- project's choice).
+-- The logical view of each side of the bridge. A, C and E cross from the client's side, at width C, to the manager's,
+-- at width M; B and D cross back. A side represents only its own past: only a meeting shows how far the beats that it
+-- sent have come, and which ones will arrive (this project's choice).
 use Rattle.std.specs.Prelude.{◌≡◌, ◌++◌, ℕ, List, [], ◌∷◌, map, take}
 use Rattle.tl_sides.specs.Words.{rules_a, rules_b, rules_c, rules_d, rules_e, ChA, ChB, ChC, ChD, ChE, HeadA, HeadB, HeadC, HeadD, HeadE, BeatOf}
 use Rattle.tl_sides.specs.Words.{World, empty, offered, Sending, Taking, SendHalf, TakeHalf, sending_of, taking_of, Sends, Takes, Meets, ArePair}
@@ -13,7 +12,7 @@ use Rattle.tl_sides.specs.Calls.{SendingChannel, TakingChannel, alone}
 use Rattle.tl_sides.specs.Ports.{ClientNow, ManagerNow}
 use Rattle.tl_sides.specs.Ends.{after_pump, IsIdle}
 
--- a side as it is now: the ends of its channels, and its book. It keeps no history
+-- the current state of a side, without its history: the ends of its channels, and its book
 pub record ClientState (A : Type 0) (C M : ℕ) : Type 0 where
   pub a : Sending ChA A HeadA M
   pub b : Taking ChB A HeadB C
@@ -30,7 +29,7 @@ pub record ManagerState (A : Type 0) (C M : ℕ) : Type 0 where
   pub e : Taking ChE A HeadE M
   pub book : Manager
 
--- a side is its port, and its halves of the five rings
+-- a side consists of its port and its halves of the five rings
 abbrev pub client_state_of : {A : Type 0} {C M : ℕ} → ClientNow C M → SendHalf ChA A HeadA M → TakeHalf ChB A HeadB C → SendHalf ChC A HeadC M →
     TakeHalf ChD A HeadD C → SendHalf ChE A HeadE M → ClientState A C M
 client_state_of p a b c d e = record {
@@ -53,9 +52,8 @@ manager_state_of p a b c d e = record {
   book = p.book;
 }
 
--- what has happened at a side: its history of A and D, the crossing of each channel that it sends,
--- as if each beat was taken as soon as it was sent, and the beats that it took of each other
--- channel but A and D, whose beats the history has
+-- The past of a side: its history of A and D, the crossing of each channel that it sends, as if each beat were taken as
+-- soon as it was sent, and the beats taken of each other channel. The beats taken of A or D are in the history.
 pub record ClientPast (C M : ℕ) : Type 0 where
   pub history : List (Event C)
   pub a : World HeadA C M
@@ -70,8 +68,8 @@ pub record ManagerPast (C M : ℕ) : Type 0 where
   pub d : World HeadD M C
   pub e : List (BeatOf HeadE M)
 
--- a side stands for a past: its history tells what it accepted and took of A and D, and its book is
--- kept up to it
+-- a side represents a past: the history has the beats of A and D that it accepted and took, and its book is kept up to
+-- the history
 pub record ClientStandsFor {A : Type 0} {C M : ℕ} (s : ClientState A C M)
     (x : ClientPast C M) : Type 0 where
   pub a : Sends rules_a s.a x.a
@@ -80,7 +78,7 @@ pub record ClientStandsFor {A : Type 0} {C M : ℕ} (s : ClientState A C M)
   pub d : Takes s.d (answered x.history)
   pub e : Sends rules_e s.e x.e
   pub accepted : asked x.history ≡ x.a.accepted
-  -- its own offers went by the rules
+  -- its own offers obeyed the rules
   pub requests : RequestsObey x.history
   pub book : KnowsClient s.book x.history
 
@@ -94,7 +92,7 @@ pub record ManagerStandsFor {A : Type 0} {C M : ℕ} (s : ManagerState A C M)
   pub accepted : answered x.history ≡ x.d.accepted
   -- the home of each message of D is the one that the side's history gave it
   pub homes : manager_homes x.history ≡ x.d.homes
-  -- its own offers went by the rules
+  -- its own offers obeyed the rules
   pub responses : ResponsesObey x.history
   pub book : KnowsManager s.book x.history
 
@@ -106,7 +104,7 @@ module _ {C M : ℕ} where
   abbrev pub new_manager : (room : ℕ) → ManagerPast C M
   new_manager room = record { history = []; b = empty room; c = []; d = empty room; e = [] }
 
-  -- these beats of a channel are taken: one, or none
+  -- these beats of a channel are taken
   abbrev pub client_takes_b : List (BeatOf HeadB C) → ClientPast C M → ClientPast C M
   client_takes_b bs x = record x { b = x.b ++ bs }
 
@@ -123,8 +121,8 @@ module _ {C M : ℕ} where
   manager_takes_e bs x = record x { e = x.e ++ bs }
 
 module _ {A : Type 0} {C M : ℕ} where
-  -- the channels that each side sends: its half of a ring stays as it is; the home of a message of D is the address of the request that is open
-  -- there then, and 0 of ReleaseAck
+  -- The channels that each side sends. Its half of a ring is unchanged. The home of a message of D is the address of its
+  -- request, outstanding at that moment, and 0 for ReleaseAck.
   abbrev pub side_sends_a : SendingChannel (ClientState A C M) (ClientPast C M) HeadA C
   side_sends_a = record (alone rules_a ClientStandsFor (λ x. x.a) (λ y x. record x { a = y }) (λ s. s.a.closed) (λ s. record s { a = closing s.a })
       (λ s s'. (s'.a.producer ≡ s.a.producer) × (s' ≡ record s { a = s'.a; book = s'.book }))) {
@@ -151,7 +149,7 @@ module _ {A : Type 0} {C M : ℕ} where
   side_sends_e = alone rules_e ClientStandsFor (λ x. x.e) (λ y x. record x { e = y }) (λ s. s.e.closed) (λ s. record s { e = closing s.e })
       (λ s s'. (s'.e.producer ≡ s.e.producer) × (s' ≡ record s { e = s'.e }))
 
-  -- and those that it takes
+  -- the channels that it takes
   abbrev pub side_takes_a : TakingChannel (ManagerState A C M) (ManagerPast C M) HeadA M
   side_takes_a = record {
     rules = rules_a;
@@ -198,7 +196,7 @@ module _ {A : Type 0} {C M : ℕ} where
   }
 
 module _ {A : Type 0} {C M : ℕ} where
-  -- a side pumps: each crossing goes on by as many beats as left its stage
+  -- a side pumps: each crossing advances by the number of beats that left its stage
   abbrev pub client_pumps : (before after : ClientState A C M) → ClientPast C M → ClientPast C M
   client_pumps s s' x = record x {
     a = after_pump s.a s'.a x.a;
@@ -217,7 +215,7 @@ module _ {A : Type 0} {C M : ℕ} where
     pub d : ArePair t.d s.d
     pub e : ArePair s.e t.e
 
-  -- a new side knows the whole of its rings as free, and has nothing in its inboxes
+  -- a new side knows all positions of its rings to be free, and its inboxes are empty
   pub record IsNewClient (room : ℕ) (s : ClientState A C M) : Type 0 where
     pub a : known_free s.a ≡ room
     pub b : IsIdle s.b
@@ -247,9 +245,9 @@ module _ {A : Type 0} {C M : ℕ} where
     pub d : SameSend t.d t'.d
     pub e : SameTake t.e t'.e
 
-  -- what a meeting of both sides says of what they stood for: each still stands for it, and each
-  -- channel is one crossing, to which a list of events leads; so what was taken, and what stands in
-  -- inbox, ring and stage, is the far layout of what was accepted
+  -- The facts that a meeting of both sides shows about the pasts that they represented. Each still represents it, and
+  -- each channel is one crossing, to which a list of events leads. So the beats taken, followed by those in inbox, ring
+  -- and stage, are the far layout of the accepted beats.
   pub record SidesMeet (s : ClientState A C M) (t : ManagerState A C M) (x : ClientPast C M)
       (y : ManagerPast C M) : Type 0 where
     pub client : ClientStandsFor s x

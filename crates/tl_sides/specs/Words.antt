@@ -1,4 +1,4 @@
--- The words of the crates below that the definitions of this crate speak in.
+-- Definitions of the crates below that those of this crate use.
 pub use Rattle.circular_buffer.specs.Buffer.{Buffer}
 pub use Rattle.tl_burst.specs.Handing.{fault_after, homes_with, rest_of}
 pub use Rattle.tl_msg.specs.Faults.{IsLawfulBeat}
@@ -23,6 +23,6 @@ pub use Rattle.tl_ring.specs.Ends.{ArePair, Fetched, Meets, Pushed, SameSend, Sa
 pub use Rattle.tl_ring.specs.Ends.{known_free, known_items, passed, sending_of, taking_of, took_first}
 pub use Rattle.tl_ring.specs.Pipe.{Pipe}
 pub use Rattle.tl_ring.specs.declared.fault.EndFault.{EndFault}
-pub use Rattle.tl_ring.specs.declared.queue.TheConstants.{ROOM}
+pub use Rattle.tl_ring.specs.declared.queue.TheConstants.{STAGE_CAPACITY}
 pub use Rattle.tl_ring.specs.declared.standing.Standing.{Standing}
 pub use Rattle.tl_settle.specs.Histories.{Answer, Ask, Event, answered, asked, client_answer, manager_answer, manager_home, manager_homes}

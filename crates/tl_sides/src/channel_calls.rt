@@ -1,5 +1,5 @@
-//! What the owner of a bridge in one thread does with one channel at a time: it passes on what is staged
-//! and looks at the inbox. And it takes all that stands in the inboxes at once.
+//! Calls on one channel of a bridge in one thread: forwarding staged beats, and reading the inbox.
+//! Also a call that takes all beats of the inboxes at once.
 ghost use Rattle.std.specs.Prelude.{◌≡◌};
 ghost use Rattle.tl_lanes.specs.Lanes.{IsWidth};
 ghost use Rattle.tl_sides.specs.Bridges.{Past, StandsFor};
@@ -11,9 +11,9 @@ use std::alloc::Allocator;
 use tl_msg::{Beat, BeatOf, ChA, ChB, ChC, ChD, ChE, Channel, HeadA, HeadB, HeadC, HeadD, HeadE};
 use tl_ring::{Inbox, Outbox, Ring, fetch, pump};
 
-// Moves what is staged into the ring. Where that has too little room, the ring's beats go on into the inbox,
-// and then what is still staged into the ring.
-fn pass_on<K: Channel, const W: usize, const V: usize, A: Allocator>(
+// Moves staged beats into the ring. If the ring has too little room, moves its beats into the
+// inbox, and then the remaining staged beats into the ring, as many as fit.
+fn forward_staged<K: Channel, const W: usize, const V: usize, A: Allocator>(
     outbox: &mut Outbox<K, W, V>,
     ring: &mut Ring<K, V, A>,
     inbox: &mut Inbox<K, V>,
@@ -29,100 +29,101 @@ fn pass_on<K: Channel, const W: usize, const V: usize, A: Allocator>(
     pump(outbox, ring);
 }
 
-/// What passes on what is staged of the channel on which it offers beats `B`.
-pub trait PassesOn<B> {
-    // what becomes of it
+/// A holder that forwards the staged beats of the channel on which it offers beats `B`.
+pub trait Forward<B> {
+    // the relation between the holder before and after
     ghost Passes: { (old : Self) → (new : Self) → Type 0 };
 
-    /// Moves what is staged into the ring. Where that has too little room, the ring's beats go on into the
-    /// inbox, and then what is still staged into the ring.
-    fn pass_on(&mut self)
+    /// Moves staged beats into the ring. If the ring has too little room, moves its beats into the
+    /// inbox, and then the remaining staged beats into the ring, as many as fit.
+    fn forward_staged(&mut self)
         ensures { Passes self.old self.new };
 }
 
-impl<const C: usize, const M: usize, A: Allocator> PassesOn<BeatOf<HeadA, C>>
+impl<const C: usize, const M: usize, A: Allocator> Forward<BeatOf<HeadA, C>>
     for SyncBridge<C, M, A> {
     ghost Passes = { passes_a };
 
-    fn pass_on(&mut self) {
-        pass_on(&mut self.client.a, &mut self.a, &mut self.manager.a);
+    fn forward_staged(&mut self) {
+        forward_staged(&mut self.client.a, &mut self.a, &mut self.manager.a);
     }
 }
 
-impl<const C: usize, const M: usize, A: Allocator> PassesOn<BeatOf<HeadB, M>>
+impl<const C: usize, const M: usize, A: Allocator> Forward<BeatOf<HeadB, M>>
     for SyncBridge<C, M, A> {
     ghost Passes = { passes_b };
 
-    fn pass_on(&mut self) {
-        pass_on(&mut self.manager.b, &mut self.b, &mut self.client.b);
+    fn forward_staged(&mut self) {
+        forward_staged(&mut self.manager.b, &mut self.b, &mut self.client.b);
     }
 }
 
-impl<const C: usize, const M: usize, A: Allocator> PassesOn<BeatOf<HeadC, C>>
+impl<const C: usize, const M: usize, A: Allocator> Forward<BeatOf<HeadC, C>>
     for SyncBridge<C, M, A> {
     ghost Passes = { passes_c };
 
-    fn pass_on(&mut self) {
-        pass_on(&mut self.client.c, &mut self.c, &mut self.manager.c);
+    fn forward_staged(&mut self) {
+        forward_staged(&mut self.client.c, &mut self.c, &mut self.manager.c);
     }
 }
 
-impl<const C: usize, const M: usize, A: Allocator> PassesOn<BeatOf<HeadD, M>>
+impl<const C: usize, const M: usize, A: Allocator> Forward<BeatOf<HeadD, M>>
     for SyncBridge<C, M, A> {
     ghost Passes = { passes_d };
 
-    fn pass_on(&mut self) {
-        pass_on(&mut self.manager.d, &mut self.d, &mut self.client.d);
+    fn forward_staged(&mut self) {
+        forward_staged(&mut self.manager.d, &mut self.d, &mut self.client.d);
     }
 }
 
-impl<const C: usize, const M: usize, A: Allocator> PassesOn<BeatOf<HeadE, C>>
+impl<const C: usize, const M: usize, A: Allocator> Forward<BeatOf<HeadE, C>>
     for SyncBridge<C, M, A> {
     ghost Passes = { passes_e };
 
-    fn pass_on(&mut self) {
-        pass_on(&mut self.client.e, &mut self.e, &mut self.manager.e);
+    fn forward_staged(&mut self) {
+        forward_staged(&mut self.client.e, &mut self.e, &mut self.manager.e);
     }
 }
 
 impl<const C: usize, const M: usize, A: Allocator> SyncBridge<C, M, A> {
-    /// The beats of A's inbox, in order, for [`SyncBridge::take_all`].
+    /// Returns the beats of A's inbox, in order, for use with [`SyncBridge::take_all`].
     pub fn inbox_a(&self) -> &[Beat<ChA, M>]
         ensures { result.now ≡ self.now.a.inbox }
     {
         self.manager.a.as_slice()
     }
 
-    /// The beats of B's inbox, in order, for [`SyncBridge::take_all`].
+    /// Returns the beats of B's inbox, in order, for use with [`SyncBridge::take_all`].
     pub fn inbox_b(&self) -> &[Beat<ChB, C>]
         ensures { result.now ≡ self.now.b.inbox }
     {
         self.client.b.as_slice()
     }
 
-    /// The beats of C's inbox, in order, for [`SyncBridge::take_all`].
+    /// Returns the beats of C's inbox, in order, for use with [`SyncBridge::take_all`].
     pub fn inbox_c(&self) -> &[Beat<ChC, M>]
         ensures { result.now ≡ self.now.c.inbox }
     {
         self.manager.c.as_slice()
     }
 
-    /// The beats of D's inbox, in order, for [`SyncBridge::take_all`].
+    /// Returns the beats of D's inbox, in order, for use with [`SyncBridge::take_all`].
     pub fn inbox_d(&self) -> &[Beat<ChD, C>]
         ensures { result.now ≡ self.now.d.inbox }
     {
         self.client.d.as_slice()
     }
 
-    /// The beats of E's inbox, in order, for [`SyncBridge::take_all`].
+    /// Returns the beats of E's inbox, in order, for use with [`SyncBridge::take_all`].
     pub fn inbox_e(&self) -> &[Beat<ChE, M>]
         ensures { result.now ≡ self.now.e.inbox }
     {
         self.manager.e.as_slice()
     }
 
-    /// Both sides take all beats of their inboxes, which [`SyncBridge::inbox_a`] and its like show: as
-    /// many calls of `take_x` on each channel.
+    /// Takes all beats of the inboxes of both sides, those that [`SyncBridge::inbox_a`] to
+    /// [`SyncBridge::inbox_e`] return. Has the effect of `take_x` on each channel until its inbox
+    /// is empty. Requires: `C` and `M` are widths.
     pub fn take_all(&mut self)
         requires client { IsWidth C }
         requires manager { IsWidth M }

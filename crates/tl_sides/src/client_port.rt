@@ -1,4 +1,4 @@
-//! The client's side, whatever carries its beats.
+//! The client's side, independent of the rings that carry its beats.
 ghost use Rattle.std.specs.Prelude.{◌≡◌, ◌↔◌, ◌++◌, [], map, IsTrue};
 ghost use Rattle.tl_lanes.specs.Lanes.{IsWidth};
 ghost use Rattle.tl_ring.specs.Boxes.{IsOpen, IsSentOut};
@@ -16,12 +16,13 @@ use tl_msg::{Beat, ChA, ChB, ChC, ChD, ChE, SideFault};
 use tl_ring::{EndFault, Inbox, Outbox};
 use tl_settle::ClientBook;
 
-/// The client's side on a bus of `C` bytes, whatever carries its beats to and from a bus of `M` bytes: it offers beats of
-/// A, C and E, and takes those of B and D.
+/// The client's side on a bus of `C` bytes, independent of the rings that carry its beats to and
+/// from a bus of `M` bytes. It offers beats of A, C and E, and takes those of B and D.
 ///
-/// An outbox for each channel that it sends, an inbox for each that it takes, and its book. Who holds the port beside its rings
-/// moves beats from the outboxes into them and out of them into the inboxes. What the calls promise speaks of this side's own
-/// history alone.
+/// It has an outbox for each channel that it sends, an inbox for each channel that it takes, and
+/// its book. The owner of the port and its rings moves beats from the outboxes into the rings, and
+/// from the rings into the inboxes. The contracts of the calls refer only to this side's own
+/// history.
 #[derive(Drop)]
 pub struct ClientPort<const C: usize, const M: usize, A: Allocator = Global> {
     pub(crate) a: Outbox<ChA, C, M>,
@@ -41,8 +42,8 @@ impl<const C: usize, const M: usize, A: Allocator> Model for ClientPort<C, M, A>
 }
 
 impl<const C: usize, const M: usize, A: Allocator> ClientPort<C, M, A> {
-    /// The port of a new side over its book. It has no word on the widths: what it promises has them as a premise in place of a
-    /// demand.
+    /// Creates the port of a new side from its book. It has no precondition on the widths; its
+    /// postconditions apply only to valid ones.
     pub fn over(book: ClientBook<C, A>) -> Self
         ensures stands { IsWidth C → IsWidth M → KnowsClient {w = C} book [] → ClientStands {C = C} {M = M} result client_new }
         ensures ready_a { IsOpen result.a }
@@ -62,30 +63,36 @@ impl<const C: usize, const M: usize, A: Allocator> ClientPort<C, M, A> {
         }
     }
 
-    /// Whether a beat of A may be offered: nothing of A is staged, and the channel isn't closed.
+    /// Returns whether a beat of A may be offered: nothing of A is staged, and the channel is not
+    /// closed.
     pub fn ready_a(&self) -> bool
         ensures { IsTrue result ↔ IsOpen self.now.a }
     {
         self.a.ready()
     }
 
-    /// Whether a beat of C may be offered: nothing of C is staged, and the channel isn't closed.
+    /// Returns whether a beat of C may be offered: nothing of C is staged, and the channel is not
+    /// closed.
     pub fn ready_c(&self) -> bool
         ensures { IsTrue result ↔ IsOpen self.now.c }
     {
         self.c.ready()
     }
 
-    /// Whether a beat of E may be offered: nothing of E is staged, and the channel isn't closed.
+    /// Returns whether a beat of E may be offered: nothing of E is staged, and the channel is not
+    /// closed.
     pub fn ready_e(&self) -> bool
         ensures { IsTrue result ↔ IsOpen self.now.e }
     {
         self.e.ready()
     }
 
-    /// Offers a beat of A where A is ready. It is refused with the beat's own fault, else, where it opens a message, with
-    /// `SourceBusy` exactly where its source is busy, and nothing changes then. An accepted first beat makes its source busy, and
-    /// the far beats that the beat completes are staged.
+    /// Offers a beat of A. If it is accepted, the far beats that it completes are staged, and a
+    /// first beat makes its source busy.
+    ///
+    /// Errors: the beat's own fault; otherwise `SourceBusy` if and only if the beat is the first of
+    /// a message whose source is busy. Nothing changes then. Requires: `C` and `M` are widths, and
+    /// A is ready.
     pub fn offer_a(&mut self, beat: &Beat<ChA, C>) -> Result<(), SideFault>
         requires near { IsWidth C }
         requires far { IsWidth M }
@@ -95,8 +102,10 @@ impl<const C: usize, const M: usize, A: Allocator> ClientPort<C, M, A> {
         offer_request(&mut self.book, &mut self.a, beat)
     }
 
-    /// Offers a beat of C where C is ready. It is refused exactly with the beat's own fault, and nothing changes then. Else the
-    /// far beats that it completes are staged.
+    /// Offers a beat of C. If it is accepted, the far beats that it completes are staged.
+    ///
+    /// Errors: the beat's own fault, and only that; the side is then unchanged. Requires: `C` and
+    /// `M` are widths, and C is ready.
     pub fn offer_c(&mut self, beat: &Beat<ChC, C>) -> Result<(), SideFault>
         requires near { IsWidth C }
         requires far { IsWidth M }
@@ -106,8 +115,10 @@ impl<const C: usize, const M: usize, A: Allocator> ClientPort<C, M, A> {
         offer_alone(&mut self.c, beat)
     }
 
-    /// Offers a beat of E where E is ready. It is refused exactly with the beat's own fault, and nothing changes then. Else the
-    /// far beats that it completes are staged.
+    /// Offers a beat of E. If it is accepted, the far beats that it completes are staged.
+    ///
+    /// Errors: the beat's own fault, and only that; the side is then unchanged. Requires: `C` and
+    /// `M` are widths, and E is ready.
     pub fn offer_e(&mut self, beat: &Beat<ChE, C>) -> Result<(), SideFault>
         requires near { IsWidth C }
         requires far { IsWidth M }
@@ -117,31 +128,35 @@ impl<const C: usize, const M: usize, A: Allocator> ClientPort<C, M, A> {
         offer_alone(&mut self.e, beat)
     }
 
-    /// Takes the first beat of B's inbox. None exactly where it is empty.
+    /// Removes and returns the first beat of B's inbox. Returns `None` if and only if the inbox is
+    /// empty.
     pub fn take_b(&mut self) -> Option<Beat<ChB, C>>
         ensures { TakesBeat port_takes_b self.old result self.new }
     {
         self.b.take()
     }
 
-    /// Takes the first beat of D's inbox. None exactly where it is empty. A first beat other than of ReleaseAck frees its source.
+    /// Removes and returns the first beat of D's inbox. Returns `None` if and only if the inbox is
+    /// empty. The first beat of a response, that is, of any message except ReleaseAck, frees its
+    /// source. Requires: `C` is a width.
     pub fn take_d(&mut self) -> Option<Beat<ChD, C>>
         requires { IsWidth C }
         ensures { TakesBeat port_takes_d self.old result self.new }
     {
         match self.d.take() {
             Some(beat) => {
-                self.book.note_answer(&beat.head);
+                self.book.record_response(&beat.head);
                 Some(beat)
             }
             None => None,
         }
     }
 
-    /// Takes all beats of both inboxes: as many calls of [`ClientPort::take_b`] and [`ClientPort::take_d`].
+    /// Takes all beats of both inboxes. Has the effect of [`ClientPort::take_b`] and
+    /// [`ClientPort::take_d`] until both are empty. Requires: `C` is a width.
     pub fn take_all(&mut self)
         requires { IsWidth C }
-        // for all that the side has done
+        // for everything that the side has done
         ensures taken { (x : ClientDone C M) → ClientStands self.old x →
             ClientStands self.new (record x { history = x.history ++ map Answer self.old.d; b = takes self.old.b x.b }) }
         // for every side
@@ -152,37 +167,43 @@ impl<const C: usize, const M: usize, A: Allocator> ClientPort<C, M, A> {
         self.d.take_all();
     }
 
-    /// Ends the offers of A. Refused exactly where a burst is unfinished, and nothing changes then. What is staged stays so, and
-    /// still crosses. A second close answers Ok and changes nothing.
+    /// Ends the offers of A. Beats in the stage stay there, and still cross. Closing again returns
+    /// `Ok` and changes nothing.
+    ///
+    /// Errors: `MidBurst` if and only if a burst is unfinished; nothing changes then.
     pub fn close_a(&mut self) -> Result<(), EndFault>
         ensures { ClosesChannel port_sends_a self.old result self.new }
     {
         self.a.close()
     }
 
-    /// Ends the offers of C. Refused exactly where a burst is unfinished, and nothing changes then. What is staged stays so, and
-    /// still crosses. A second close answers Ok and changes nothing.
+    /// Ends the offers of C. Beats in the stage stay there, and still cross. Closing again returns
+    /// `Ok` and changes nothing.
+    ///
+    /// Errors: `MidBurst` if and only if a burst is unfinished; nothing changes then.
     pub fn close_c(&mut self) -> Result<(), EndFault>
         ensures { ClosesChannel port_sends_c self.old result self.new }
     {
         self.c.close()
     }
 
-    /// Ends the offers of E. Refused exactly where a burst is unfinished, and nothing changes then. What is staged stays so, and
-    /// still crosses. A second close answers Ok and changes nothing.
+    /// Ends the offers of E. Beats in the stage stay there, and still cross. Closing again returns
+    /// `Ok` and changes nothing.
+    ///
+    /// Errors: `MidBurst` if and only if a burst is unfinished; nothing changes then.
     pub fn close_e(&mut self) -> Result<(), EndFault>
         ensures { ClosesChannel port_sends_e self.old result self.new }
     {
         self.e.close()
     }
 
-    /// Whether A, C and E are closed and nothing of them is staged.
+    /// Returns whether A, C and E are closed and nothing of them is staged.
     pub fn is_sent_out(&self) -> bool
         ensures { IsTrue result ↔ (IsSentOut self.now.a × IsSentOut self.now.c × IsSentOut self.now.e) }
     {
         self.a.is_sent_out() & self.c.is_sent_out() & self.e.is_sent_out()
     }
 
-    // Lets the port go.
-    pub(crate) fn let_go(self) {}
+    // Discards the port.
+    pub(crate) fn discard(self) {}
 }

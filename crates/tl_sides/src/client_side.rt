@@ -3,37 +3,40 @@ ghost use Rattle.std.specs.Prelude.{◌≡◌, ◌+◌, ◌*◌, ◌≤◌, ◌�
 ghost use Rattle.tl_lanes.specs.Lanes.{IsWidth};
 ghost use Rattle.tl_ring.specs.Ends.{LookedAfter, as_pipe, closing, took_first};
 ghost use Rattle.tl_ring.specs.Pipe.{IsReady};
-ghost use Rattle.tl_ring.specs.declared.queue.TheConstants.{ROOM};
+ghost use Rattle.tl_ring.specs.declared.queue.TheConstants.{STAGE_CAPACITY};
 ghost use Rattle.tl_sides.specs.Calls.{OffersBeat, ClosesChannel, TakesBeat};
 ghost use Rattle.tl_sides.specs.Ends.{Pumps, Fetches, IsIdle, pump_count, fetch_count};
-ghost use Rattle.tl_sides.specs.Receipts.{ClientIsSentOut, ClientLeaves, LeftShowsClient, AreManagersReceipts, ShowsManager, ManagerIsShown};
+ghost use Rattle.tl_sides.specs.Receipts.{ClientIsSentOut, ClientLeaves, LeftShowsClient, AreManagersReceipts, ShowsManager, ManagerIsShown, CountClient, client_totals};
 ghost use Rattle.tl_sides.specs.Sides.{ClientPast, ClientStandsFor, ManagerPast, ManagerState, AreSides, client_pumps, client_takes_b, client_takes_d};
 ghost use Rattle.tl_sides.specs.Sides.{side_sends_a, side_sends_c, side_sends_e, side_takes_b, side_takes_d};
 
 use crate::client_port::ClientPort;
+use crate::per_channel::PerChannel;
 use crate::receipts::{FinishedClient, ManagerReceipt};
 use std::alloc::{Allocator, Global};
 use std::marker::Model;
 use tl_msg::{BeatOf, ChA, ChB, ChC, ChD, ChE, HeadA, HeadB, HeadC, HeadD, HeadE, SideFault};
-use tl_ring::{EndFault, Intake, SendHalf, TakeEnd, finish, is_drained, receive, send_staged};
+use tl_ring::{
+    EndFault, RingReader, SendHalf, TakeEnd, finish, is_drained, receive, send_staged, taken_count,
+};
 
 /// The client's side of the bridge, on a bus of `C` bytes. It offers beats of A, C and E, and takes
 /// those of B and D.
 ///
-/// Between an offer and a take lie a stage, a ring and an inbox: `pump` moves beats from this side's
-/// stages into its rings, and `fetch` from the other side's rings into this side's inboxes. Stage and
-/// inbox hold [`tl_ring::ROOM`] beats each. No call waits for the other side.
+/// Between an offer and a take are a stage, a ring and an inbox: `pump` moves beats from this
+/// side's stages into its rings, and `fetch` from the other side's rings into this side's inboxes.
+/// Stage and inbox hold [`tl_ring::STAGE_CAPACITY`] beats each. No call waits for the other side.
 ///
-/// A source is busy from the first beat of A that this side offers until it takes the first beat of
-/// the response (TileLink: source and size of responses; the moments at which a source is busy:
-/// this project's choice).
+/// A source is busy from the first accepted beat of its request on A until this side takes the
+/// first beat of the response (TileLink: source and size of responses; the moments at which a
+/// source is busy: this project's choice).
 #[derive(Drop)]
 pub struct ClientSide<const C: usize, const M: usize, A: Allocator = Global> {
     pub(crate) port: ClientPort<C, M, A>,
     pub(crate) a: SendHalf<ChA, M, A>,
-    pub(crate) b: Intake<ChB, C, A>,
+    pub(crate) b: RingReader<ChB, C, A>,
     pub(crate) c: SendHalf<ChC, M, A>,
-    pub(crate) d: Intake<ChD, C, A>,
+    pub(crate) d: RingReader<ChD, C, A>,
     pub(crate) e: SendHalf<ChE, M, A>,
 }
 
@@ -46,31 +49,36 @@ impl<const C: usize, const M: usize, A: Allocator> Model for ClientSide<C, M, A>
 }
 
 impl<const C: usize, const M: usize, A: Allocator> ClientSide<C, M, A> {
-    /// Whether a beat of A may be offered: nothing of A is staged, and the channel isn't closed.
+    /// Returns whether a beat of A may be offered: nothing of A is staged, and the channel is not
+    /// closed.
     pub fn ready_a(&self) -> bool
         ensures { IsTrue result ↔ IsReady (as_pipe self.now.a) }
     {
         self.port.ready_a()
     }
 
-    /// Whether a beat of C may be offered: nothing of C is staged, and the channel isn't closed.
+    /// Returns whether a beat of C may be offered: nothing of C is staged, and the channel is not
+    /// closed.
     pub fn ready_c(&self) -> bool
         ensures { IsTrue result ↔ IsReady (as_pipe self.now.c) }
     {
         self.port.ready_c()
     }
 
-    /// Whether a beat of E may be offered: nothing of E is staged, and the channel isn't closed.
+    /// Returns whether a beat of E may be offered: nothing of E is staged, and the channel is not
+    /// closed.
     pub fn ready_e(&self) -> bool
         ensures { IsTrue result ↔ IsReady (as_pipe self.now.e) }
     {
         self.port.ready_e()
     }
 
-    /// Offers a beat of A where A is ready. It is refused with the beat's own fault, else, where it
-    /// opens a message, with `SourceBusy` exactly where its source is busy. A refusal changes
-    /// nothing. An accepted first beat makes its source busy, and the far beats that the beat
-    /// completes, at most [`tl_ring::ROOM`], are staged.
+    /// Offers a beat of A. If it is accepted, the far beats that it completes, at most
+    /// [`tl_ring::STAGE_CAPACITY`], are staged, and a first beat makes its source busy.
+    ///
+    /// Errors: the beat's own fault; otherwise `SourceBusy` if and only if the beat is the first of
+    /// a message whose source is busy. Nothing changes then. Requires: `C` and `M` are widths, and
+    /// A is ready.
     pub fn offer_a(&mut self, beat: BeatOf<HeadA, C>) -> Result<(), SideFault>
         requires near { IsWidth C }
         requires far { IsWidth M }
@@ -80,8 +88,11 @@ impl<const C: usize, const M: usize, A: Allocator> ClientSide<C, M, A> {
         self.port.offer_a(&beat)
     }
 
-    /// Offers a beat of C where C is ready. It is refused exactly with the beat's own fault, and
-    /// nothing changes then. Else the far beats that it completes, at most [`tl_ring::ROOM`], are staged.
+    /// Offers a beat of C. If it is accepted, the far beats that it completes, at most
+    /// [`tl_ring::STAGE_CAPACITY`], are staged.
+    ///
+    /// Errors: the beat's own fault, and only that; the side is then unchanged. Requires: `C` and
+    /// `M` are widths, and C is ready.
     pub fn offer_c(&mut self, beat: BeatOf<HeadC, C>) -> Result<(), SideFault>
         requires near { IsWidth C }
         requires far { IsWidth M }
@@ -91,7 +102,8 @@ impl<const C: usize, const M: usize, A: Allocator> ClientSide<C, M, A> {
         self.port.offer_c(&beat)
     }
 
-    /// Offers a beat of E where E is ready. No beat of E has a fault. The far beat is staged.
+    /// Offers a beat of E, and stages the far beat. No beat of E has a fault. Requires: `C` and `M`
+    /// are widths, and E is ready.
     pub fn offer_e(&mut self, beat: BeatOf<HeadE, C>) -> Result<(), SideFault>
         requires near { IsWidth C }
         requires far { IsWidth M }
@@ -101,16 +113,17 @@ impl<const C: usize, const M: usize, A: Allocator> ClientSide<C, M, A> {
         self.port.offer_e(&beat)
     }
 
-    /// Takes the first beat of B's inbox, which is lawful at `C` bytes. None exactly where it is
-    /// empty.
+    /// Removes and returns the first beat of B's inbox, which is lawful at `C` bytes. Returns
+    /// `None` if and only if the inbox is empty.
     pub fn take_b(&mut self) -> Option<BeatOf<HeadB, C>>
         ensures { TakesBeat side_takes_b self.old result self.new }
     {
         self.port.take_b()
     }
 
-    /// Takes the first beat of D's inbox, which is lawful at `C` bytes. None exactly where it is
-    /// empty. A first beat other than of ReleaseAck frees its source.
+    /// Removes and returns the first beat of D's inbox, which is lawful at `C` bytes. Returns
+    /// `None` if and only if the inbox is empty. The first beat of a response, that is, of any
+    /// message except ReleaseAck, frees its source. Requires: `C` is a width.
     pub fn take_d(&mut self) -> Option<BeatOf<HeadD, C>>
         requires far { IsWidth C }
         ensures { TakesBeat side_takes_d self.old result self.new }
@@ -118,24 +131,26 @@ impl<const C: usize, const M: usize, A: Allocator> ClientSide<C, M, A> {
         self.port.take_d()
     }
 
-    /// The beats of B's inbox, in order, for [`ClientSide::take_all`].
+    /// Returns the beats of B's inbox, in order, for use with [`ClientSide::take_all`].
     pub fn inbox_b(&self) -> &[BeatOf<HeadB, C>]
         ensures { result.now ≡ self.now.b.inbox }
     {
         self.port.b.as_slice()
     }
 
-    /// The beats of D's inbox, in order, for [`ClientSide::take_all`].
+    /// Returns the beats of D's inbox, in order, for use with [`ClientSide::take_all`].
     pub fn inbox_d(&self) -> &[BeatOf<HeadD, C>]
         ensures { result.now ≡ self.now.d.inbox }
     {
         self.port.d.as_slice()
     }
 
-    /// Takes all beats of its inboxes, which [`ClientSide::inbox_b`] and its like show: as many calls of `take_x` on each channel.
+    /// Takes all beats of its inboxes, those that [`ClientSide::inbox_b`] and its siblings return.
+    /// Has the effect of `take_x` on each channel until its inbox is empty. Requires: `C` is a
+    /// width.
     pub fn take_all(&mut self)
         requires { IsWidth C }
-        // for every past that the side stands for
+        // for every past that the side represents
         ensures taken { (x : ClientPast C M) → ClientStandsFor self.old x →
             ClientStandsFor self.new (client_takes_d self.old.d.inbox (client_takes_b self.old.b.inbox x)) }
         // for every side
@@ -145,42 +160,48 @@ impl<const C: usize, const M: usize, A: Allocator> ClientSide<C, M, A> {
         self.port.take_all();
     }
 
-    /// Ends the offers of A. Refused exactly where a burst is unfinished, and nothing changes then.
-    /// What is staged stays so, and still crosses. A second close answers Ok and changes nothing.
+    /// Ends the offers of A. Beats in the stage stay there, and still cross. Closing again returns
+    /// `Ok` and changes nothing.
+    ///
+    /// Errors: `MidBurst` if and only if a burst is unfinished; nothing changes then.
     pub fn close_a(&mut self) -> Result<(), EndFault>
         ensures { ClosesChannel side_sends_a self.old result self.new }
     {
         self.port.close_a()
     }
 
-    /// Ends the offers of C. Refused exactly where a burst is unfinished, and nothing changes then.
-    /// What is staged stays so, and still crosses. A second close answers Ok and changes nothing.
+    /// Ends the offers of C. Beats in the stage stay there, and still cross. Closing again returns
+    /// `Ok` and changes nothing.
+    ///
+    /// Errors: `MidBurst` if and only if a burst is unfinished; nothing changes then.
     pub fn close_c(&mut self) -> Result<(), EndFault>
         ensures { ClosesChannel side_sends_c self.old result self.new }
     {
         self.port.close_c()
     }
 
-    /// Ends the offers of E. Refused exactly where a burst is unfinished, and nothing changes then.
-    /// What is staged stays so, and still crosses. A second close answers Ok and changes nothing.
+    /// Ends the offers of E. Beats in the stage stay there, and still cross. Closing again returns
+    /// `Ok` and changes nothing.
+    ///
+    /// Errors: `MidBurst` if and only if a burst is unfinished; nothing changes then.
     pub fn close_e(&mut self) -> Result<(), EndFault>
         ensures { ClosesChannel side_sends_e self.old result self.new }
     {
         self.port.close_e()
     }
 
-    /// Moves staged beats into the rings on each channel that this side offers, at least as many as
-    /// it knows to find a place, and answers how many these are in all.
+    /// Moves staged beats into the rings on each channel that this side sends. Returns their total
+    /// number. On each channel at least the beats that the side knows to fit are moved.
     pub fn pump(&mut self) -> usize
         ensures total { result ≡ pump_count self.old.a self.new.a +
             pump_count self.old.c self.new.c + pump_count self.old.e self.new.e }
-        ensures most { result ≤ 3 * ROOM }
+        ensures most { result ≤ 3 * STAGE_CAPACITY }
         ensures a { Pumps self.old.a self.new.a }
         ensures c { Pumps self.old.c self.new.c }
         ensures e { Pumps self.old.e self.new.e }
         ensures rest { self.new ≡
             record self.old { a = self.new.a; c = self.new.c; e = self.new.e } }
-        // for every past that the side stands for
+        // for every past that the side represents
         ensures stands { (x : ClientPast C M) → ClientStandsFor self.old x →
             ClientStandsFor self.new (client_pumps self.old self.new x) }
     {
@@ -190,17 +211,17 @@ impl<const C: usize, const M: usize, A: Allocator> ClientSide<C, M, A> {
         a + c + e
     }
 
-    /// Moves beats from the rings into the inboxes on each channel that this side takes, at least
-    /// as many as it knows to be there and each inbox has room for, and answers how many these are
-    /// in all.
+    /// Moves beats from the rings into the inboxes on each channel that this side takes. Returns
+    /// their total number. On each channel at least the beats that the side knows to be in the ring
+    /// are moved, as many as the inbox has room for.
     pub fn fetch(&mut self) -> usize
         ensures total { result ≡
             fetch_count self.old.b self.new.b + fetch_count self.old.d self.new.d }
-        ensures most { result ≤ 2 * ROOM }
+        ensures most { result ≤ 2 * STAGE_CAPACITY }
         ensures b { Fetches self.old.b self.new.b }
         ensures d { Fetches self.old.d self.new.d }
         ensures rest { self.new ≡ record self.old { b = self.new.b; d = self.new.d } }
-        // for every past that the side stands for
+        // for every past that the side represents
         ensures stands { (x : ClientPast C M) → ClientStandsFor self.old x →
             ClientStandsFor self.new x }
     {
@@ -209,22 +230,24 @@ impl<const C: usize, const M: usize, A: Allocator> ClientSide<C, M, A> {
         b + d
     }
 
-    /// Whether the side may finish: A, C and E are closed, and nothing of them is staged.
+    /// Returns whether the side may finish: A, C and E are closed, and nothing of them is staged.
     pub fn is_sent_out(&self) -> bool
         ensures { IsTrue result ↔ ClientIsSentOut self.now }
     {
         self.port.is_sent_out()
     }
 
-    /// Ends the sending, once A, C and E are closed and nothing of them is staged. What still comes on B and D can be taken by
-    /// what is left of the side. Each receipt shows the manager's side all that was sent on its channel. On None there is none,
-    /// and what was sent can still be fetched. No contract says when None comes: it does if the other side is gone.
+    /// Ends the sending. Returns the ends that still take beats of B and D, and a receipt for each
+    /// channel that was sent. A receipt shows the manager's side all beats that were sent on its
+    /// channel. If it is `None`, there is no receipt, and beats that were sent can still be
+    /// fetched. No contract says when it is `None`; that happens if the other side was dropped.
+    /// Requires: A, C and E are closed and nothing of them is staged.
     pub fn finish(self) -> FinishedClient<C, M, A>
         requires { ClientIsSentOut self }
         ensures takes { (result.b ≡ self.b) × (result.d ≡ self.d) }
-        // the other side of the same bridge may be asked with them
+        // the other side of the same bridge can be asked with them
         ensures taker { (t : ManagerState A C M) → AreSides self t → ClientLeaves result t }
-        // for every past that the side stands for
+        // for every past that the side represents
         ensures shows { (x : ClientPast C M) → ClientStandsFor self x → LeftShowsClient result x }
     {
         let ClientSide {
@@ -252,21 +275,38 @@ impl<const C: usize, const M: usize, A: Allocator> ClientSide<C, M, A> {
         }
     }
 
-    /// Whether this side has taken all that the manager's side sent, whose receipt this is. What it took, and what stands in its
-    /// inboxes and in the rings, is the far layout of all that the other side's accepted beats made due, each beat once, in
-    /// order. The side then knows each beat that its rings hold. No beat moves.
+    /// Returns whether this side has taken all beats that the manager's side sent. The beats taken,
+    /// followed by those in the inboxes and in the rings, are the far layout of all accepted beats
+    /// of the other side, each beat once, in order. This side then knows every beat in its rings.
+    /// No beat moves. Requires: the receipt is the one of the other side of this bridge.
     pub fn drained(&mut self, receipt: &mut ManagerReceipt<C, M, A>) -> bool
         requires { AreManagersReceipts receipt.old self.old }
         ensures b { LookedAfter receipt.old.b self.old.b receipt.new.b self.new.b }
         ensures d { LookedAfter receipt.old.d self.old.d receipt.new.d self.new.d }
         ensures rest { self.new ≡ record self.old { b = self.new.b; d = self.new.d } }
         ensures drained { IsTrue result ↔ (IsIdle self.new.b × IsIdle self.new.d) }
-        // for every past that the receipt shows, and every one that this side stands for
+        // for every past that the receipt shows, and every past that this side represents
         ensures shown { (y : ManagerPast C M) (x : ClientPast C M) → ShowsManager receipt.old y →
             ClientStandsFor self.old x → ManagerIsShown receipt.new self.new y x }
     {
         let b = is_drained(&mut self.b, &self.port.b, &mut receipt.b);
         let d = is_drained(&mut self.d, &self.port.d, &mut receipt.d);
         b & d
+    }
+
+    /// Returns how many beats this side has sent on A, C and E, and how many were taken from it on
+    /// B and D. Each number is exact if it is below 2^63.
+    pub fn totals(&self) -> PerChannel<u64>
+        ensures totals { result ≡ client_totals self.now }
+        // for every past that the side stands for
+        ensures exact { (x : ClientPast C M) → ClientStandsFor self.now x → CountClient result x }
+    {
+        PerChannel {
+            a: self.a.count(),
+            b: taken_count(&self.b, &self.port.b),
+            c: self.c.count(),
+            d: taken_count(&self.d, &self.port.d),
+            e: self.e.count(),
+        }
     }
 }

@@ -1,18 +1,20 @@
-//! Laws of both sides, for the proofs above. Each function is there for its contract, and changes
-//! nothing.
+//! Laws of both sides, for the proofs of the crates above. Each function does nothing; its contract
+//! is the law.
 ghost use Rattle.tl_lanes.specs.Lanes.{IsWidth};
 ghost use Rattle.tl_sides.specs.Bridges.{Bridge, Past, StandsFor};
 ghost use Rattle.tl_sides.specs.Legal.{BothLinksObey, SidesObey};
+ghost use Rattle.tl_sides.specs.Receipts.{AsManyAreAll};
 ghost use Rattle.tl_sides.specs.Separate.{NoChannelBlocks};
+ghost use Rattle.tl_sides.specs.Sides.{ClientState, ManagerState, ClientPast, ManagerPast, SidesMeet};
 
 use std::alloc::Allocator;
 use tl_convert::laws::due_has_no_faults;
 use tl_msg::{ChB, ChC, ChE};
 
-/// Legal in, legal out: whatever calls brought a bridge where it is, what came out of it obeys, at the
-/// far link's width, the very rules that beats offered to it are held to. No beat that was taken has a
-/// fault or breaks a burst; a request was taken where its source was free on that link, and a response
-/// where its request was open there, with its size.
+/// Lemma: legal in, legal out. After any calls, the beats that came out of a bridge obey, at the
+/// far link's width, the rules that beats offered there are held to. No beat taken has a fault or
+/// breaks a burst. A request was taken only while its source was free on that link, and a response
+/// only while its request was outstanding there, with its size.
 pub fn legal_in_legal_out<const C: usize, const M: usize>()
     requires client { IsWidth C }
     requires manager { IsWidth M }
@@ -23,9 +25,9 @@ pub fn legal_in_legal_out<const C: usize, const M: usize>()
     due_has_no_faults::<ChE, C, M>();
 }
 
-/// The same of two sides in threads of their own, from meeting to meeting: where both links obeyed the
-/// rules at a meeting, they obey them whatever calls each side made since, if these took no more of A
-/// and D than had come to that side by then.
+/// Lemma: the same for two sides in threads of their own, from meeting to meeting. If both links
+/// obeyed the rules at a meeting, they obey them after any later calls of each side, if each side
+/// took no more of A and D than had arrived by the meeting.
 pub fn sides_obey<const C: usize, const M: usize, A: Allocator>()
     requires client { IsWidth C }
     requires manager { IsWidth M }
@@ -36,10 +38,18 @@ pub fn sides_obey<const C: usize, const M: usize, A: Allocator>()
     due_has_no_faults::<ChE, C, M>();
 }
 
-/// No channel blocks another. Whether a beat of a channel may be offered, and what a pump and a fetch do on
-/// it, goes by that channel's own stage, ring and inbox, whatever the other four hold. So a response is
-/// never held back by a request. (That a source is busy, or a request not yet taken, is a rule of the
-/// link: it refuses a beat of A or D, and holds up none that was accepted.)
+/// Lemma: no channel blocks another. Whether a beat of a channel may be offered, and the effect of
+/// a pump and of a fetch on the channel, depend only on its own stage, ring and inbox. So a request
+/// never holds back a response. (A beat of A or D is refused if its source is busy, or its request
+/// was not yet taken. That is a rule of the link, and holds back no beat that was accepted.)
 pub fn no_channel_blocks_another<const C: usize, const M: usize, A: Allocator>()
     ensures { NoChannelBlocks A C M }
+{}
+
+/// As many beats taken as sent are all beats that were sent. If the two numbers of a channel are
+/// equal at a meeting of both sides, the beats taken are those that the other side has sent, in
+/// order, and none is in the ring or in the inbox.
+pub fn as_many_are_all<const C: usize, const M: usize, A: Allocator>()
+    ensures { (s : ClientState A C M) (t : ManagerState A C M) (x : ClientPast C M)
+        (y : ManagerPast C M) → SidesMeet s t x y → AsManyAreAll A C M s t x y }
 {}

@@ -1,15 +1,16 @@
-//! Each side of the bridge, whatever carries its beats; both sides in one thread, and each for a thread of its own.
+//! The two sides of the bridge: as ports independent of any ring, together in one thread, and each
+//! for a thread of its own.
 #![tactic(auto)]
 
-// What a call gives where it succeeds. Where it doesn't, the rings that are named behind it are let go,
-// and its fault is the caller's. A `?` would convert the fault, one call more to check, and make one
-// more type for each pair of widths.
+// The value of a call that succeeds. If it fails, discards the rings named after it and returns the
+// fault to the caller. A `?` would convert the fault, which adds a call to check and one more type
+// for each pair of widths.
 macro_rules! given {
     ($result:expr $(, $made:ident)*) => {
         match $result {
             Ok(given) => given,
             Err(fault) => {
-                $($made.let_go();)*
+                $($made.discard();)*
                 return Err(fault);
             }
         }
@@ -30,7 +31,7 @@ mod receipts;
 mod sides;
 mod sync_bridge;
 
-pub use channel_calls::PassesOn;
+pub use channel_calls::Forward;
 pub use client_port::ClientPort;
 pub use client_side::ClientSide;
 pub use manager_port::ManagerPort;

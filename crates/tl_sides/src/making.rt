@@ -1,4 +1,4 @@
-//! What a new bridge is made of: a ring for each channel, whatever it is, and the books of both sides.
+//! The parts of a new bridge: a ring for each channel, of either kind, and the books of both sides.
 ghost use Rattle.std.specs.Prelude.{◌≡◌, [], ℕ};
 ghost use Rattle.circular_buffer.specs.Buffer.{buffer};
 ghost use Rattle.tl_ring.specs.Ends.{IsNewRing};
@@ -10,21 +10,21 @@ use tl_msg::Channel;
 use tl_ring::{BuildFault, Ring, SendHalf, TakeHalf};
 use tl_settle::{ClientBook, ManagerBook, new_books};
 
-/// A ring as both its ends have it.
+/// The two halves of a ring.
 pub(crate) type Halves<K, const V: usize, A> = (SendHalf<K, V, A>, TakeHalf<K, V, A>);
 
 /// A ring of a bridge that is being made: one buffer for one thread, or its two halves for two.
 pub(crate) trait NewRing<A> {
-    // it is new, and of so many beats
+    // it is new, and has a capacity of `size` beats
     ghost IsNew: { (size : ℕ) → Self → Type 0 };
 
-    /// A ring of `size` beats, refused as [`Ring::new`] is.
+    /// Creates a ring of `size` beats. Errors: those of [`Ring::new`].
     fn new_ring(alloc: A, size: usize) -> Result<Self, BuildFault>
         ensures { IsMade (λ ring. IsNew size ring) size result };
 
-    /// Lets it go, where the rest of the bridge can't be made. (A bound `Drop` would owe the sizes of
-    /// its parts once more.)
-    fn let_go(self);
+    /// Discards the ring, if the rest of the bridge cannot be made. (With a bound `Drop`, the sizes
+    /// of its parts would have to be proved again.)
+    fn discard(self);
 }
 
 impl<K: Channel, const V: usize, A: Allocator> NewRing<A> for Ring<K, V, A> {
@@ -34,7 +34,7 @@ impl<K: Channel, const V: usize, A: Allocator> NewRing<A> for Ring<K, V, A> {
         Ring::new(alloc, size)
     }
 
-    fn let_go(self) {}
+    fn discard(self) {}
 }
 
 impl<K: Channel, const V: usize, A: Allocator + Copy> NewRing<A> for Halves<K, V, A> {
@@ -44,10 +44,10 @@ impl<K: Channel, const V: usize, A: Allocator + Copy> NewRing<A> for Halves<K, V
         tl_ring::new_ring(alloc, size)
     }
 
-    fn let_go(self) {}
+    fn discard(self) {}
 }
 
-/// What a bridge is made of: a ring for each channel, and the books of both sides.
+/// The parts of a bridge: a ring for each channel, and the books of both sides.
 pub(crate) type Parts<RingA, RingB, RingC, RingD, RingE, const C: usize, const M: usize, A> = (
     RingA,
     RingB,
@@ -58,9 +58,9 @@ pub(crate) type Parts<RingA, RingB, RingC, RingD, RingE, const C: usize, const M
     ManagerBook<M, A>,
 );
 
-// A ring for each channel, whatever it is, and both books: all that takes memory, so that who calls
-// has one way out. It knows nothing of the rings, so that to let some go where the next one fails
-// costs the checker little.
+// Creates a ring for each channel, of either kind, and both books. This is all that allocates
+// memory, so the caller has one return path. The function is generic in the rings, so that
+// discarding some of them when the next one fails is cheap to check.
 pub(crate) fn new_parts<
     const C: usize,
     const M: usize,
@@ -81,11 +81,11 @@ pub(crate) fn new_parts<
     let d = given!(RingD::new_ring(alloc, ring), a, b, c);
     let e = given!(RingE::new_ring(alloc, ring), a, b, c, d);
     let Ok((client, manager)) = new_books(alloc) else {
-        a.let_go();
-        b.let_go();
-        c.let_go();
-        d.let_go();
-        e.let_go();
+        a.discard();
+        b.discard();
+        c.discard();
+        d.discard();
+        e.discard();
         return Err(BuildFault::OutOfMemory);
     };
     Ok((a, b, c, d, e, client, manager))

@@ -1,4 +1,4 @@
-//! The manager's side, whatever carries its beats.
+//! The manager's side, independent of the rings that carry its beats.
 ghost use Rattle.std.specs.Prelude.{◌≡◌, ◌↔◌, ◌++◌, [], map, IsTrue};
 ghost use Rattle.tl_lanes.specs.Lanes.{IsWidth};
 ghost use Rattle.tl_ring.specs.Boxes.{IsOpen, IsSentOut};
@@ -16,11 +16,12 @@ use tl_msg::{Beat, ChA, ChB, ChC, ChD, ChE, SideFault};
 use tl_ring::{EndFault, Inbox, Outbox};
 use tl_settle::ManagerBook;
 
-/// The manager's side on a bus of `M` bytes, whatever carries its beats to and from a bus of `C` bytes: it offers beats of
-/// B and D, and takes those of A, C and E.
+/// The manager's side on a bus of `M` bytes, independent of the rings that carry its beats to and
+/// from a bus of `C` bytes. It offers beats of B and D, and takes those of A, C and E.
 ///
-/// An outbox for each channel that it sends, an inbox for each that it takes, and its book, as [`crate::ClientPort`] has them.
-/// What the calls promise speaks of this side's own history alone.
+/// It has an outbox for each channel that it sends, an inbox for each channel that it takes, and
+/// its book, like [`crate::ClientPort`]. The contracts of the calls refer only to this side's own
+/// history.
 #[derive(Drop)]
 pub struct ManagerPort<const C: usize, const M: usize, A: Allocator = Global> {
     pub(crate) a: Inbox<ChA, M>,
@@ -40,8 +41,8 @@ impl<const C: usize, const M: usize, A: Allocator> Model for ManagerPort<C, M, A
 }
 
 impl<const C: usize, const M: usize, A: Allocator> ManagerPort<C, M, A> {
-    /// The port of a new side over its book. It has no word on the widths: what it promises has them as a premise in place of a
-    /// demand.
+    /// Creates the port of a new side from its book. It has no precondition on the widths; its
+    /// postconditions apply only to valid ones.
     pub fn over(book: ManagerBook<M, A>) -> Self
         ensures stands { IsWidth C → IsWidth M → KnowsManager {w = M} book [] → ManagerStands {C = C} {M = M} result manager_new }
         ensures ready_b { IsOpen result.b }
@@ -61,22 +62,26 @@ impl<const C: usize, const M: usize, A: Allocator> ManagerPort<C, M, A> {
         }
     }
 
-    /// Whether a beat of B may be offered: nothing of B is staged, and the channel isn't closed.
+    /// Returns whether a beat of B may be offered: nothing of B is staged, and the channel is not
+    /// closed.
     pub fn ready_b(&self) -> bool
         ensures { IsTrue result ↔ IsOpen self.now.b }
     {
         self.b.ready()
     }
 
-    /// Whether a beat of D may be offered: nothing of D is staged, and the channel isn't closed.
+    /// Returns whether a beat of D may be offered: nothing of D is staged, and the channel is not
+    /// closed.
     pub fn ready_d(&self) -> bool
         ensures { IsTrue result ↔ IsOpen self.now.d }
     {
         self.d.ready()
     }
 
-    /// Offers a beat of B where B is ready. It is refused exactly with the beat's own fault, and nothing changes then. Else the
-    /// far beats that it completes are staged.
+    /// Offers a beat of B. If it is accepted, the far beats that it completes are staged.
+    ///
+    /// Errors: the beat's own fault, and only that; the side is then unchanged. Requires: `C` and
+    /// `M` are widths, and B is ready.
     pub fn offer_b(&mut self, beat: &Beat<ChB, M>) -> Result<(), SideFault>
         requires near { IsWidth M }
         requires far { IsWidth C }
@@ -86,10 +91,13 @@ impl<const C: usize, const M: usize, A: Allocator> ManagerPort<C, M, A> {
         offer_alone(&mut self.b, beat)
     }
 
-    /// Offers a beat of D where D is ready. It is refused with the beat's own fault, else, where it opens a message other than
-    /// ReleaseAck, with `NoRequest` exactly where its source has no open request, and with `SizeMismatch` exactly where that request
-    /// has another size. A refusal changes nothing. An accepted first beat ends its request, whose address is the message's home,
-    /// and the far beats that the beat completes are staged.
+    /// Offers a beat of D. If it is accepted, the far beats that it completes are staged, and a
+    /// first beat ends its request, whose address is the home of the message.
+    ///
+    /// Errors: the beat's own fault; otherwise, for the first beat of any message except
+    /// ReleaseAck, `NoRequest` if and only if its source has no outstanding request, and
+    /// `SizeMismatch` if and only if that request has another size. Nothing changes then. Requires:
+    /// `C` and `M` are widths, and D is ready.
     pub fn offer_d(&mut self, beat: &Beat<ChD, M>) -> Result<(), SideFault>
         requires near { IsWidth M }
         requires far { IsWidth C }
@@ -99,39 +107,44 @@ impl<const C: usize, const M: usize, A: Allocator> ManagerPort<C, M, A> {
         offer_response(&mut self.book, &mut self.d, beat)
     }
 
-    /// Takes the first beat of A's inbox. None exactly where it is empty. A first beat begins its request: from now on it may be answered.
+    /// Removes and returns the first beat of A's inbox. Returns `None` if and only if the inbox is
+    /// empty. A first beat begins its request, to which the side may respond from now on. Requires:
+    /// `M` is a width.
     pub fn take_a(&mut self) -> Option<Beat<ChA, M>>
         requires { IsWidth M }
         ensures { TakesBeat port_takes_a self.old result self.new }
     {
         match self.a.take() {
             Some(beat) => {
-                self.book.note_ask(&beat.head);
+                self.book.record_request(&beat.head);
                 Some(beat)
             }
             None => None,
         }
     }
 
-    /// Takes the first beat of C's inbox. None exactly where it is empty.
+    /// Removes and returns the first beat of C's inbox. Returns `None` if and only if the inbox is
+    /// empty.
     pub fn take_c(&mut self) -> Option<Beat<ChC, M>>
         ensures { TakesBeat port_takes_c self.old result self.new }
     {
         self.c.take()
     }
 
-    /// Takes the first beat of E's inbox. None exactly where it is empty.
+    /// Removes and returns the first beat of E's inbox. Returns `None` if and only if the inbox is
+    /// empty.
     pub fn take_e(&mut self) -> Option<Beat<ChE, M>>
         ensures { TakesBeat port_takes_e self.old result self.new }
     {
         self.e.take()
     }
 
-    /// Takes all beats of all three inboxes: as many calls of [`ManagerPort::take_a`], [`ManagerPort::take_c`] and
-    /// [`ManagerPort::take_e`].
+    /// Takes all beats of all three inboxes. Has the effect of [`ManagerPort::take_a`],
+    /// [`ManagerPort::take_c`] and [`ManagerPort::take_e`] until all are empty. Requires: `M` is a
+    /// width.
     pub fn take_all(&mut self)
         requires { IsWidth M }
-        // for all that the side has done
+        // for everything that the side has done
         ensures taken { (x : ManagerDone C M) → ManagerStands self.old x →
             ManagerStands self.new (record x {
               history = x.history ++ map Ask self.old.a;
@@ -147,29 +160,33 @@ impl<const C: usize, const M: usize, A: Allocator> ManagerPort<C, M, A> {
         self.e.take_all();
     }
 
-    /// Ends the offers of B. Refused exactly where a burst is unfinished, and nothing changes then. What is staged stays so, and
-    /// still crosses. A second close answers Ok and changes nothing.
+    /// Ends the offers of B. Beats in the stage stay there, and still cross. Closing again returns
+    /// `Ok` and changes nothing.
+    ///
+    /// Errors: `MidBurst` if and only if a burst is unfinished; nothing changes then.
     pub fn close_b(&mut self) -> Result<(), EndFault>
         ensures { ClosesChannel port_sends_b self.old result self.new }
     {
         self.b.close()
     }
 
-    /// Ends the offers of D. Refused exactly where a burst is unfinished, and nothing changes then. What is staged stays so, and
-    /// still crosses. A second close answers Ok and changes nothing.
+    /// Ends the offers of D. Beats in the stage stay there, and still cross. Closing again returns
+    /// `Ok` and changes nothing.
+    ///
+    /// Errors: `MidBurst` if and only if a burst is unfinished; nothing changes then.
     pub fn close_d(&mut self) -> Result<(), EndFault>
         ensures { ClosesChannel port_sends_d self.old result self.new }
     {
         self.d.close()
     }
 
-    /// Whether B and D are closed and nothing of them is staged.
+    /// Returns whether B and D are closed and nothing of them is staged.
     pub fn is_sent_out(&self) -> bool
         ensures { IsTrue result ↔ (IsSentOut self.now.b × IsSentOut self.now.d) }
     {
         self.b.is_sent_out() & self.d.is_sent_out()
     }
 
-    // Lets the port go.
-    pub(crate) fn let_go(self) {}
+    // Discards the port.
+    pub(crate) fn discard(self) {}
 }

@@ -3,39 +3,42 @@ ghost use Rattle.std.specs.Prelude.{◌≡◌, ◌+◌, ◌*◌, ◌≤◌, ◌�
 ghost use Rattle.tl_lanes.specs.Lanes.{IsWidth};
 ghost use Rattle.tl_ring.specs.Ends.{LookedAfter, as_pipe, closing, took_first};
 ghost use Rattle.tl_ring.specs.Pipe.{IsReady};
-ghost use Rattle.tl_ring.specs.declared.queue.TheConstants.{ROOM};
+ghost use Rattle.tl_ring.specs.declared.queue.TheConstants.{STAGE_CAPACITY};
 ghost use Rattle.tl_sides.specs.Calls.{OffersBeat, ClosesChannel, TakesBeat};
 ghost use Rattle.tl_sides.specs.Ends.{Pumps, Fetches, IsIdle, pump_count, fetch_count};
-ghost use Rattle.tl_sides.specs.Receipts.{ManagerIsSentOut, ManagerLeaves, LeftShowsManager, AreClientsReceipts, ShowsClient, ClientIsShown};
+ghost use Rattle.tl_sides.specs.Receipts.{ManagerIsSentOut, ManagerLeaves, LeftShowsManager, AreClientsReceipts, ShowsClient, ClientIsShown, CountManager, manager_totals};
 ghost use Rattle.tl_sides.specs.Sides.{ManagerPast, ManagerStandsFor, ClientPast, ClientState, AreSides, manager_pumps, manager_takes_a, manager_takes_c, manager_takes_e};
 ghost use Rattle.tl_sides.specs.Sides.{side_sends_b, side_sends_d, side_takes_a, side_takes_c, side_takes_e};
 
 use crate::manager_port::ManagerPort;
+use crate::per_channel::PerChannel;
 use crate::receipts::{ClientReceipt, FinishedManager};
 use std::alloc::{Allocator, Global};
 use std::marker::Model;
 use tl_msg::{BeatOf, ChA, ChB, ChC, ChD, ChE, HeadA, HeadB, HeadC, HeadD, HeadE, SideFault};
-use tl_ring::{EndFault, Intake, SendHalf, TakeEnd, finish, is_drained, receive, send_staged};
+use tl_ring::{
+    EndFault, RingReader, SendHalf, TakeEnd, finish, is_drained, receive, send_staged, taken_count,
+};
 
 /// The manager's side of the bridge, on a bus of `M` bytes. It offers beats of B and D, and takes
 /// those of A, C and E.
 ///
-/// Between an offer and a take lie a stage, a ring and an inbox: `pump` moves beats from this side's
-/// stages into its rings, and `fetch` from the other side's rings into this side's inboxes. Stage and
-/// inbox hold [`tl_ring::ROOM`] beats each. No call waits for the other side.
+/// Between an offer and a take are a stage, a ring and an inbox: `pump` moves beats from this
+/// side's stages into its rings, and `fetch` from the other side's rings into this side's inboxes.
+/// Stage and inbox hold [`tl_ring::STAGE_CAPACITY`] beats each. No call waits for the other side.
 ///
-/// A response may be offered once this side has taken the first beat of its request, has the
-/// request's size, and stands on lanes by the request's address. ReleaseAck answers no request
-/// (TileLink: source and size of responses; the moments at which a request is open: this project's
-/// choice).
+/// A response may be offered once this side has taken the first beat of its request. It has the
+/// request's size, and its lanes are given by the request's address. ReleaseAck responds to no
+/// request (TileLink: source and size of responses; the moments at which a request is outstanding:
+/// this project's choice).
 #[derive(Drop)]
 pub struct ManagerSide<const C: usize, const M: usize, A: Allocator = Global> {
     pub(crate) port: ManagerPort<C, M, A>,
-    pub(crate) a: Intake<ChA, M, A>,
+    pub(crate) a: RingReader<ChA, M, A>,
     pub(crate) b: SendHalf<ChB, C, A>,
-    pub(crate) c: Intake<ChC, M, A>,
+    pub(crate) c: RingReader<ChC, M, A>,
     pub(crate) d: SendHalf<ChD, C, A>,
-    pub(crate) e: Intake<ChE, M, A>,
+    pub(crate) e: RingReader<ChE, M, A>,
 }
 
 impl<const C: usize, const M: usize, A: Allocator> Model for ManagerSide<C, M, A> {
@@ -47,22 +50,27 @@ impl<const C: usize, const M: usize, A: Allocator> Model for ManagerSide<C, M, A
 }
 
 impl<const C: usize, const M: usize, A: Allocator> ManagerSide<C, M, A> {
-    /// Whether a beat of B may be offered: nothing of B is staged, and the channel isn't closed.
+    /// Returns whether a beat of B may be offered: nothing of B is staged, and the channel is not
+    /// closed.
     pub fn ready_b(&self) -> bool
         ensures { IsTrue result ↔ IsReady (as_pipe self.now.b) }
     {
         self.port.ready_b()
     }
 
-    /// Whether a beat of D may be offered: nothing of D is staged, and the channel isn't closed.
+    /// Returns whether a beat of D may be offered: nothing of D is staged, and the channel is not
+    /// closed.
     pub fn ready_d(&self) -> bool
         ensures { IsTrue result ↔ IsReady (as_pipe self.now.d) }
     {
         self.port.ready_d()
     }
 
-    /// Offers a beat of B where B is ready. It is refused exactly with the beat's own fault, and
-    /// nothing changes then. Else the far beats that it completes, at most [`tl_ring::ROOM`], are staged.
+    /// Offers a beat of B. If it is accepted, the far beats that it completes, at most
+    /// [`tl_ring::STAGE_CAPACITY`], are staged.
+    ///
+    /// Errors: the beat's own fault, and only that; the side is then unchanged. Requires: `C` and
+    /// `M` are widths, and B is ready.
     pub fn offer_b(&mut self, beat: BeatOf<HeadB, M>) -> Result<(), SideFault>
         requires near { IsWidth M }
         requires far { IsWidth C }
@@ -72,11 +80,14 @@ impl<const C: usize, const M: usize, A: Allocator> ManagerSide<C, M, A> {
         self.port.offer_b(&beat)
     }
 
-    /// Offers a beat of D where D is ready. It is refused with the beat's own fault, else, where it
-    /// opens a message other than ReleaseAck, with `NoRequest` exactly where its source has no open
-    /// request, and with `SizeMismatch` exactly where that request has another size. A refusal
-    /// changes nothing. An accepted first beat ends its request, whose address is the message's
-    /// home, and the far beats that the beat completes, at most [`tl_ring::ROOM`], are staged.
+    /// Offers a beat of D. If it is accepted, the far beats that it completes, at most
+    /// [`tl_ring::STAGE_CAPACITY`], are staged, and a first beat ends its request, whose address is the home
+    /// of the message.
+    ///
+    /// Errors: the beat's own fault; otherwise, for the first beat of any message except
+    /// ReleaseAck, `NoRequest` if and only if its source has no outstanding request, and
+    /// `SizeMismatch` if and only if that request has another size. Nothing changes then. Requires:
+    /// `C` and `M` are widths, and D is ready.
     pub fn offer_d(&mut self, beat: BeatOf<HeadD, M>) -> Result<(), SideFault>
         requires near { IsWidth M }
         requires far { IsWidth C }
@@ -86,8 +97,9 @@ impl<const C: usize, const M: usize, A: Allocator> ManagerSide<C, M, A> {
         self.port.offer_d(&beat)
     }
 
-    /// Takes the first beat of A's inbox, which is lawful at `M` bytes. None exactly where it is
-    /// empty. A first beat begins its request: from now on it may be answered.
+    /// Removes and returns the first beat of A's inbox, which is lawful at `M` bytes. Returns
+    /// `None` if and only if the inbox is empty. A first beat begins its request, to which the side
+    /// may respond from now on. Requires: `M` is a width.
     pub fn take_a(&mut self) -> Option<BeatOf<HeadA, M>>
         requires far { IsWidth M }
         ensures { TakesBeat side_takes_a self.old result self.new }
@@ -95,47 +107,49 @@ impl<const C: usize, const M: usize, A: Allocator> ManagerSide<C, M, A> {
         self.port.take_a()
     }
 
-    /// Takes the first beat of C's inbox, which is lawful at `M` bytes. None exactly where it is
-    /// empty.
+    /// Removes and returns the first beat of C's inbox, which is lawful at `M` bytes. Returns
+    /// `None` if and only if the inbox is empty.
     pub fn take_c(&mut self) -> Option<BeatOf<HeadC, M>>
         ensures { TakesBeat side_takes_c self.old result self.new }
     {
         self.port.take_c()
     }
 
-    /// Takes the first beat of E's inbox, which is lawful at `M` bytes. None exactly where it is
-    /// empty.
+    /// Removes and returns the first beat of E's inbox, which is lawful at `M` bytes. Returns
+    /// `None` if and only if the inbox is empty.
     pub fn take_e(&mut self) -> Option<BeatOf<HeadE, M>>
         ensures { TakesBeat side_takes_e self.old result self.new }
     {
         self.port.take_e()
     }
 
-    /// The beats of A's inbox, in order, for [`ManagerSide::take_all`].
+    /// Returns the beats of A's inbox, in order, for use with [`ManagerSide::take_all`].
     pub fn inbox_a(&self) -> &[BeatOf<HeadA, M>]
         ensures { result.now ≡ self.now.a.inbox }
     {
         self.port.a.as_slice()
     }
 
-    /// The beats of C's inbox, in order, for [`ManagerSide::take_all`].
+    /// Returns the beats of C's inbox, in order, for use with [`ManagerSide::take_all`].
     pub fn inbox_c(&self) -> &[BeatOf<HeadC, M>]
         ensures { result.now ≡ self.now.c.inbox }
     {
         self.port.c.as_slice()
     }
 
-    /// The beats of E's inbox, in order, for [`ManagerSide::take_all`].
+    /// Returns the beats of E's inbox, in order, for use with [`ManagerSide::take_all`].
     pub fn inbox_e(&self) -> &[BeatOf<HeadE, M>]
         ensures { result.now ≡ self.now.e.inbox }
     {
         self.port.e.as_slice()
     }
 
-    /// Takes all beats of its inboxes, which [`ManagerSide::inbox_a`] and its like show: as many calls of `take_x` on each channel.
+    /// Takes all beats of its inboxes, those that [`ManagerSide::inbox_a`] and its siblings return.
+    /// Has the effect of `take_x` on each channel until its inbox is empty. Requires: `M` is a
+    /// width.
     pub fn take_all(&mut self)
         requires { IsWidth M }
-        // for every past that the side stands for
+        // for every past that the side represents
         ensures taken { (x : ManagerPast C M) → ManagerStandsFor self.old x →
             ManagerStandsFor self.new (manager_takes_e self.old.e.inbox (manager_takes_c self.old.c.inbox (manager_takes_a self.old.a.inbox x))) }
         // for every side
@@ -145,32 +159,36 @@ impl<const C: usize, const M: usize, A: Allocator> ManagerSide<C, M, A> {
         self.port.take_all();
     }
 
-    /// Ends the offers of B. Refused exactly where a burst is unfinished, and nothing changes then.
-    /// What is staged stays so, and still crosses. A second close answers Ok and changes nothing.
+    /// Ends the offers of B. Beats in the stage stay there, and still cross. Closing again returns
+    /// `Ok` and changes nothing.
+    ///
+    /// Errors: `MidBurst` if and only if a burst is unfinished; nothing changes then.
     pub fn close_b(&mut self) -> Result<(), EndFault>
         ensures { ClosesChannel side_sends_b self.old result self.new }
     {
         self.port.close_b()
     }
 
-    /// Ends the offers of D. Refused exactly where a burst is unfinished, and nothing changes then.
-    /// What is staged stays so, and still crosses. A second close answers Ok and changes nothing.
+    /// Ends the offers of D. Beats in the stage stay there, and still cross. Closing again returns
+    /// `Ok` and changes nothing.
+    ///
+    /// Errors: `MidBurst` if and only if a burst is unfinished; nothing changes then.
     pub fn close_d(&mut self) -> Result<(), EndFault>
         ensures { ClosesChannel side_sends_d self.old result self.new }
     {
         self.port.close_d()
     }
 
-    /// Moves staged beats into the rings on each channel that this side offers, at least as many as
-    /// it knows to find a place, and answers how many these are in all.
+    /// Moves staged beats into the rings on each channel that this side sends. Returns their total
+    /// number. On each channel at least the beats that the side knows to fit are moved.
     pub fn pump(&mut self) -> usize
         ensures total { result ≡
             pump_count self.old.b self.new.b + pump_count self.old.d self.new.d }
-        ensures most { result ≤ 2 * ROOM }
+        ensures most { result ≤ 2 * STAGE_CAPACITY }
         ensures b { Pumps self.old.b self.new.b }
         ensures d { Pumps self.old.d self.new.d }
         ensures rest { self.new ≡ record self.old { b = self.new.b; d = self.new.d } }
-        // for every past that the side stands for
+        // for every past that the side represents
         ensures stands { (x : ManagerPast C M) → ManagerStandsFor self.old x →
             ManagerStandsFor self.new (manager_pumps self.old self.new x) }
     {
@@ -179,19 +197,19 @@ impl<const C: usize, const M: usize, A: Allocator> ManagerSide<C, M, A> {
         b + d
     }
 
-    /// Moves beats from the rings into the inboxes on each channel that this side takes, at least
-    /// as many as it knows to be there and each inbox has room for, and answers how many these are
-    /// in all.
+    /// Moves beats from the rings into the inboxes on each channel that this side takes. Returns
+    /// their total number. On each channel at least the beats that the side knows to be in the ring
+    /// are moved, as many as the inbox has room for.
     pub fn fetch(&mut self) -> usize
         ensures total { result ≡ fetch_count self.old.a self.new.a +
             fetch_count self.old.c self.new.c + fetch_count self.old.e self.new.e }
-        ensures most { result ≤ 3 * ROOM }
+        ensures most { result ≤ 3 * STAGE_CAPACITY }
         ensures a { Fetches self.old.a self.new.a }
         ensures c { Fetches self.old.c self.new.c }
         ensures e { Fetches self.old.e self.new.e }
         ensures rest { self.new ≡
             record self.old { a = self.new.a; c = self.new.c; e = self.new.e } }
-        // for every past that the side stands for
+        // for every past that the side represents
         ensures stands { (x : ManagerPast C M) → ManagerStandsFor self.old x →
             ManagerStandsFor self.new x }
     {
@@ -201,22 +219,24 @@ impl<const C: usize, const M: usize, A: Allocator> ManagerSide<C, M, A> {
         a + c + e
     }
 
-    /// Whether the side may finish: B and D are closed, and nothing of them is staged.
+    /// Returns whether the side may finish: B and D are closed, and nothing of them is staged.
     pub fn is_sent_out(&self) -> bool
         ensures { IsTrue result ↔ ManagerIsSentOut self.now }
     {
         self.port.is_sent_out()
     }
 
-    /// Ends the sending, once B and D are closed and nothing of them is staged. What still comes on A, C and E can be taken by
-    /// what is left of the side. Each receipt shows the client's side all that was sent on its channel. On None there is none,
-    /// and what was sent can still be fetched. No contract says when None comes: it does if the other side is gone.
+    /// Ends the sending. Returns the ends that still take beats of A, C and E, and a receipt for
+    /// each channel that was sent. A receipt shows the client's side all beats that were sent on
+    /// its channel. If it is `None`, there is no receipt, and beats that were sent can still be
+    /// fetched. No contract says when it is `None`; that happens if the other side was dropped.
+    /// Requires: B and D are closed and nothing of them is staged.
     pub fn finish(self) -> FinishedManager<C, M, A>
         requires { ManagerIsSentOut self }
         ensures takes { (result.a ≡ self.a) × (result.c ≡ self.c) × (result.e ≡ self.e) }
-        // the other side of the same bridge may be asked with them
+        // the other side of the same bridge can be asked with them
         ensures taker { (s : ClientState A C M) → AreSides s self → ManagerLeaves result s }
-        // for every past that the side stands for
+        // for every past that the side represents
         ensures shows { (y : ManagerPast C M) → ManagerStandsFor self y → LeftShowsManager result y }
     {
         let ManagerSide {
@@ -244,9 +264,10 @@ impl<const C: usize, const M: usize, A: Allocator> ManagerSide<C, M, A> {
         }
     }
 
-    /// Whether this side has taken all that the client's side sent, whose receipt this is. What it took, and what stands in its
-    /// inboxes and in the rings, is the far layout of all that the other side's accepted beats made due, each beat once, in
-    /// order. The side then knows each beat that its rings hold. No beat moves.
+    /// Returns whether this side has taken all beats that the client's side sent. The beats taken,
+    /// followed by those in the inboxes and in the rings, are the far layout of all accepted beats
+    /// of the other side, each beat once, in order. This side then knows every beat in its rings.
+    /// No beat moves. Requires: the receipt is the one of the other side of this bridge.
     pub fn drained(&mut self, receipt: &mut ClientReceipt<C, M, A>) -> bool
         requires { AreClientsReceipts receipt.old self.old }
         ensures a { LookedAfter receipt.old.a self.old.a receipt.new.a self.new.a }
@@ -255,7 +276,7 @@ impl<const C: usize, const M: usize, A: Allocator> ManagerSide<C, M, A> {
         ensures rest { self.new ≡
             record self.old { a = self.new.a; c = self.new.c; e = self.new.e } }
         ensures drained { IsTrue result ↔ (IsIdle self.new.a × IsIdle self.new.c × IsIdle self.new.e) }
-        // for every past that the receipt shows, and every one that this side stands for
+        // for every past that the receipt shows, and every past that this side represents
         ensures shown { (x : ClientPast C M) (y : ManagerPast C M) → ShowsClient receipt.old x →
             ManagerStandsFor self.old y → ClientIsShown receipt.new self.new x y }
     {
@@ -263,5 +284,21 @@ impl<const C: usize, const M: usize, A: Allocator> ManagerSide<C, M, A> {
         let c = is_drained(&mut self.c, &self.port.c, &mut receipt.c);
         let e = is_drained(&mut self.e, &self.port.e, &mut receipt.e);
         a & c & e
+    }
+
+    /// Returns how many beats this side has sent on B and D, and how many were taken from it on
+    /// A, C and E. Each number is exact if it is below 2^63.
+    pub fn totals(&self) -> PerChannel<u64>
+        ensures totals { result ≡ manager_totals self.now }
+        // for every past that the side stands for
+        ensures exact { (y : ManagerPast C M) → ManagerStandsFor self.now y → CountManager result y }
+    {
+        PerChannel {
+            a: taken_count(&self.a, &self.port.a),
+            b: self.b.count(),
+            c: taken_count(&self.c, &self.port.c),
+            d: self.d.count(),
+            e: taken_count(&self.e, &self.port.e),
+        }
     }
 }

@@ -1,4 +1,4 @@
-//! How a side notes the beats that it takes.
+//! Records the beats that a side takes in its book.
 ghost use Rattle.std.specs.Prelude.{◌≡◌, ◌∷◌, ◌++◌, [], List, All, None};
 ghost use Rattle.tl_lanes.specs.Lanes.{IsWidth};
 ghost use Rattle.tl_msg.specs.Tables.{rules_a, rules_d};
@@ -10,15 +10,15 @@ use std::alloc::Allocator;
 use tl_msg::{BeatOf, HeadA, HeadD};
 use tl_settle::{ClientBook, ManagerBook};
 
-/// What notes the beats `B` that a side takes, one after another.
+/// A book that records the beats `B` that a side takes, one after another.
 pub(crate) trait Notes<B> {
-    // whether it may note a beat
+    // whether it may record a beat
     ghost CanNote: { B → Type 0 };
 
-    // `new` is what `old` becomes where these beats are noted
+    // `new` is `old` after these beats were recorded
     ghost Becomes: { (old : Self) → (beats : List B) → (new : Self) → Type 0 };
 
-    /// Notes a beat.
+    /// Records a beat.
     fn note(&mut self, beat: &B)
         requires { CanNote beat.now }
         ensures { Becomes self.old (beat.now ∷ []) self.new };
@@ -29,14 +29,14 @@ pub(crate) trait Notes<B> {
         Becomes s (i ++ j) u };
 }
 
-// What a side takes of A, it has to answer.
+// The manager's side records the requests that it takes on A.
 impl<const M: usize, A: Allocator> Notes<BeatOf<HeadA, M>> for ManagerBook<M, A> {
     ghost CanNote = { λ b. IsWidth M × (rules_a.fault b.head ≡ None) };
 
     ghost Becomes = { HasNoted KnowsManager Ask };
 
     fn note(&mut self, beat: &BeatOf<HeadA, M>) {
-        self.note_ask(&beat.head);
+        self.record_request(&beat.head);
     }
 
     ghost notes_none = { noted_none KnowsManager Ask };
@@ -44,14 +44,14 @@ impl<const M: usize, A: Allocator> Notes<BeatOf<HeadA, M>> for ManagerBook<M, A>
     ghost notes_then = { noted_then KnowsManager Ask };
 }
 
-// What a side takes of D, it has asked for.
+// The client's side records the responses that it takes on D.
 impl<const C: usize, A: Allocator> Notes<BeatOf<HeadD, C>> for ClientBook<C, A> {
     ghost CanNote = { λ b. IsWidth C × (rules_d.fault b.head ≡ None) };
 
     ghost Becomes = { HasNoted KnowsClient Answer };
 
     fn note(&mut self, beat: &BeatOf<HeadD, C>) {
-        self.note_answer(&beat.head);
+        self.record_response(&beat.head);
     }
 
     ghost notes_none = { noted_none KnowsClient Answer };
@@ -59,7 +59,7 @@ impl<const C: usize, A: Allocator> Notes<BeatOf<HeadD, C>> for ClientBook<C, A> 
     ghost notes_then = { noted_then KnowsClient Answer };
 }
 
-// A side notes beats that it takes in its book.
+// Records the beats that a side takes in its book.
 pub(crate) fn note_all<B, N: Notes<B>>(book: &mut N, beats: &[B])
     requires can { All (λ beat. N.CanNote beat) beats.now }
     ensures { N.Becomes book.old beats.now book.new }

@@ -1,4 +1,5 @@
-//! What a side does at its end of a channel that it sends. On A and D its book decides and notes.
+//! Offers of a side on the channels that it sends. On A and D its book decides, and records what
+//! was accepted.
 ghost use Rattle.tl_lanes.specs.Lanes.{IsWidth};
 ghost use Rattle.tl_ring.specs.Boxes.{IsOpen};
 ghost use Rattle.tl_sides.specs.Calls.{OffersBeat};
@@ -9,7 +10,7 @@ use tl_msg::{Beat, ChA, ChD, Channel, SideFault};
 use tl_ring::Outbox;
 use tl_settle::{ClientBook, ManagerBook};
 
-// Offers a beat on B, C or E, which nothing couples to another channel.
+// Offers a beat on B, C or E. These channels do not depend on another channel.
 pub(crate) fn offer_alone<K: Channel, const W: usize, const V: usize>(
     outbox: &mut Outbox<K, W, V>,
     beat: &Beat<K, W>,
@@ -25,7 +26,7 @@ pub(crate) fn offer_alone<K: Channel, const W: usize, const V: usize>(
     Ok(())
 }
 
-// Offers a beat of A, where the book of its side lets it go.
+// Offers a beat of A, if the book of its side admits it.
 pub(crate) fn offer_request<const C: usize, const M: usize, A: Allocator>(
     book: &mut ClientBook<C, A>,
     outbox: &mut Outbox<ChA, C, M>,
@@ -42,7 +43,7 @@ pub(crate) fn offer_request<const C: usize, const M: usize, A: Allocator>(
     Ok(())
 }
 
-// Offers a beat of D, where the book of its side lets it go.
+// Offers a beat of D, if the book of its side admits it.
 pub(crate) fn offer_response<const C: usize, const M: usize, A: Allocator>(
     book: &mut ManagerBook<M, A>,
     outbox: &mut Outbox<ChD, M, C>,

@@ -3,14 +3,14 @@
 /// One value for each of the five channels of a link.
 #[derive(Clone, Copy, PartialEq, Eq, Debug, Default)]
 pub struct PerChannel<T> {
-    /// Of channel A, on which the client's side asks.
+    /// The value of channel A, on which the client's side sends requests.
     pub a: T,
-    /// Of channel B, on which the manager's side probes.
+    /// The value of channel B, on which the manager's side probes.
     pub b: T,
-    /// Of channel C, on which the client's side answers probes and releases.
+    /// The value of channel C, on which the client's side responds to probes and releases.
     pub c: T,
-    /// Of channel D, on which the manager's side answers.
+    /// The value of channel D, on which the manager's side responds.
     pub d: T,
-    /// Of channel E, on which the client's side acknowledges.
+    /// The value of channel E, on which the client's side acknowledges.
     pub e: T,
 }

@@ -1,32 +1,34 @@
-//! What is left of a side that has sent all of its beats: receipts for the other side, and the ends that
-//! still take.
+//! The remains of a side that has sent all of its beats: receipts for the other side, and the ends
+//! that still take beats.
 
 use std::alloc::{Allocator, Global};
 use tl_msg::{ChA, ChB, ChC, ChD, ChE};
 use tl_ring::{Receipt, TakeEnd};
 
-/// Shows the manager's side all that the client's side sent. It may go to the other side's thread.
+/// The receipts that show the manager's side all beats that the client's side sent. They can be
+/// moved to the other side's thread.
 #[derive(Drop)]
 pub struct ClientReceipt<const C: usize, const M: usize, A: Allocator = Global> {
-    /// Of channel A.
+    /// The receipt of channel A.
     pub a: Receipt<ChA, C, M, A>,
-    /// Of channel C.
+    /// The receipt of channel C.
     pub c: Receipt<ChC, C, M, A>,
-    /// Of channel E.
+    /// The receipt of channel E.
     pub e: Receipt<ChE, C, M, A>,
 }
 
-/// Shows the client's side all that the manager's side sent. It may go to the other side's thread.
+/// The receipts that show the client's side all beats that the manager's side sent. They can be
+/// moved to the other side's thread.
 #[derive(Drop)]
 pub struct ManagerReceipt<const C: usize, const M: usize, A: Allocator = Global> {
-    /// Of channel B.
+    /// The receipt of channel B.
     pub b: Receipt<ChB, M, C, A>,
-    /// Of channel D.
+    /// The receipt of channel D.
     pub d: Receipt<ChD, M, C, A>,
 }
 
-/// What is left of a client's side that has sent all of its beats: the receipts of the channels that it
-/// sent, and the ends by which it still takes.
+/// The remains of a client's side that has sent all of its beats: the receipts of the channels that
+/// it sent, and the ends that still take beats.
 #[derive(Drop)]
 pub struct FinishedClient<const C: usize, const M: usize, A: Allocator = Global> {
     /// The receipt of channel A.
@@ -41,8 +43,8 @@ pub struct FinishedClient<const C: usize, const M: usize, A: Allocator = Global>
     pub e: Option<Receipt<ChE, C, M, A>>,
 }
 
-/// What is left of a manager's side that has sent all of its beats: the receipts of the channels that it
-/// sent, and the ends by which it still takes.
+/// The remains of a manager's side that has sent all of its beats: the receipts of the channels
+/// that it sent, and the ends that still take beats.
 #[derive(Drop)]
 pub struct FinishedManager<const C: usize, const M: usize, A: Allocator = Global> {
     /// The end of channel A.

@@ -1,4 +1,4 @@
-//! Both sides of the bridge: how they are made, and where they meet.
+//! Both sides of the bridge: making them, and inspecting them together.
 ghost use Rattle.std.specs.Prelude.{◌≡◌, ◌≤◌, ◌<◌, ◌↔◌, ◌⊎◌, [], ℕ, length, IsOk, IfOk, IfErr};
 ghost use Rattle.tl_lanes.specs.Lanes.{IsWidth};
 ghost use Rattle.tl_ring.specs.declared.pipe.TheConstants.{MAX_RING};
@@ -18,10 +18,10 @@ use crate::manager_side::ManagerSide;
 use crate::sync_bridge::Standings;
 use std::alloc::Allocator;
 use tl_msg::{ChA, ChB, ChC, ChD, ChE};
-use tl_ring::{BuildFault, Intake, Standing, look};
+use tl_ring::{BuildFault, RingReader, Standing, look};
 
-// Both sides over the halves of their rings and their books. It has no word on the widths: what it
-// promises has them as a premise.
+// Creates both sides from the halves of their rings and their books. Has no precondition on the
+// widths; its postconditions apply only to valid ones.
 fn sides_over<const C: usize, const M: usize, A: Allocator>(
     parts: Parts<
         Halves<ChA, M, A>,
@@ -45,26 +45,27 @@ fn sides_over<const C: usize, const M: usize, A: Allocator>(
     let client = ClientSide {
         port: ClientPort::over(client),
         a,
-        b: Intake::over(b_take),
+        b: RingReader::over(b_take),
         c,
-        d: Intake::over(d_take),
+        d: RingReader::over(d_take),
         e,
     };
     let manager = ManagerSide {
         port: ManagerPort::over(manager),
-        a: Intake::over(a_take),
+        a: RingReader::over(a_take),
         b,
-        c: Intake::over(c_take),
+        c: RingReader::over(c_take),
         d,
-        e: Intake::over(e_take),
+        e: RingReader::over(e_take),
     };
     (client, manager)
 }
 
-/// The two sides of a new bridge, for two threads, over five rings of `ring` beats each, and with
-/// the tables of both sides, of 64 KiB and 1 MiB: the only memory that is taken. Refused with
-/// `RingSize` exactly where `ring` is 0 or above 4,096, and else with `OutOfMemory` where the
-/// allocator has no memory for a ring or for a table.
+/// Creates a bridge. Returns its two sides, for two threads. The five rings of `ring` beats each
+/// and the tables of both sides, of 64 KiB and 1 MiB, are the only memory that is allocated.
+///
+/// Errors: `RingSize` if and only if `ring` is 0 or above 4,096; otherwise `OutOfMemory` if the
+/// allocator fails for a ring or a table. Requires: `C` and `M` are widths.
 #[inline(never)]
 pub fn bridge<const C: usize, const M: usize, A: Allocator + Copy>(
     alloc: A,
@@ -75,7 +76,7 @@ pub fn bridge<const C: usize, const M: usize, A: Allocator + Copy>(
     ensures pair { IfOk result (λ sides. AreSides sides.0 sides.1) }
     ensures client { IfOk result (λ sides. ClientStandsFor sides.0 (new_client ring)) }
     ensures manager { IfOk result (λ sides. ManagerStandsFor sides.1 (new_manager ring)) }
-    // a new side knows all of its rings as free, and has nothing in its inboxes
+    // a new side knows all positions of its rings to be free, and its inboxes are empty
     ensures client_knows { IfOk result (λ sides. IsNewClient ring sides.0) }
     ensures manager_knows { IfOk result (λ sides. IsNewManager ring sides.1) }
     ensures size { IsOk result → (1 ≤ ring) × (ring ≤ MAX_RING) }
@@ -86,8 +87,8 @@ pub fn bridge<const C: usize, const M: usize, A: Allocator + Copy>(
     Ok(sides_over(parts))
 }
 
-// What stands at the places of each channel, by the ports of both sides and by how many beats are
-// in the rings.
+// Returns the number of beats at each place of each channel, from the ports of both sides and the
+// number of beats in each ring.
 pub(crate) fn standings_between<const C: usize, const M: usize, A: Allocator>(
     client: &ClientPort<C, M, A>,
     manager: &ManagerPort<C, M, A>,
@@ -112,12 +113,12 @@ pub(crate) fn standings_between<const C: usize, const M: usize, A: Allocator>(
     }
 }
 
-/// Brings both sides of one [`bridge`] call together, in one thread, and answers how many far beats
-/// stand in the stage, the ring and the inbox of each channel. On each, what was taken, and then what
-/// stands in the inbox, the ring and the stage, is the far layout of what was accepted: each beat
-/// once, in order. No beat moves. Each side then knows
-/// all that is in the rings that it takes from, and each place that is free in those that it sends
-/// to.
+/// Inspects both sides of one [`bridge`] call together, in one thread. Returns the number of far
+/// beats in the stage, the ring and the inbox of each channel. On each channel the beats taken,
+/// followed by those in the inbox, the ring and the stage, are the far layout of the accepted
+/// beats: each beat once, in order. No beat moves. Each side then knows every beat in the rings
+/// that it takes from, and every free position in those that it sends to. Requires: the sides are
+/// of one bridge.
 pub fn meet_sides<const C: usize, const M: usize, A: Allocator>(
     client: &mut ClientSide<C, M, A>,
     manager: &mut ManagerSide<C, M, A>,
@@ -134,7 +135,7 @@ pub fn meet_sides<const C: usize, const M: usize, A: Allocator>(
     ensures standing_d { AreStanding manager.new.d client.new.d result.d }
     ensures standing_e { AreStanding client.new.e manager.new.e result.e }
     ensures books { (client.new.book ≡ client.old.book) × (manager.new.book ≡ manager.old.book) }
-    // for every past that each side stands for
+    // for every past that each side represents
     ensures meets { (x : ClientPast C M) (y : ManagerPast C M) →
         ClientStandsFor client.old x → ManagerStandsFor manager.old y →
         SidesMeet client.new manager.new x y }

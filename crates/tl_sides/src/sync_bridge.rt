@@ -1,7 +1,7 @@
 //! The bridge of both sides in one thread.
 ghost use Rattle.std.specs.Prelude.{ℕ, ◌≡◌, ◌≤◌, ◌<◌, ◌*◌, ◌↔◌, ◌⊎◌, [], None, Some, true, slice_get, IsOk, IsTrue, IfOk, IfErr, OnOk, OnErr};
 ghost use Rattle.tl_ring.specs.declared.pipe.TheConstants.{MAX_RING};
-ghost use Rattle.tl_ring.specs.declared.queue.TheConstants.{ROOM};
+ghost use Rattle.tl_ring.specs.declared.queue.TheConstants.{STAGE_CAPACITY};
 ghost use Rattle.tl_lanes.specs.Lanes.{IsWidth};
 ghost use Rattle.tl_ring.specs.Pipe.{IsReady};
 ghost use Rattle.circular_buffer.specs.Buffer.{buffer};
@@ -22,23 +22,24 @@ use std::marker::Model;
 use tl_msg::{Beat, ChA, ChB, ChC, ChD, ChE, SideFault};
 use tl_ring::{BuildFault, EndFault, Ring, Standing, fetch, pump};
 
-/// How many far beats stand at each place of each channel.
+/// The number of far beats at each place of each channel.
 pub type Standings = PerChannel<Standing>;
 
-/// Both sides of the bridge within one thread: five crossings, and what ties channel D to channel
-/// A.
+/// Both sides of the bridge within one thread: five crossings, and the coupling of channel D to
+/// channel A.
 ///
 /// The client's side, on a bus of `C` bytes, offers beats of A, C and E and takes those of B and D;
 /// the manager's side, on a bus of `M` bytes, offers beats of B and D and takes those of A, C and
-/// E. Between an offer and a take lie a stage, a ring and an inbox: `pump` moves beats from the
+/// E. Between an offer and a take are a stage, a ring and an inbox: `pump` moves beats from the
 /// stages into the rings, and `fetch` from the rings into the inboxes. Stage and inbox hold
-/// [`tl_ring::ROOM`] beats each.
+/// [`tl_ring::STAGE_CAPACITY`] beats each.
 ///
-/// A source has one request in flight: it is busy from the first beat of A that the client's side
-/// offers until that side takes the first beat of the response. A response may be offered once the
-/// first beat of its request was taken, has the request's size, and stands on lanes by the
-/// request's address. ReleaseAck answers no request (TileLink: source and size of responses; the
-/// moments at which a source is busy and a request is open: this project's choice).
+/// A source has at most one request in flight: it is busy from the first accepted beat of the
+/// request on A until the client's side takes the first beat of the response. A response may be
+/// offered once the first beat of its request was taken. It has the request's size, and its lanes
+/// are given by the request's address. ReleaseAck responds to no request (TileLink: source and size
+/// of responses; the moments at which a source is busy and a request is outstanding: this project's
+/// choice).
 #[derive(Drop)]
 pub struct SyncBridge<const C: usize, const M: usize, A: Allocator = Global> {
     pub(crate) client: ClientPort<C, M, A>,
@@ -59,7 +60,7 @@ impl<const C: usize, const M: usize, A: Allocator> Model for SyncBridge<C, M, A>
     ghost view = { λ s. bridge_of s.client s.manager s.a s.b s.c s.d s.e };
 }
 
-// The bridge over its rings and books.
+// Creates the bridge from its rings and books.
 fn bridge_over<const C: usize, const M: usize, A: Allocator>(
     parts: Parts<
         Ring<ChA, M, A>,
@@ -92,10 +93,11 @@ fn bridge_over<const C: usize, const M: usize, A: Allocator>(
 }
 
 impl<const C: usize, const M: usize, A: Allocator + Copy> SyncBridge<C, M, A> {
-    /// A new bridge with five rings of `ring` beats each, and with the tables of both sides, of 64
-    /// KiB and 1 MiB: the only memory that it takes. Refused with `RingSize` exactly where `ring`
-    /// is 0 or above 4,096, and else with `OutOfMemory` where the allocator has no memory for a
-    /// ring or for a table.
+    /// Creates a bridge with five rings of `ring` beats each and the tables of both sides, of 64
+    /// KiB and 1 MiB. This is the only memory that it allocates.
+    ///
+    /// Errors: `RingSize` if and only if `ring` is 0 or above 4,096; otherwise `OutOfMemory` if the
+    /// allocator fails for a ring or a table. Requires: `C` and `M` are widths.
     #[inline(never)]
     pub fn new(alloc: A, ring: usize) -> Result<Self, BuildFault>
         requires client { IsWidth C }
@@ -111,45 +113,52 @@ impl<const C: usize, const M: usize, A: Allocator + Copy> SyncBridge<C, M, A> {
 }
 
 impl<const C: usize, const M: usize, A: Allocator> SyncBridge<C, M, A> {
-    /// Whether a beat of A may be offered: nothing of A is staged, and the channel isn't closed.
+    /// Returns whether a beat of A may be offered: nothing of A is staged, and the channel is not
+    /// closed.
     pub fn ready_a(&self) -> bool
         ensures { IsTrue result ↔ IsReady self.now.a }
     {
         self.client.ready_a()
     }
 
-    /// Whether a beat of B may be offered: nothing of B is staged, and the channel isn't closed.
+    /// Returns whether a beat of B may be offered: nothing of B is staged, and the channel is not
+    /// closed.
     pub fn ready_b(&self) -> bool
         ensures { IsTrue result ↔ IsReady self.now.b }
     {
         self.manager.ready_b()
     }
 
-    /// Whether a beat of C may be offered: nothing of C is staged, and the channel isn't closed.
+    /// Returns whether a beat of C may be offered: nothing of C is staged, and the channel is not
+    /// closed.
     pub fn ready_c(&self) -> bool
         ensures { IsTrue result ↔ IsReady self.now.c }
     {
         self.client.ready_c()
     }
 
-    /// Whether a beat of D may be offered: nothing of D is staged, and the channel isn't closed.
+    /// Returns whether a beat of D may be offered: nothing of D is staged, and the channel is not
+    /// closed.
     pub fn ready_d(&self) -> bool
         ensures { IsTrue result ↔ IsReady self.now.d }
     {
         self.manager.ready_d()
     }
 
-    /// Whether a beat of E may be offered: nothing of E is staged, and the channel isn't closed.
+    /// Returns whether a beat of E may be offered: nothing of E is staged, and the channel is not
+    /// closed.
     pub fn ready_e(&self) -> bool
         ensures { IsTrue result ↔ IsReady self.now.e }
     {
         self.client.ready_e()
     }
 
-    /// The client's side offers a beat of A where A is ready. It is refused with the beat's own
-    /// fault, else, where it opens a message, with `SourceBusy` exactly where its source is busy. A
-    /// refusal changes nothing. An accepted first beat makes its source busy, and the far beats
-    /// that the beat completes are staged.
+    /// Offers a beat of A. If it is accepted, the far beats that it completes are staged, and a
+    /// first beat makes its source busy.
+    ///
+    /// Errors: the beat's own fault; otherwise `SourceBusy` if and only if the beat is the first of
+    /// a message whose source is busy. Nothing changes then. Requires: `C` and `M` are widths, and
+    /// A is ready.
     pub fn offer_a(&mut self, beat: Beat<ChA, C>) -> Result<(), SideFault>
         requires client { IsWidth C }
         requires manager { IsWidth M }
@@ -159,8 +168,11 @@ impl<const C: usize, const M: usize, A: Allocator> SyncBridge<C, M, A> {
         self.client.offer_a(&beat)
     }
 
-    /// The manager's side offers a beat of B where B is ready. It is refused exactly with the
-    /// beat's own fault, and nothing changes then. Else the far beats that it completes are staged.
+    /// Offers a beat of B from the manager's side. If it is accepted, the far beats that it
+    /// completes are staged.
+    ///
+    /// Errors: the beat's own fault, and only that; the bridge is then unchanged. Requires: `C` and
+    /// `M` are widths, and B is ready.
     pub fn offer_b(&mut self, beat: Beat<ChB, M>) -> Result<(), SideFault>
         requires client { IsWidth C }
         requires manager { IsWidth M }
@@ -170,8 +182,11 @@ impl<const C: usize, const M: usize, A: Allocator> SyncBridge<C, M, A> {
         self.manager.offer_b(&beat)
     }
 
-    /// The client's side offers a beat of C where C is ready. It is refused exactly with the beat's
-    /// own fault, and nothing changes then. Else the far beats that it completes are staged.
+    /// Offers a beat of C from the client's side. If it is accepted, the far beats that it
+    /// completes are staged.
+    ///
+    /// Errors: the beat's own fault, and only that; the bridge is then unchanged. Requires: `C` and
+    /// `M` are widths, and C is ready.
     pub fn offer_c(&mut self, beat: Beat<ChC, C>) -> Result<(), SideFault>
         requires client { IsWidth C }
         requires manager { IsWidth M }
@@ -181,11 +196,13 @@ impl<const C: usize, const M: usize, A: Allocator> SyncBridge<C, M, A> {
         self.client.offer_c(&beat)
     }
 
-    /// The manager's side offers a beat of D where D is ready. It is refused with the beat's own
-    /// fault, else, where it opens a message other than ReleaseAck, with `NoRequest` exactly where
-    /// its source has no open request, and with `SizeMismatch` exactly where that request has
-    /// another size. A refusal changes nothing. An accepted first beat ends its request, whose
-    /// address is the message's home, and the far beats that the beat completes are staged.
+    /// Offers a beat of D. If it is accepted, the far beats that it completes are staged, and a
+    /// first beat ends its request, whose address is the home of the message.
+    ///
+    /// Errors: the beat's own fault; otherwise, for the first beat of any message except
+    /// ReleaseAck, `NoRequest` if and only if its source has no outstanding request, and
+    /// `SizeMismatch` if and only if that request has another size. Nothing changes then. Requires:
+    /// `C` and `M` are widths, and D is ready.
     pub fn offer_d(&mut self, beat: Beat<ChD, M>) -> Result<(), SideFault>
         requires client { IsWidth C }
         requires manager { IsWidth M }
@@ -195,8 +212,8 @@ impl<const C: usize, const M: usize, A: Allocator> SyncBridge<C, M, A> {
         self.manager.offer_d(&beat)
     }
 
-    /// The client's side offers a beat of E where E is ready. No beat of E has a fault. The far
-    /// beat is staged.
+    /// Offers a beat of E, and stages the far beat. No beat of E has a fault. Requires: `C` and `M`
+    /// are widths, and E is ready.
     pub fn offer_e(&mut self, beat: Beat<ChE, C>) -> Result<(), SideFault>
         requires client { IsWidth C }
         requires manager { IsWidth M }
@@ -206,8 +223,9 @@ impl<const C: usize, const M: usize, A: Allocator> SyncBridge<C, M, A> {
         self.client.offer_e(&beat)
     }
 
-    /// The manager's side takes the first beat of A's inbox. None exactly where it is empty. A
-    /// first beat begins its request: from now on it may be answered.
+    /// Removes and returns the first beat of A's inbox, for the manager's side. Returns `None` if
+    /// and only if the inbox is empty. A first beat begins its request, to which the side may
+    /// respond from now on. Requires: `M` is a width.
     pub fn take_a(&mut self) -> Option<Beat<ChA, M>>
         requires far { IsWidth M }
         ensures { TakesBeat bridge_takes_a self.old result self.new }
@@ -215,22 +233,25 @@ impl<const C: usize, const M: usize, A: Allocator> SyncBridge<C, M, A> {
         self.manager.take_a()
     }
 
-    /// The client's side takes the first beat of B's inbox. None exactly where it is empty.
+    /// Removes and returns the first beat of B's inbox, for the client's side. Returns `None` if
+    /// and only if the inbox is empty.
     pub fn take_b(&mut self) -> Option<Beat<ChB, C>>
         ensures { TakesBeat bridge_takes_b self.old result self.new }
     {
         self.client.take_b()
     }
 
-    /// The manager's side takes the first beat of C's inbox. None exactly where it is empty.
+    /// Removes and returns the first beat of C's inbox, for the manager's side. Returns `None` if
+    /// and only if the inbox is empty.
     pub fn take_c(&mut self) -> Option<Beat<ChC, M>>
         ensures { TakesBeat bridge_takes_c self.old result self.new }
     {
         self.manager.take_c()
     }
 
-    /// The client's side takes the first beat of D's inbox. None exactly where it is empty. A first
-    /// beat other than of ReleaseAck frees its source.
+    /// Removes and returns the first beat of D's inbox, for the client's side. Returns `None` if
+    /// and only if the inbox is empty. The first beat of a response, that is, of any message except
+    /// ReleaseAck, frees its source. Requires: `C` is a width.
     pub fn take_d(&mut self) -> Option<Beat<ChD, C>>
         requires far { IsWidth C }
         ensures { TakesBeat bridge_takes_d self.old result self.new }
@@ -238,66 +259,72 @@ impl<const C: usize, const M: usize, A: Allocator> SyncBridge<C, M, A> {
         self.client.take_d()
     }
 
-    /// The manager's side takes the first beat of E's inbox. None exactly where it is empty.
+    /// Removes and returns the first beat of E's inbox, for the manager's side. Returns `None` if
+    /// and only if the inbox is empty.
     pub fn take_e(&mut self) -> Option<Beat<ChE, M>>
         ensures { TakesBeat bridge_takes_e self.old result self.new }
     {
         self.manager.take_e()
     }
 
-    /// The client's side ends its offers of A. Refused exactly where a burst is unfinished, and
-    /// nothing changes then. What is staged stays so, and still crosses. A second close answers Ok
-    /// and changes nothing.
+    /// Ends the offers of A by the client's side. Beats in the stage stay there, and still cross.
+    /// Closing again returns `Ok` and changes nothing.
+    ///
+    /// Errors: `MidBurst` if and only if a burst is unfinished; nothing changes then.
     pub fn close_a(&mut self) -> Result<(), EndFault>
         ensures { ClosesChannel bridge_sends_a self.old result self.new }
     {
         self.client.close_a()
     }
 
-    /// The manager's side ends its offers of B. Refused exactly where a burst is unfinished, and
-    /// nothing changes then. What is staged stays so, and still crosses. A second close answers Ok
-    /// and changes nothing.
+    /// Ends the offers of B by the manager's side. Beats in the stage stay there, and still cross.
+    /// Closing again returns `Ok` and changes nothing.
+    ///
+    /// Errors: `MidBurst` if and only if a burst is unfinished; nothing changes then.
     pub fn close_b(&mut self) -> Result<(), EndFault>
         ensures { ClosesChannel bridge_sends_b self.old result self.new }
     {
         self.manager.close_b()
     }
 
-    /// The client's side ends its offers of C. Refused exactly where a burst is unfinished, and
-    /// nothing changes then. What is staged stays so, and still crosses. A second close answers Ok
-    /// and changes nothing.
+    /// Ends the offers of C by the client's side. Beats in the stage stay there, and still cross.
+    /// Closing again returns `Ok` and changes nothing.
+    ///
+    /// Errors: `MidBurst` if and only if a burst is unfinished; nothing changes then.
     pub fn close_c(&mut self) -> Result<(), EndFault>
         ensures { ClosesChannel bridge_sends_c self.old result self.new }
     {
         self.client.close_c()
     }
 
-    /// The manager's side ends its offers of D. Refused exactly where a burst is unfinished, and
-    /// nothing changes then. What is staged stays so, and still crosses. A second close answers Ok
-    /// and changes nothing.
+    /// Ends the offers of D by the manager's side. Beats in the stage stay there, and still cross.
+    /// Closing again returns `Ok` and changes nothing.
+    ///
+    /// Errors: `MidBurst` if and only if a burst is unfinished; nothing changes then.
     pub fn close_d(&mut self) -> Result<(), EndFault>
         ensures { ClosesChannel bridge_sends_d self.old result self.new }
     {
         self.manager.close_d()
     }
 
-    /// The client's side ends its offers of E. Refused exactly where a burst is unfinished, and
-    /// nothing changes then. What is staged stays so, and still crosses. A second close answers Ok
-    /// and changes nothing.
+    /// Ends the offers of E by the client's side. Beats in the stage stay there, and still cross.
+    /// Closing again returns `Ok` and changes nothing.
+    ///
+    /// Errors: `MidBurst` if and only if a burst is unfinished; nothing changes then.
     pub fn close_e(&mut self) -> Result<(), EndFault>
         ensures { ClosesChannel bridge_sends_e self.old result self.new }
     {
         self.client.close_e()
     }
 
-    /// Moves staged beats to the rings on all channels, as many as each ring has room for, and
-    /// answers how many these are in all.
+    /// Moves staged beats to the rings on all channels, as many as each ring has room for. Returns
+    /// their total number.
     pub fn pump(&mut self) -> usize
         ensures count { result ≡ all_pumped self.old }
         ensures moved { (x : Past C M) → StandsFor self.old x →
             StandsFor self.new (after_pump self.old x) }
-        ensures most { result ≤ 5 * ROOM }
-        // on each channel by that channel alone
+        ensures most { result ≤ 5 * STAGE_CAPACITY }
+        // on each channel, depending only on that channel
         ensures each { self.new ≡ each_pumped self.old }
     {
         let a = pump(&mut self.client.a, &mut self.a);
@@ -309,13 +336,13 @@ impl<const C: usize, const M: usize, A: Allocator> SyncBridge<C, M, A> {
     }
 
     /// Moves beats from the rings to the inboxes on all channels, as many as each inbox has room
-    /// for, and answers how many these are in all.
+    /// for. Returns their total number.
     pub fn fetch(&mut self) -> usize
         ensures count { result ≡ all_fetched self.old }
         ensures moved { (x : Past C M) → StandsFor self.old x →
             StandsFor self.new (after_fetch self.old x) }
-        ensures most { result ≤ 5 * ROOM }
-        // on each channel by that channel alone
+        ensures most { result ≤ 5 * STAGE_CAPACITY }
+        // on each channel, depending only on that channel
         ensures each { self.new ≡ each_fetched self.old }
     {
         let a = fetch(&mut self.a, &mut self.manager.a);
@@ -326,7 +353,7 @@ impl<const C: usize, const M: usize, A: Allocator> SyncBridge<C, M, A> {
         a + b + c + d + e
     }
 
-    /// How many far beats stand in the stage, the ring and the inbox of each channel.
+    /// Returns the number of far beats in the stage, the ring and the inbox of each channel.
     pub fn standings(&self) -> Standings
         ensures a { IsStanding self.now.a result.a }
         ensures b { IsStanding self.now.b result.b }
@@ -345,10 +372,10 @@ impl<const C: usize, const M: usize, A: Allocator> SyncBridge<C, M, A> {
         )
     }
 
-    /// Lets the bridge go, with all that is under way.
-    // (crates above call it, since a function that drops a bridge is dear to check)
-    pub fn let_go(self) {
-        self.client.let_go();
-        self.manager.let_go();
+    /// Discards the bridge, with all beats under way.
+    // (the crates above call it, because a function that drops a bridge is expensive to check)
+    pub fn discard(self) {
+        self.client.discard();
+        self.manager.discard();
     }
 }

@@ -1,7 +1,7 @@
--- What was read of a text, between two pieces of it.
+-- The part of a text that was read, between two pieces of it.
 use Rattle.tl_stream.proofs.Names.{IfSome, ◌≡◌, ◌≢◌, ℕ, ◌+◌, ◌-◌, ◌≤◌, List, ◌++◌, length, take, drop, Option, None, Some, refl, sym, ap, ◌∙◌, subst}
 use Rattle.tl_stream.proofs.Names.{arith, length-append, length-drop, append_assoc, append-nil, take-append-drop, drop-drop, drop-take}
-use Rattle.tl_stream.proofs.Names.{length-take-le, Consumes, IsAtEnd, slice_range, IsWidth, IsFirstFault, Gone, HasReadPast, ScriptReader}
+use Rattle.tl_stream.proofs.Names.{length-take-le, Consumes, IsAtEnd, slice_range, IsWidth, IsFirstFault, Discarded, HasReadPast, ScriptReader}
 use Rattle.tl_stream.proofs.Names.{Bool, false, nat_eq, [], HasGrown, HasReadHeld, IsUnfinished, IsBetweenPast}
 use Rattle.tl_stream.proofs.Names.{IsReading, HasTaken, IsRefused, held, most_bytes, Input}
 use Rattle.tl_trace.specs.declared.fault.TraceFault.{TraceFault}
@@ -11,9 +11,9 @@ use Rattle.tl_stream.specs.Faults.{of_kind, of_trace}
 use Rattle.tl_stream.proofs.Lengths.{lines-below}
 
 -- the lines that the input holds can be read
-pub reading : {C M : ℕ} → IsWidth C → IsWidth M → {gone : Gone C M} (unread left : Option (List ℕ)) (lines : ScriptReader C M) (input : Input) →
-    IsBetweenPast gone unread left lines input → IsReading lines input
-reading {C} {M} client manager {gone} unread left lines input b =
+pub reading : {C M : ℕ} → IsWidth C → IsWidth M → {discarded : Discarded C M} (unread left : Option (List ℕ)) (lines : ScriptReader C M) (input : Input) →
+    IsBetweenPast discarded unread left lines input → IsReading lines input
+reading {C} {M} client manager {discarded} unread left lines input b =
     let below = lines-below b.used lines.version C M b.read.lines b.read.told in
     let sum = length-append b.used (held input) in
     let place : lines.line ≡ length b.read.lines + 1 = b.read.place in
@@ -32,13 +32,13 @@ pub held_size : (input : Input) → input.from ≤ input.to → input.to ≤ len
 held_size input from to =
     let after = length-drop input.from input.buffer.items in length-take-le (input.to - input.from) (drop input.from input.buffer.items) (omega arith)
 
--- so many bytes can be used
+-- n bytes can be used
 pub inside_held : (input : Input) (bytes : List ℕ) (n : ℕ) → bytes ≡ held input → input.from ≤ input.to → input.to ≤ length input.buffer.items →
     n ≤ length bytes → input.from + n ≤ input.to
 inside_held input bytes n is from to few =
     let size = held_size input from to in let same = ap length is in omega (arith, size, same, from, few)
 
--- what is left of a part
+-- the remaining bytes of a part
 rest_of : (xs : List ℕ) (from n to : ℕ) → from + n ≤ to → slice_range xs (from + n) to ≡ drop n (slice_range xs from to)
 rest_of xs from n to le =
     let m = to - (from + n) in
@@ -53,7 +53,7 @@ module _ (input input' : Input) (n : ℕ) (from : input'.from ≡ input.from + n
       ap (λ (xs : List ℕ). slice_range xs input'.from input'.to) buffer ∙ ap (λ (k : ℕ). slice_range input.buffer.items k input'.to) from
       ∙ ap (λ (k : ℕ). slice_range input.buffer.items (input.from + n) k) to ∙ rest_of input.buffer.items input.from n input.to inside
 
-  -- so many bytes more were used
+  -- n more bytes were used
   pub advanced : (unread left : Option (List ℕ)) (used : List ℕ) → HasTaken unread left used input →
       HasTaken unread left (used ++ take n (held input)) input'
   advanced unread left used t =
@@ -71,28 +71,28 @@ module _ (input input' : Input) (n : ℕ) (from : input'.from ≡ input.from + n
         room = omega (arith, long, t.room);
       }
 
-  pub between_on : {C M : ℕ} (gone : Gone C M) (lines lines' : ScriptReader C M) (unread left : Option (List ℕ)) → lines'.version ≡ lines.version
-      → ((done : List ℕ) → HasReadPast lines.version done gone lines.script lines.line →
-      HasReadPast lines.version (done ++ take n (held input)) gone lines'.script lines'.line)
-      → IsBetweenPast gone unread left lines input → IsBetweenPast gone unread left lines' input'
-  between_on gone lines lines' unread left version told b = record {
+  pub between_on : {C M : ℕ} (discarded : Discarded C M) (lines lines' : ScriptReader C M) (unread left : Option (List ℕ)) → lines'.version ≡ lines.version
+      → ((done : List ℕ) → HasReadPast lines.version done discarded lines.script lines.line →
+      HasReadPast lines.version (done ++ take n (held input)) discarded lines'.script lines'.line)
+      → IsBetweenPast discarded unread left lines input → IsBetweenPast discarded unread left lines' input'
+  between_on discarded lines lines' unread left version told b = record {
     used = b.used ++ take n (held input);
     taken = advanced unread left b.used b.taken;
-    read = subst (λ v. HasReadPast v (b.used ++ take n (held input)) gone lines'.script lines'.line) (sym version) (told b.used b.read);
+    read = subst (λ v. HasReadPast v (b.used ++ take n (held input)) discarded lines'.script lines'.line) (sym version) (told b.used b.read);
   }
 
   pub unfinished : (bytes : List ℕ) → bytes ≡ held input → IsUnfinished (drop n bytes) → IsUnfinished (held input')
   unfinished bytes is rest = subst IsUnfinished (sym held_rest) (subst (λ xs. IsUnfinished (drop n xs)) is rest)
 
-  -- the lines of so many bytes were read
+  -- the lines in the first n bytes were read
   module _ {C M : ℕ} (lines lines' : ScriptReader C M) (bytes : List ℕ) (is : bytes ≡ held input) (version : lines'.version ≡ lines.version)
-      (told : (done : List ℕ) (gone : Gone C M) → HasReadPast lines.version done gone lines.script lines.line →
-      HasReadPast lines.version (done ++ take n bytes) gone lines'.script lines'.line) where
-    pub between_read : (unread left : Option (List ℕ)) (gone : Gone C M) → IsBetweenPast gone unread left lines input →
-        IsBetweenPast gone unread left lines' input'
-    between_read unread left gone b =
-        between_on gone lines lines' unread left version
-        (λ done r. subst (λ xs. HasReadPast lines.version (done ++ take n xs) gone lines'.script lines'.line) is (told done gone r)) b
+      (told : (done : List ℕ) (discarded : Discarded C M) → HasReadPast lines.version done discarded lines.script lines.line →
+      HasReadPast lines.version (done ++ take n bytes) discarded lines'.script lines'.line) where
+    pub between_read : (unread left : Option (List ℕ)) (discarded : Discarded C M) → IsBetweenPast discarded unread left lines input →
+        IsBetweenPast discarded unread left lines' input'
+    between_read unread left discarded b =
+        between_on discarded lines lines' unread left version
+        (λ done r. subst (λ xs. HasReadPast lines.version (done ++ take n xs) discarded lines'.script lines'.line) is (told done discarded r)) b
 
     pub has_read : (more : Bool) → HasGrown lines.script lines'.script → IsUnfinished (drop n bytes) →
         more ≡ nat_eq input'.to (length input'.buffer.items) → (more ≡ false → held input' ≡ []) → HasReadHeld lines input lines' input' more
@@ -110,7 +110,7 @@ module _ (input input' : Input) (n : ℕ) (from : input'.from ≡ input.from + n
 
 -- ---- faults
 
--- the text's own fault, or want of memory
+-- the text's own fault, or out of memory
 pub any_refused : (unread left : Option (List ℕ)) (used : List ℕ) (input : Input) (fault : TraceFault) → HasTaken unread left used input
     → (fault.kind ≢ kinds.OutOfMemory → IfSome unread (λ text. IsFirstFault text fault.line fault.kind)) →
     IsRefused unread left input (of_trace fault)
@@ -129,7 +129,7 @@ any_refused unread left used input fault t is = cases fault.kind refl
     cases kinds.Range e = another kinds.Range e (λ p. absurd cc)
     cases kinds.NoEnd e = another kinds.NoEnd e (λ p. absurd cc)
 
--- what holds of what was read and all that may come is so of the text
+-- a property of the bytes that were read, with all that may follow, is a property of the text
 pub of_text : (P : List ℕ → Type 0) (unread left : Option (List ℕ)) (bytes : List ℕ) → Consumes unread left bytes →
     ((more : List ℕ) → P (bytes ++ more)) → IfSome unread P
 of_text P None left bytes took all = tt

@@ -1,4 +1,4 @@
--- What reads of a piece gave so far.
+-- The state after some reads of a piece.
 use Rattle.tl_stream.proofs.Names.{Result, Ok, Err, IfSome, IsErrOf, IsAtEnd, TextFault, ◌≡◌}
 use Rattle.tl_stream.proofs.Names.{◌≢◌, ℕ, [], refl, ◌+◌, ◌-◌, ◌<◌, ◌≤◌, List, ◌++◌, length, take, drop, Option, sym, ap, ◌∙◌}
 use Rattle.tl_stream.proofs.Names.{subst, arith, append_assoc, length-append, length-drop, length-take-le, take-append-le, take_rest, Consumes-trans}
@@ -10,7 +10,7 @@ use Rattle.tl_stream.specs.Inner.Filling.{IsFilled, IsReadFault, IsTooMany}
 use Rattle.tl_stream.specs.declared.fault.TextFault.TheVariants as faults
 use Rattle.tl_stream.proofs.Between.{held_size, of_text}
 
--- the first bytes of the room are what was taken, at most so many
+-- the first bytes of the room are those that were taken, at most `most`
 pub record SoFar (old now : Option (List ℕ)) (most : ℕ) (room : List ℕ) (filled : ℕ) : Type 0 where
   pub within : filled ≤ length room
   pub few : filled ≤ most
@@ -22,7 +22,7 @@ put_front a k n xs ys le few =
     ap (λ (m : ℕ). take (m + n) (take a xs ++ (ys ++ post_of a k xs))) (sym size) ∙ take-append-add (take a xs) (ys ++ post_of a k xs) n
     ∙ ap (λ (zs : List ℕ). take a xs ++ zs) (take-append-le n ys (post_of a k xs) few)
 
--- what is put over a part leaves the size as it is
+-- writing over a part keeps the length
 pub put_size : (a : ℕ) (xs ys : List ℕ) → a ≤ length xs → length ys ≡ length xs - a → length (put_mid a (length xs - a) xs ys) ≡ length xs
 put_size a xs ys le same =
     let front : length (take a xs) ≡ a = length-take-le a xs le in
@@ -32,7 +32,7 @@ put_size a xs ys le same =
     let whole = length-append (take a xs) (ys ++ post_of a (length xs - a) xs) in
     omega arith
 
--- the room behind the first bytes
+-- the room after the first bytes
 pub room_size : (a : ℕ) (xs : List ℕ) → length (take (length xs - a) (drop a xs)) ≡ length xs - a
 room_size a xs = ap length (take_rest xs a) ∙ length-drop a xs
 
@@ -93,7 +93,7 @@ moved_front buffer from to le within =
     let size : length part ≡ to - from = length-take-le (to - from) (drop from buffer) (omega arith) in
     ap (λ (n : ℕ). take n (part ++ drop (0 + (to - from)) buffer)) (sym size) ∙ take-append_seam part (drop (0 + (to - from)) buffer)
 
--- the first n bytes of the buffer are those that were kept, and behind them what was read
+-- the first n bytes of the buffer are those that were kept, followed by those that were read
 record IsRefilled (old new : Option (List ℕ)) (kept : List ℕ) (most : ℕ) (buffer : List ℕ) (n : ℕ) : Type 0 where
   within : n ≤ length buffer
   bytes : List ℕ
@@ -146,7 +146,7 @@ opened old new room n f long input is from to total =
       room = omega (arith, long, whole);
     }
 
--- and where it is too long
+-- and if it is too long
 pub opened-long : (old new : Option (List ℕ)) → IsTooMany old new most_bytes → IfSome old (λ text. most_bytes < length text)
 opened-long old new many =
     of_text (λ text. most_bytes < length text) old new many.0 many.1 (λ more.
@@ -155,7 +155,7 @@ opened-long old new many =
     omega arith)
 
 module _ (unread old new : Option (List ℕ)) (used : List ℕ) (input : Input) (t : HasTaken unread old used input) where
-  -- the part at the front of its buffer, and what was read behind it
+  -- the kept part is at the front of its buffer, followed by the bytes that were read
   pub refilled-taken : (before moved room : List ℕ) (n : ℕ) → before ≡ input.buffer.items → length moved ≡ length before
       → moved ≡ copy_within before input.from input.to 0 → length room ≡ length moved - (input.to - input.from)
       → IsFilled old new (most_bytes - input.total) room n
@@ -208,7 +208,7 @@ abbrev fault_of : {A E : Type 0} → E → Result A E → E
 fault_of e (Ok x) = e
 fault_of e (Err fault) = fault
 
--- what is not refused has no fault
+-- a result that is not an error has no fault
 pub no-fault : {A P : Type 0} {x : A} {e : TextFault} → IsErrOf {T = A} (Ok x) e → P
 no-fault is = absurd (let bad = is in cc)
 
@@ -216,18 +216,18 @@ no-fault is = absurd (let bad = is in cc)
 pub named-fault : {A : Type 0} (P : TextFault → Type 0) (fault e : TextFault) → P fault → IsErrOf {T = A} (Err fault) e → P e
 named-fault P fault e is same = subst P (ap (fault_of fault) same) is
 
--- a want of memory is none that is too long
+-- out of memory is not too long
 pub memory-not-long : {A P : Type 0} → IsErrOf {T = A} (Err faults.OutOfMemory) faults.TooLong → P
 memory-not-long is = absurd (let bad = is in cc)
 
 pub no-less : (m n : ℕ) → m ≤ m + n
 no-less m n = omega arith
 
--- a part behind a place has room up to another length that is the same
+-- a part fits in a buffer of the same length
 pub part-fits : (to from long n : ℕ) → to ≤ long → n ≡ long → to - from ≤ n
 part-fits to from long n within same = omega arith
 
--- where a buffer is full that was not, more was read
+-- if a buffer is full and was not, more was read
 pub read-some : (kept read now long total : ℕ) → kept + read ≡ now → kept < long → now ≡ long → total < total + read
 read-some kept read now long total full part same = omega arith
 

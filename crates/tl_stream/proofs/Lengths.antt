@@ -7,7 +7,7 @@ one-more : {X : Type 0} (o : Option X) (xs : List X) → length (cons_option o x
 one-more None xs = omega arith
 one-more (Some x) xs = omega arith
 
--- what is chosen of a list is no longer than the list
+-- the items chosen from a list are at most as many as its items
 chosen : {A X : Type 0} (h : A → Option X) (xs : List A) → length (filter_map h xs) ≤ length xs
 chosen h [] = omega arith
 chosen h (x ∷ xs) = let below = chosen h xs in let more = one-more (h x) (filter_map h xs) in omega arith
@@ -25,7 +25,7 @@ lines-in-bytes version client manager (line ∷ lines) text (body, rest, same, s
     let more : suc (length rest) ≤ length text = subst (λ t. suc (length rest) ≤ length t) (sym same) (longer body rest) in
     omega arith
 
--- a trace has fewer lines behind its header's than its text has bytes
+-- a trace has fewer lines after its header than its text has bytes
 pub lines-below : (text : List ℕ) (version client manager : ℕ) (lines : List Line) → Tells text version client manager lines →
     suc (length lines) ≤ length text
 lines-below text version client manager lines tells =
@@ -39,7 +39,7 @@ pub lines-few : (text : List ℕ) (version client manager : ℕ) (lines : List L
     length text ≤ most_bytes → length lines ≤ most_bytes
 lines-few text version client manager lines tells few = let below = lines-below text version client manager lines tells in omega arith
 
--- what is chosen of so many lines can be counted
+-- the items chosen from the lines of a text can be counted
 pub few-chosen : {X : Type 0} (h : Line → Option X) (lines : List Line) → length lines ≤ most_bytes → (xs : List X) → xs ≡ filter_map h lines →
     length xs ≤ 2 ^ 40
 few-chosen h lines few xs is =

@@ -1,7 +1,7 @@
 -- A listener while a text is read: those beats that were heard go, and more is read.
 use Rattle.tl_stream.proofs.Names.{◌≡◌, ◌≢◌, ◌<◌, ◌≤◌, ◌++◌, ◌∙◌, ℕ, Bool, false, Option, List, [], length, refl, sym, ap, subst, arith}
 use Rattle.tl_stream.proofs.Names.{length-append, append-nil, IfErr, IfOk, IfSome, Result, Ok, Err, Consumes, Tells}
-use Rattle.tl_stream.proofs.Names.{Gone, IsRestOf, beat_of_a, beat_of_b, beat_of_c, beat_of_d, beat_of_e, more_gone, none_gone, Script, ScriptReader}
+use Rattle.tl_stream.proofs.Names.{Discarded, IsRestOf, beat_of_a, beat_of_b, beat_of_c, beat_of_d, beat_of_e, more_discarded, none_gone, Script, ScriptReader}
 use Rattle.tl_stream.proofs.Names.{HasGrown, HasHeader, HasRead, HasReadPast, IsHeaderLine}
 use Rattle.tl_stream.proofs.Names.{AreFew, HasReadHeld, HasTaken, HasUsedHeader, IsNew, IsReading, IsWidth, unread_of, IsReadThrough, IsBetweenPast}
 use Rattle.tl_stream.proofs.Names.{IsRefused, ReadsScript, held}
@@ -26,27 +26,27 @@ refused-read unread left input faults.Write kinds long = let no : faults.Write �
 refused-read unread left input faults.TooLong kinds long = long refl
 refused-read unread left input faults.OutOfMemory kinds long = tt
 
-module _ {L : Type 0} {C M : ℕ} (Listens : L → Gone C M → Script C M → Type 0) (unread left : Option (List ℕ)) (v : ℕ) (lines : ScriptReader C M)
+module _ {L : Type 0} {C M : ℕ} (Listens : L → Discarded C M → Script C M → Type 0) (unread left : Option (List ℕ)) (v : ℕ) (lines : ScriptReader C M)
     (input : Input) (listener : L) where
-  -- the lines that were used were heard, and the listener listens to what is read behind them
+  -- the listener advanced over the lines that were used, and relates to the beats that are read after them
   pub record IsAhead : Type 0 where
-    pub gone : Gone C M
-    pub between : IsBetweenPast gone unread left lines input
-    pub listens : (more : Script C M) → HasGrown lines.script more → AreFew gone more → Listens listener gone more
+    pub discarded : Discarded C M
+    pub between : IsBetweenPast discarded unread left lines input
+    pub listens : (more : Script C M) → HasGrown lines.script more → AreFew discarded more → Listens listener discarded more
     pub version : lines.version ≡ v
 
-  -- lines behind those that were heard were read
+  -- more lines were read after those that the listener advanced over
   pub record IsBehind : Type 0 where
-    pub gone : Gone C M
-    pub between : IsBetweenPast gone unread left lines input
-    pub listens : Listens listener gone lines.script
+    pub discarded : Discarded C M
+    pub between : IsBetweenPast discarded unread left lines input
+    pub listens : Listens listener discarded lines.script
     pub version : lines.version ≡ v
 
 module _ {C M : ℕ} where
-  -- what has gone and what is held can be counted
-  pub counted : (unread left : Option (List ℕ)) (gone : Gone C M) (lines : ScriptReader C M) (input : Input) →
-      IsBetweenPast gone unread left lines input → AreFew gone lines.script
-  counted unread left gone lines input b =
+  -- the beats that were removed, with those that the script holds, can be counted
+  pub counted : (unread left : Option (List ℕ)) (discarded : Discarded C M) (lines : ScriptReader C M) (input : Input) →
+      IsBetweenPast discarded unread left lines input → AreFew discarded lines.script
+  counted unread left discarded lines input b =
       let sum = length-append b.used (held input) in
       let count = b.taken.count in
       let few : length b.used ≤ most_bytes = omega (arith, sum, count, b.taken.few) in
@@ -54,21 +54,21 @@ module _ {C M : ℕ} where
       let is = b.read.script in
       let s = lines.script in
       record {
-        few_a = few-chosen (beat_of_a C) b.read.lines few_lines (gone.a ++ s.a.items) is.a;
-        few_b = few-chosen (beat_of_b M) b.read.lines few_lines (gone.b ++ s.b.items) is.b;
-        few_c = few-chosen (beat_of_c C) b.read.lines few_lines (gone.c ++ s.c.items) is.c;
-        few_d = few-chosen (beat_of_d M) b.read.lines few_lines (gone.d ++ s.d.items) is.d;
-        few_e = few-chosen (beat_of_e C) b.read.lines few_lines (gone.e ++ s.e.items) is.e;
+        few_a = few-chosen (beat_of_a C) b.read.lines few_lines (discarded.a ++ s.a.items) is.a;
+        few_b = few-chosen (beat_of_b M) b.read.lines few_lines (discarded.b ++ s.b.items) is.b;
+        few_c = few-chosen (beat_of_c C) b.read.lines few_lines (discarded.c ++ s.c.items) is.c;
+        few_d = few-chosen (beat_of_d M) b.read.lines few_lines (discarded.d ++ s.d.items) is.d;
+        few_e = few-chosen (beat_of_e C) b.read.lines few_lines (discarded.e ++ s.e.items) is.e;
       }
 
-  module _ {L : Type 0} {Listens : L → Gone C M → Script C M → Type 0} {unread left : Option (List ℕ)} {v : ℕ} where
+  module _ {L : Type 0} {Listens : L → Discarded C M → Script C M → Type 0} {unread left : Option (List ℕ)} {v : ℕ} where
     -- the first piece
     first-heard : (lines : ScriptReader C M) (input input' : Input) (listener : L) → lines.version ≡ v → IsNew Listens listener →
         HasTaken unread left [] input → HasHeader (held input) v C M →
         ((text : List ℕ) → IsHeaderLine text v C M → HasRead v text lines.script lines.line) →
         HasUsedHeader input input' → IsAhead Listens unread left v lines input' listener
     first-heard lines input input' listener version new taken named none h = record {
-      gone = none_gone;
+      discarded = none_gone;
       between = record {
         used = h.line;
         taken = h.taken unread left taken;
@@ -83,11 +83,11 @@ module _ {C M : ℕ} where
         IsAhead Listens unread left v lines input listener → HasReadHeld lines input lines' input' more →
         IsBehind Listens unread left v lines' input' listener
     behind {lines' = lines'} {input' = input'} a r =
-        let between = r.between unread left a.gone a.between in
+        let between = r.between unread left a.discarded a.between in
         record {
-          gone = a.gone;
+          discarded = a.discarded;
           between = between;
-          listens = a.listens lines'.script r.grown (counted unread left a.gone lines' input' between);
+          listens = a.listens lines'.script r.grown (counted unread left a.discarded lines' input' between);
           version = r.version ∙ a.version;
         }
 
@@ -95,20 +95,20 @@ module _ {C M : ℕ} where
     pub heard : {left' : Option (List ℕ)} {lines : ScriptReader C M} {input : Input} {listener : L}
         (b : IsBehind Listens unread left v lines input listener)
         (lines' : ScriptReader C M) (input' : Input) (listener' : L) (counts : Counts) → lines'.version ≡ lines.version
-        → ((done : List ℕ) (gone : Gone C M) → HasReadPast lines.version done gone lines.script lines.line →
-        HasReadPast lines.version done (more_gone gone counts lines.script) lines'.script lines'.line)
-        → ((more : Script C M) → HasGrown lines'.script more → AreFew (more_gone b.gone counts lines.script) more →
-        Listens listener' (more_gone b.gone counts lines.script) more)
+        → ((done : List ℕ) (discarded : Discarded C M) → HasReadPast lines.version done discarded lines.script lines.line →
+        HasReadPast lines.version done (more_discarded discarded counts lines.script) lines'.script lines'.line)
+        → ((more : Script C M) → HasGrown lines'.script more → AreFew (more_discarded b.discarded counts lines.script) more →
+        Listens listener' (more_discarded b.discarded counts lines.script) more)
         → HasTaken unread left' b.between.used input' → IsAhead Listens unread left' v lines' input' listener'
     heard {lines = lines} b lines' input' listener' counts version told listens taken =
-        let after = more_gone b.gone counts lines.script in
+        let after = more_discarded b.discarded counts lines.script in
         let used = b.between.used in
         record {
-          gone = after;
+          discarded = after;
           between = record {
             used = used;
             taken = taken;
-            read = subst (λ v. HasReadPast v used after lines'.script lines'.line) (sym version) (told used b.gone b.between.read);
+            read = subst (λ v. HasReadPast v used after lines'.script lines'.line) (sym version) (told used b.discarded b.between.read);
           };
           listens = listens;
           version = version ∙ b.version;
@@ -129,12 +129,12 @@ module _ {C M : ℕ} where
           few = let same = ap length all in omega (arith, same, t.count, t.few);
           lines = b.between.read.lines;
           told = subst (λ v. Tells used v C M b.between.read.lines) b.version b.between.read.told;
-          gone = b.gone;
+          discarded = b.discarded;
           rest = b.between.read.script;
           listens = b.listens;
         }
 
-  module _ {L : Type 0} (Listens : ℕ → L → Gone C M → Script C M → Type 0) where
+  module _ {L : Type 0} (Listens : ℕ → L → Discarded C M → Script C M → Type 0) where
     -- the widths of a text that begins
     pub beginning_widths : {left : Option (List ℕ)} {input : Input} {lines : ScriptReader C M} {listener : L} →
         IsBeginning Listens left input lines listener → IsWidth C × IsWidth M
@@ -149,7 +149,7 @@ module _ {C M : ℕ} where
         (first-heard lines input input' listener b.1 b.4 b.2.taken b.3 b.5 h)
 
     module _ (unread left : Option (List ℕ)) (v : ℕ) (lines : ScriptReader C M) (input : Input) (listener : L) where
-      -- as a round of the reading finds it: the lines can be read, and what is read then can be heard, as `read_on` asks for it
+      -- at the beginning of a round: the lines can be read, and the listener can advance over them, in the form that `read_on` requires
       abbrev pub GoesOn : Type 0
       GoesOn = IsAhead (Listens v) unread left v lines input listener × IsReading lines input × CanHear Listens lines input listener
 
@@ -157,23 +157,23 @@ module _ {C M : ℕ} where
       goes-on widths ahead = (
         ahead,
         reading widths.0 widths.1 unread left lines input ahead.between,
-        λ lines' input' more r. let b = behind ahead r in (v, b.gone, b.listens),
+        λ lines' input' more r. let b = behind ahead r in (v, b.discarded, b.listens),
       )
 
     -- the lines that the input held can be heard
     pub can-hear : (lines : ScriptReader C M) (input : Input) (lines' : ScriptReader C M) (input' : Input) (listener : L)
         (r : Result Bool TextFault) → IsWidth C → IsWidth M → CanHear Listens lines input listener → ReadsHeld lines input lines' input' r
-        → IfOk r (λ _. IsWidth C × IsWidth M × ((version : ℕ) × (gone : Gone C M) × Listens version listener gone lines'.script))
+        → IfOk r (λ _. IsWidth C × IsWidth M × ((version : ℕ) × (discarded : Discarded C M) × Listens version listener discarded lines'.script))
     can-hear lines input lines' input' listener (Ok more) client manager can read = (client, manager, can lines' input' more read)
     can-hear lines input lines' input' listener (Err fault) client manager can read = tt
 
-  -- where all is kept, what is held at the end is the script
+  -- if all beats are kept, those at the end are the script
   pub reads-script : (unread left : Option (List ℕ)) (version : ℕ) (input : Input) (keeper : KeepAll) (result : Result (Script C M) TextFault) →
       IfOk result (IsReadThrough (Keeps version) unread left version keeper) → IfErr result (IsRefused unread left input) →
       ReadsScript unread left version input result
   reads-script unread left version input keeper (Err fault) ok err = err
   reads-script unread left version input keeper (Ok s) read err =
-      let is = subst (λ gone. IsRestOf read.lines gone s) read.listens read.rest in
+      let is = subst (λ discarded. IsRestOf read.lines discarded s) read.listens read.rest in
       record {
         text = read.text;
         took = read.took;

@@ -1,4 +1,4 @@
--- What the proofs of this crate name most, of the library and of the definitions, passed on by one module.
+-- The names that the proofs of this crate use most, from the library and from the definitions, re-exported by one module.
 pub use Rattle.std.proofs.Common.{Ok, ◌≡◌, ℕ, Bool, true, false, List, [], ◌∷◌, ◌++◌, length, refl, sym, ap, subst, ◌∙◌, append-nil, arith, ◌≢◌, ◌+◌}
 pub use Rattle.std.proofs.Common.{◌-◌, ◌≤◌, take, drop, Option, None, Some, length-append, length-drop, append_assoc, take-append-drop, ◌<◌, ◌^◌, suc}
 pub use Rattle.std.proofs.Common.{cond, nat_eq, nat_le, eq-eqb, rules, lit<}
@@ -17,7 +17,7 @@ pub use Rattle.tl_stream.specs.Listening.{IsNew, IsReadThrough, AreFew}
 pub use Rattle.tl_stream.specs.declared.fault.TextFault.{TextFault}
 pub use Rattle.tl_stream.specs.declared.input.Input.{Input}
 pub use Rattle.tl_trace.specs.Faults.{IsFirstFault, is_newline, header_of, HasHeader}
-pub use Rattle.tl_trace.specs.Scripts.{Gone, HasReadPast, more_gone, beat_of_a, beat_of_b, beat_of_c, beat_of_d, beat_of_e, IsRestOf}
+pub use Rattle.tl_trace.specs.Scripts.{Discarded, HasReadPast, more_discarded, beat_of_a, beat_of_b, beat_of_c, beat_of_d, beat_of_e, IsRestOf}
 pub use Rattle.tl_trace.specs.Scripts.{none_gone, HasGrown, HasRead, IsHeaderLine, IsUnfinished}
 pub use Rattle.tl_trace.specs.Texts.{Tells, TellsLines, newline, header_text, versions, widths, is_version, is_width}
 pub use Rattle.tl_trace.specs.declared.header.Header.{Header}

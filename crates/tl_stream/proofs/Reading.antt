@@ -1,4 +1,4 @@
--- What reads of a text gave so far.
+-- The state after some reads of a text.
 use Rattle.tl_stream.proofs.Names.{◌≡◌, ◌≢◌, ℕ, ◌-◌, ◌<◌, ◌≤◌, List, [], ◌++◌, length, take, Option, None, Some, IfSome, refl, sym, ap, subst, arith}
 use Rattle.tl_stream.proofs.Names.{length-append, length-take-le, Consumes-trans, Consumes, most_bytes, TextFault}
 use Rattle.tl_stream.specs.Inner.Filling.{IsFilled, IsReadFault, IsTooMany}
@@ -30,7 +30,7 @@ module _ (old now new : Option (List ℕ)) (all room : List ℕ) (s : SoFar old 
       subst (SoFar old new) (sym is)
       (record { took = Consumes-trans old now new all (take n room) s.took f.took; few = omega (arith, may) })
 
-  -- so less may still be read, where the room was full
+  -- so less may still be read, if the room was full
   pub less : (n : ℕ) (all' : List ℕ) → IsFilled now new most room n → all' ≡ all ++ take n room → length room ≤ n →
       0 < length room → most_bytes - length all' < most_bytes - length all
   less n all' f is full some =

@@ -16,11 +16,11 @@ use Rattle.tl_trace.proofs.Walk.{no_header_end, last_line}
 use Rattle.tl_trace.proofs.Widths.{width_of}
 use Rattle.tl_stream.proofs.Between.{held_size, advanced, of_whole}
 
--- what may still be read, and one more where the end was not found yet
+-- the number of bytes that may still be read, plus one if the end was not found yet
 abbrev pub to_read : Input → ℕ
 to_read input = (most_bytes - input.total) + cond (nat_eq input.to (length input.buffer.items)) 1 0
 
--- what was read is not kept
+-- the bytes that were read are not kept
 pub record IsDraining (first left : Option (List ℕ)) (input input' : Input) : Type 0 where
   pub from : input'.from ≤ input'.to
   pub to : input'.to ≤ length input'.buffer.items
@@ -33,7 +33,7 @@ pub record IsDraining (first left : Option (List ℕ)) (input input' : Input) : 
 pub part-short : (n part most long : ℕ) → n ≡ part → n < most → most < long → part < long
 part-short n part most long size short room = omega arith
 
--- a piece more was read, or the end, where the buffer was full and no more than used in between
+-- if the buffer was full and bytes were only used in between, another piece was read, or the end was found
 pub smaller : (was a c : Input) (more : Bool) → a.total ≡ was.total → a.to ≡ was.to → a.buffer.items ≡ was.buffer.items →
     more ≡ nat_eq a.to (length a.buffer.items) → more ≡ true → a.total ≤ c.total →
     (c.to ≡ length c.buffer.items → a.total < c.total) → c.total ≤ most_bytes → to_read c < to_read was

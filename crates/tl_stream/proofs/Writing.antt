@@ -1,4 +1,4 @@
--- What writes of a text put out so far.
+-- The state after some writes of a text.
 use Rattle.tl_stream.proofs.Names.{◌≡◌, ℕ, ◌+◌, ◌-◌, ◌≤◌, List, length, take, drop, Option}
 use Rattle.tl_stream.proofs.Names.{subst, ap, ◌∙◌, arith, length-drop, Appends-trans, Appends}
 use Rattle.std.proofs.Math.Seq.{take-add, take-length}

@@ -7,7 +7,7 @@ use Rattle.tl_trace.specs.declared.fault.TraceKind.TheVariants as kinds
 use Rattle.tl_stream.specs.declared.fault.TextFault.{TextFault}
 use Rattle.tl_stream.specs.declared.fault.TextFault.TheVariants as faults
 
--- a fault that holds another one has that one's number and name
+-- a fault of a trace has the number and name that it has as a TraceFault
 abbrev pub text_fault_number : TextFault → ℕ
 text_fault_number (faults.Trace fault) = kind_number fault.kind
 text_fault_number faults.Stalled = 20
@@ -24,7 +24,7 @@ text_fault_name faults.Write = codes "Write"
 text_fault_name faults.TooLong = codes "TooLong"
 text_fault_name faults.OutOfMemory = codes "OutOfMemory"
 
--- the line that a trace's fault names
+-- the line of a trace's fault
 abbrev pub text_fault_line : TextFault → Option ℕ
 text_fault_line (faults.Trace fault) = Some fault.line
 text_fault_line faults.Stalled = None
@@ -33,7 +33,7 @@ text_fault_line faults.Write = None
 text_fault_line faults.TooLong = None
 text_fault_line faults.OutOfMemory = None
 
--- a trace's want of memory is the text's, without a line
+-- if a trace ran out of memory, so did the text, without a line
 abbrev pub of_kind : TraceKind → TraceFault → TextFault
 of_kind kinds.OutOfMemory fault = faults.OutOfMemory
 of_kind _ fault = faults.Trace fault

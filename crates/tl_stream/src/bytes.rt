@@ -1,4 +1,4 @@
-//! The bytes of a text, read or written whole.
+//! Functions that read or write all bytes of a text.
 ghost use Rattle.std.specs.Prelude.{◌≡◌, ◌≢◌, ◌≤◌, ◌<◌, [], length, IfSome, IfOk, OnOk, IfErr, IsErrOf};
 ghost use Rattle.std.specs.Io.KnownBytes.{Appends, Keeps, IsAtEnd};
 ghost use Rattle.tl_stream.specs.Inputs.{most_bytes};
@@ -10,12 +10,10 @@ use crate::input::{MAX_BYTES, fill, read_buffer};
 use std::alloc::Global;
 use std::io::{Read, Write};
 
-/// The bytes that one read may give.
+/// The largest number of bytes of one read.
 const READ_BYTES: usize = 65_536;
 
-/// Reads to the end, through a buffer, into an empty list.
-///
-/// Refused as `read_all` is.
+/// Reads to the end, through a buffer, into an empty list. Errors: as `read_all`.
 fn read_rest<R: Read>(reader: &mut R, all: &mut Vec<u8>, buffer: &mut [u8]) -> Result<(), TextFault>
     requires { (all.old.items ≡ []) × (0 < length buffer.old) }
     ensures { ReadsAll (R.remaining reader.old) (R.remaining reader.new) all.new.items result }
@@ -34,10 +32,10 @@ fn read_rest<R: Read>(reader: &mut R, all: &mut Vec<u8>, buffer: &mut [u8]) -> R
     }
 }
 
-/// All that a reader gives, up to its end.
+/// Reads to the end. Returns all bytes.
 ///
-/// Refused with `Read` where a read fails or is interrupted, with `TooLong` above 67,108,864 bytes,
-/// or with `OutOfMemory`; how much was read then isn't said.
+/// Errors: `Read` if a read fails or is interrupted, `TooLong` above 67,108,864 bytes, or
+/// `OutOfMemory`. After an error it is not specified how much was read.
 pub fn read_all<R: Read>(alloc: Global, reader: &mut R) -> Result<Vec<u8>, TextFault>
     ensures all { IfOk result (λ v. IfSome (R.remaining reader.old) (λ text. v.items ≡ text)) }
     ensures few { IfOk result (λ v. length v.items ≤ most_bytes) }
@@ -56,7 +54,7 @@ pub fn read_all<R: Read>(alloc: Global, reader: &mut R) -> Result<Vec<u8>, TextF
     }
 }
 
-/// Writes all bytes, and does not flush. Refused as `write_all` is.
+/// Writes all bytes without flushing. Errors: as `write_all`.
 pub fn write_bytes<W: Write>(writer: &mut W, bytes: &[u8]) -> Result<(), TextFault>
     ensures all { OnOk result (Appends (W.contents writer.old) (W.contents writer.new) bytes.now) }
     ensures kind { IfErr result (λ e. e ≡ WriteFault) }
@@ -71,7 +69,7 @@ pub fn write_bytes<W: Write>(writer: &mut W, bytes: &[u8]) -> Result<(), TextFau
     Ok(())
 }
 
-/// Hands on what a writer keeps back. Refused as `write_all` is.
+/// Flushes a writer. Errors: as `write_all`.
 pub fn flush<W: Write>(writer: &mut W) -> Result<(), TextFault>
     ensures all { OnOk result (Keeps (W.contents writer.old) (W.contents writer.new)) }
     ensures kind { IfErr result (λ e. e ≡ WriteFault) }
@@ -84,8 +82,8 @@ pub fn flush<W: Write>(writer: &mut W) -> Result<(), TextFault>
 
 /// Writes all bytes and flushes.
 ///
-/// Refused with `Write` alone, where a write or the flush fails, is interrupted or takes no byte;
-/// after it, it isn't said how much went out.
+/// Errors: only `Write`, if a write or the flush fails, is interrupted or takes no byte. After an
+/// error it is not specified how much was written.
 pub fn write_all<W: Write>(writer: &mut W, bytes: &[u8]) -> Result<(), TextFault>
     ensures all { OnOk result (Appends (W.contents writer.old) (W.contents writer.new) bytes.now) }
     ensures kind { IfErr result (λ e. e ≡ WriteFault) }

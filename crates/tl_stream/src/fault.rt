@@ -9,10 +9,10 @@ use std::fmt;
 use thiserror::Error;
 use tl_trace::{OutOfMemory as NoMemory, TraceFault, TraceKind};
 
-/// Why a text gets no answer.
+/// The reasons why there is no answer to a text.
 #[derive(Clone, Copy, Debug, PartialEq, Eq, Error)]
 pub enum TextFault {
-    /// 14 to 19, by the kind of the trace's fault: the text is no trace.
+    /// 14 to 19, the number of the trace's fault: the text is not a valid trace.
     Trace(TraceFault),
     /// 20 (this project's choice): the two sides stopped moving before all beats had arrived.
     Stalled,
@@ -22,12 +22,12 @@ pub enum TextFault {
     Write,
     /// 23 (this project's choice): the text has more than 67,108,864 bytes.
     TooLong,
-    /// 13 (this project's choice): there was no memory left.
+    /// 13 (this project's choice): an allocation failed.
     OutOfMemory,
 }
 
 impl TextFault {
-    /// The fault's number; a trace's fault has that one's.
+    /// Returns the number of the fault; for `Trace`, the number of the trace's fault.
     pub fn number(&self) -> u8
         ensures { result ≡ text_fault_number self.now }
     {
@@ -41,7 +41,7 @@ impl TextFault {
         }
     }
 
-    /// The fault's name; a trace's fault has that one's.
+    /// Returns the name of the fault; for `Trace`, the name of the trace's fault.
     pub fn name(&self) -> &'static str
         ensures { result.now ≡ text_fault_name self.now }
     {
@@ -55,7 +55,7 @@ impl TextFault {
         }
     }
 
-    /// The line of the text that a trace's fault names, counted from 1.
+    /// Returns the line of the trace's fault, counted from 1, or `None` for any other fault.
     pub fn line(&self) -> Option<u64>
         ensures { result ≡ text_fault_line self.now }
     {
@@ -66,7 +66,7 @@ impl TextFault {
     }
 }
 
-// As in `line 3: 18 Range`, or `23 TooLong`.
+// Prints for example `line 3: 18 Range` or `23 TooLong`.
 impl fmt::Display for TextFault {
     ghost output = { λ fault. Some (fault_words fault) };
 

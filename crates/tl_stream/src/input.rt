@@ -1,4 +1,4 @@
-//! A text as it comes in, piece by piece.
+//! A text that is read incrementally.
 ghost use Rattle.std.specs.Prelude.{◌≡◌, ◌≢◌, ◌≤◌, ◌<◌, ◌+◌, ◌-◌, ℕ, List, [], Option, length, IfSome, IfOk, OnOk, IfErr, IsErrOf, ◌==◌};
 ghost use Rattle.std.specs.Io.KnownBytes.{IsAtEnd};
 ghost use Rattle.tl_stream.specs.Inner.Filling.{Fills};
@@ -10,23 +10,22 @@ use crate::fault::TextFault;
 use std::alloc::{AllocError, Global};
 use std::io::Read;
 
-/// The most bytes that a text may have (this project's choice).
+/// The largest number of bytes of a text (this project's choice).
 pub const MAX_BYTES: usize = 67_108_864;
 
-/// The bytes of a piece of a text.
+/// The number of bytes of a piece of a text.
 const PIECE_BYTES: usize = 262_144;
 
-/// Room for so many bytes.
+/// Allocates a buffer of `bytes` bytes.
 pub fn read_buffer(alloc: Global, bytes: usize) -> Result<Vec<u8>, AllocError>
     ensures { IfOk result (λ v. length v.items ≡ bytes) }
 {
     vec![in alloc; 0u8; bytes]
 }
 
-/// Reads until this room is full, or to the end, and says how many bytes were read.
+/// Reads until `room` is full, or to the end. Returns how many bytes were read.
 ///
-/// Refused with `Read` where a read fails or is interrupted, and with `TooLong` where more than
-/// `most` bytes were read.
+/// Errors: `Read` if a read fails or is interrupted, `TooLong` if more than `most` bytes were read.
 pub(crate) fn fill<R: Read>(
     reader: &mut R,
     room: &mut [u8],
@@ -50,26 +49,27 @@ pub(crate) fn fill<R: Read>(
     Ok(filled)
 }
 
-/// A text that is read piece by piece: the bytes of it that were read and not used yet.
+/// A text that is read incrementally: the bytes that were read and are not used yet.
 ///
-/// In contracts it has taken a part of what a reader had, some of which was used (`HasTaken`). Where
-/// it is not full, the reader has no more.
+/// In contracts the input has taken a part of what a reader had, and some of that part was used
+/// (`HasTaken`). If the buffer is not full, the reader is at its end.
 #[derive(Drop)]
 pub struct Input {
-    /// Used bytes, then those that are not used, and then room for more: 262,144 bytes in all.
+    /// Used bytes, then those that are not used yet, and then free capacity: 262,144 bytes in all.
     pub buffer: Vec<u8>,
-    /// Where the bytes that are not used begin.
+    /// The position of the first byte that is not used yet.
     pub from: usize,
-    /// Where they end.
+    /// The position after the last byte that is not used yet.
     pub to: usize,
-    /// How many bytes of the text were read so far, at most 67,108,864.
+    /// The number of bytes of the text that were read so far, at most 67,108,864.
     pub total: usize,
 }
 
 impl Input {
-    /// The first piece of a text.
+    /// Reads the first piece of a text.
     ///
-    /// Refused with `Read` where a read fails or is interrupted, or with `OutOfMemory`.
+    /// Errors: `Read` if a read fails or is interrupted, `TooLong` above 67,108,864 bytes, or
+    /// `OutOfMemory`.
     pub fn open<R: Read>(alloc: Global, reader: &mut R) -> Result<Input, TextFault>
         ensures ok { IfOk result (HasTaken (R.remaining reader.old) (R.remaining reader.new) []) }
         ensures first { IfOk result (λ input. input.from ≡ 0) }
@@ -91,7 +91,7 @@ impl Input {
         }
     }
 
-    /// The bytes that were read and not used.
+    /// Returns the bytes that were read and are not used yet.
     pub fn held(&self) -> &[u8]
         requires from { self.now.from ≤ self.now.to }
         requires to { self.now.to ≤ length self.now.buffer.items }
@@ -100,14 +100,14 @@ impl Input {
         &self.buffer[self.from..self.to]
     }
 
-    /// Whether the buffer is full, so that there may be more to read.
+    /// Returns whether the buffer is full, so that there may be more to read.
     pub fn is_full(&self) -> bool
         ensures { result ≡ (self.now.to == length self.now.buffer.items) }
     {
         self.to == self.buffer.len()
     }
 
-    /// Uses so many bytes of those that were not used.
+    /// Marks `used` more bytes as used. Requires: that many are not used yet.
     pub fn advance(&mut self, used: usize)
         requires { self.old.from + used ≤ self.old.to }
         ensures from { self.new.from ≡ self.old.from + used }
@@ -118,10 +118,9 @@ impl Input {
         self.from += used;
     }
 
-    /// Reads on behind the bytes that were not used, until the buffer is full or to the end.
+    /// Reads more bytes, after those that are not used yet, until the buffer is full or to the end.
     ///
-    /// Refused with `Read` where a read fails or is interrupted, with `TooLong` above 67,108,864
-    /// bytes in all.
+    /// Errors: `Read` if a read fails or is interrupted, `TooLong` above 67,108,864 bytes in all.
     pub fn refill<R: Read>(&mut self, reader: &mut R) -> Result<(), TextFault>
         requires from { self.old.from ≤ self.old.to }
         requires to { self.old.to ≤ length self.old.buffer.items }
@@ -154,7 +153,7 @@ impl Input {
         }
     }
 
-    /// Reads to the end, and keeps nothing of it. Refused as `refill` is.
+    /// Reads to the end and discards the bytes. Errors: as `refill`.
     pub fn drain<R: Read>(&mut self, reader: &mut R) -> Result<(), TextFault>
         requires taken { (unread : Option (List ℕ)) × (used : List ℕ) ×
             HasTaken unread (R.remaining reader.old) used self.old }

@@ -1,8 +1,8 @@
-//! From a text as it comes in to its near beats.
+//! Passes the near beats of a text to a listener while it is read.
 ghost use Rattle.std.specs.Prelude.{ℕ, ◌≤◌, length, IfOk, IfErr};
 ghost use Rattle.tl_lanes.specs.Lanes.{IsWidth};
 ghost use Rattle.tl_trace.specs.Faults.{HasHeader};
-ghost use Rattle.tl_trace.specs.Scripts.{Gone};
+ghost use Rattle.tl_trace.specs.Scripts.{Discarded};
 ghost use Rattle.tl_stream.specs.Inner.Lines.{IsBeginning, IsReading, ReadsHeld, UsesHeader};
 ghost use Rattle.tl_stream.specs.Inner.Hearing.{CanHear, ReadsThrough};
 ghost use Rattle.tl_stream.specs.Listening.{IsNew, IsReadThrough};
@@ -16,7 +16,7 @@ use std::alloc::Global;
 use std::io::Read;
 use tl_trace::{Script, ScriptReader, TraceFault, TraceKind, line_end};
 
-/// Uses the header's line of a text. Refused where it has no end.
+/// Uses the header line of a text. Errors: `NoEnd` if the line has no end.
 fn use_header(input: &mut Input) -> Result<(), TextFault>
     requires { (input.old.from ≤ input.old.to) × (input.old.to ≤ length input.old.buffer.items) }
     ensures { UsesHeader input.old input.new result }
@@ -33,9 +33,10 @@ fn use_header(input: &mut Input) -> Result<(), TextFault>
     Ok(())
 }
 
-/// Reads the lines that the input holds whole, and says whether more may come.
+/// Reads the whole lines that the input holds. Returns whether there may be more to read.
 ///
-/// Refused where no more comes and a line without its end is left.
+/// Errors: the first fault of the text. If there is no more to read, a line without its end is a
+/// fault.
 fn read_held<const C: usize, const M: usize>(
     lines: &mut ScriptReader<C, M>,
     input: &mut Input,
@@ -56,7 +57,8 @@ fn read_held<const C: usize, const M: usize>(
     }
 }
 
-/// The same where a listener goes on with the lines, which is not called here: it says what `hear` asks for.
+/// Reads the whole lines that the input holds, like `read_held`, and proves for a listener, which
+/// is not called here, that `hear` may be called.
 #[inline(always)]
 fn read_on<By, L: Listener<By, C, M>, const C: usize, const M: usize>(
     lines: &mut ScriptReader<C, M>,
@@ -66,16 +68,16 @@ fn read_on<By, L: Listener<By, C, M>, const C: usize, const M: usize>(
     requires { IsReading lines.old input.old × CanHear L.Listens lines.old input.old _listener.now }
     ensures read { ReadsHeld lines.old input.old lines.new input.new result }
     ensures hear { IfOk result (λ _. IsWidth C × IsWidth M ×
-        ((version : ℕ) × (gone : Gone C M) × L.Listens version _listener.now gone lines.new.script)) }
+        ((version : ℕ) × (discarded : Discarded C M) × L.Listens version _listener.now discarded lines.new.script)) }
 {
     read_held(lines, input)
 }
 
-/// Reads a text to its end, piece by piece, where the input holds its first piece and nothing of it
-/// was used, and no line was read yet. After each piece but the last one a new listener goes on with
-/// the beats that were read, and those go that it is done with.
+/// Reads a text to its end, incrementally. The input holds its first piece, nothing of it was used,
+/// and no line was read yet. After each piece except the last one, the listener advances over the
+/// beats that were read, and the beats that it no longer needs are removed.
 ///
-/// Refused as `script_of_input` is, and with `OutOfMemory` where the listener is refused.
+/// Errors: as `script_of_input`, and `OutOfMemory` if the listener fails.
 #[inline(never)]
 fn read_pieces<R: Read, By, L: Listener<By, C, M>, const C: usize, const M: usize>(
     reader: &mut R,
@@ -98,7 +100,7 @@ fn read_pieces<R: Read, By, L: Listener<By, C, M>, const C: usize, const M: usiz
             Err(fault) => return Err(fault),
         }
         match listener.hear(&lines.script) {
-            Ok(counts) => lines.let_go(&counts),
+            Ok(counts) => lines.remove_front(&counts),
             Err(_) => return Err(TextFault::OutOfMemory),
         }
         if let Err(fault) = input.refill(reader) {
@@ -107,12 +109,12 @@ fn read_pieces<R: Read, By, L: Listener<By, C, M>, const C: usize, const M: usiz
     }
 }
 
-/// Reads a text to its end, piece by piece, whose header names this version and these widths, where the
-/// input holds its first piece and nothing of it was used. After each piece but the last one a new listener
-/// goes on with the beats that were read, and those go that it is done with. Answers the beats of the
-/// script that are still held then.
+/// Reads a text to its end, incrementally. Its header names this version and these widths. The
+/// input holds its first piece, nothing of it was used, and the listener is new. After each piece
+/// except the last one, the listener advances over the beats that were read, and the beats that it
+/// no longer needs are removed. Returns the beats of the script that are left at the end.
 ///
-/// Refused as [`script_of_input`] is, and with `OutOfMemory` where the listener is refused.
+/// Errors: as [`script_of_input`], and `OutOfMemory` if the listener fails.
 pub fn read_through<R: Read, By, L: Listener<By, C, M>, const C: usize, const M: usize>(
     alloc: Global,
     reader: &mut R,
@@ -135,13 +137,15 @@ pub fn read_through<R: Read, By, L: Listener<By, C, M>, const C: usize, const M:
     }
 }
 
-/// The script of a text whose header names this version and these widths, where the input holds its
-/// first piece and nothing of it was used: it is read to its end, piece by piece, and no more than a
-/// piece of it stands in memory.
+/// Reads a text to its end, incrementally, so that only a piece of it is in memory. Its header
+/// names this version and these widths. The input holds its first piece, and nothing of it was
+/// used. Returns the script of the text.
 ///
-/// Refused with `Trace`, the text's first fault and its line, where the rest of the text is not read
-/// yet; with `Read` where a read fails or is interrupted, with `TooLong` above 67,108,864 bytes, or
-/// with `OutOfMemory`.
+/// Errors:
+/// - `Trace`: the text's first fault and its line. The rest of the text is not read yet.
+/// - `Read`: a read failed or was interrupted.
+/// - `TooLong`: the text has more than 67,108,864 bytes.
+/// - `OutOfMemory`
 #[inline(never)]
 pub fn script_of_input<R: Read, const C: usize, const M: usize>(
     alloc: Global,

@@ -1,5 +1,5 @@
-//! A text as it comes in and as it goes out: bytes that are read piece by piece, the near beats of a trace, which are handed on while
-//! it is read, and why there is no answer.
+//! Input and output of the programs. A text is read incrementally, and its near beats are passed to
+//! a [`Listener`] while it is read. A [`TextFault`] is the reason why there is no answer.
 #![tactic(auto)]
 
 mod bytes;

@@ -1,7 +1,7 @@
-//! What goes on with the near beats of a text while it is read.
+//! The interface to the near beats of a text while it is read.
 ghost use Rattle.std.specs.Prelude.{ℕ, IfOk};
 ghost use Rattle.tl_lanes.specs.Lanes.{IsWidth};
-ghost use Rattle.tl_trace.specs.Scripts.{Gone, HasCounts, HasGrown, HasLetGo, more_gone};
+ghost use Rattle.tl_trace.specs.Scripts.{Discarded, HasCounts, HasGrown, HasRemoved, more_discarded};
 ghost use Rattle.tl_trace.specs.declared.script.Script.{Script as TheScript};
 ghost use Rattle.tl_trace.specs.declared.script.Counts.{Counts as TheCounts};
 ghost use Rattle.tl_stream.specs.Listening.{AreFew};
@@ -9,31 +9,33 @@ ghost use Rattle.tl_stream.specs.Listening.{AreFew};
 use std::alloc::AllocError;
 use tl_trace::{Counts, Script};
 
-/// What goes on with the near beats of a text while it is read, so that those that it is done with
-/// need not be held any more (this project's choice).
+/// A consumer of the near beats of a text while it is read. The beats that it no longer needs are
+/// removed from memory (this project's choice).
 ///
-/// `By` is any type of the crate that says how a type listens: so a crate may say it of a type of another crate
-/// (a struct around that one would be a type more for each pair of widths).
+/// `By` is any type of the crate that implements the trait. It allows a crate to implement the
+/// trait for a type of another crate. (A wrapper struct would add one type for each pair of
+/// widths.)
 pub trait Listener<By, const C: usize, const M: usize> {
-    // in a trace of this version it is done with the beats that have gone, and has perhaps come to some of
-    // those that the script holds
-    ghost Listens: { (version : ℕ) → Self → Gone C M → TheScript C M → Type 0 };
+    // in a trace of this version the listener no longer needs the beats that were removed, and has
+    // perhaps advanced over some of those that the script holds
+    ghost Listens: { (version : ℕ) → Self → Discarded C M → TheScript C M → Type 0 };
 
-    // what it does with a piece: what it is before and after, the beats that are held, and how many of these
-    // have to go
+    // the effect of a call of `hear`: the listener before and after it, the beats that the script
+    // holds, and how many of these are to be removed
     ghost Hears: { (before : Self) → (after : Self) → TheScript C M → TheCounts → Type 0 };
 
-    /// Goes on as far as the beats that are held lead, and says how many of them have to go before
-    /// more is read. Refused where there is no memory, which ends the reading.
+    /// Advances over the beats that the script holds, as far as they allow. Returns how many of
+    /// them are to be removed before more is read. Errors: an allocation failed, which ends the
+    /// reading.
     fn hear(&mut self, held: &Script<C, M>) -> Result<Counts, AllocError>
         requires { IsWidth C × IsWidth M ×
-            ((version : ℕ) × (gone : Gone C M) × Listens version self.old gone held.now) }
+            ((version : ℕ) × (discarded : Discarded C M) × Listens version self.old discarded held.now) }
         ensures counts { IfOk result (λ counts. HasCounts counts held.now) }
         ensures heard { IfOk result (Hears self.old self.new held.now) }
 
-        // whatever is left of them, and is read behind it
-        ensures on { (version : ℕ) (gone : Gone C M) → Listens version self.old gone held.now →
-            IfOk result (λ counts. (rest more : Script C M) → HasLetGo counts held.now rest →
-            HasGrown rest more → AreFew (more_gone gone counts held.now) more →
-            Listens version self.new (more_gone gone counts held.now) more) };
+        // for any beats that are left of them, and that are read after them
+        ensures on { (version : ℕ) (discarded : Discarded C M) → Listens version self.old discarded held.now →
+            IfOk result (λ counts. (rest more : Script C M) → HasRemoved counts held.now rest →
+            HasGrown rest more → AreFew (more_discarded discarded counts held.now) more →
+            Listens version self.new (more_discarded discarded counts held.now) more) };
 }

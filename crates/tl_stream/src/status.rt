@@ -1,13 +1,17 @@
-//! How a program ends: its exit status, and the line on standard error where there is no answer.
+//! The end of a program: its exit status, and the line on standard error if there is no answer.
 ghost use Rattle.std.specs.Prelude.{◌≡◌, Some};
 ghost use Rattle.tl_stream.specs.Statuses.{status_of, fault_text};
 
 use crate::fault::TextFault;
 use std::fmt;
 
-/// The exit status of a program that answered a text or not (this project's choice): 0 exactly where all
-/// five channels are done, 1 where one of them is not, 3 where the text is no trace, and 4 for every
-/// other fault. (A command line that gives no order ends the program with 2.)
+/// Returns the exit status of a program that answers a text (this project's choice):
+/// - 0 if and only if all five channels are done
+/// - 1 if one of them is not
+/// - 3 if the text is not a valid trace
+/// - 4 for every other fault
+///
+/// (An invalid command line ends the program with status 2.)
 pub fn exit_status(ending: &Result<bool, TextFault>) -> u8
     ensures { result ≡ status_of ending.now }
 {
@@ -19,11 +23,12 @@ pub fn exit_status(ending: &Result<bool, TextFault>) -> u8
     }
 }
 
-/// The line on standard error where there is no answer (this project's choice): the program's name
-/// and `: `, then `line L: ` for a fault of a trace, then the fault's number and name, and the LF.
+/// The line on standard error if there is no answer (this project's choice). It has the program's
+/// name and `: `, then `line L: ` for a fault of a trace, then the fault's number and name, and the
+/// LF.
 #[derive(Clone, Copy)]
 pub struct FaultLine {
-    /// The name of the program that ends.
+    /// The name of the program.
     pub program: &'static str,
     pub fault: TextFault,
 }

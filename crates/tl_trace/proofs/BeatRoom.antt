@@ -9,7 +9,7 @@ use prog.Memory.{size, up}
 abbrev mask_bytes : ℕ
 mask_bytes = size (ty_int mask_width)
 
--- its mask begins where a head of any channel has ended
+-- the mask begins after a head of any channel
 pub beat_room : (w : ℕ) → w ≤ WIDEST → up mask_bytes (up 1 (mask_bytes + mask_bytes + w * 1) + 1) < 9223372036854775808
 beat_room w few =
     let lanes = up_le 1 (mask_bytes + mask_bytes + w * 1) in

@@ -7,7 +7,7 @@ use Rattle.tl_trace.proofs.Names.{form_b, form_c, form_d, form_e, FieldPlace, pl
 use Rattle.tl_trace.proofs.Names.{is_newline, SaysLine, Line, A, B, C, D, E}
 use Rattle.tl_trace.proofs.ReadLines.{IsFree}
 
--- a field as it stands in the text
+-- a field as it is in the text
 abbrev pub stands : List ℕ → FieldPlace → List ℕ
 stands text p = 32 ∷ digits_at text p
 

@@ -1,4 +1,4 @@
--- A text that tells a trace has no fault.
+-- The text of a trace has no fault.
 use Rattle.tl_trace.proofs.Names.{◌≡◌, ℕ, zero, suc, ◌+◌, Bool, true, false, cond, ◌&&◌, ◌||◌, List, [], ◌∷◌, ◌++◌, length, map, replicate, Option}
 use Rattle.tl_trace.proofs.Names.{None, Some, is_none, refl, sym, ap, ◌∙◌, append_assoc, append-nil, add-one, decimal, codes, find, ◌==◌, list_all}
 use Rattle.tl_trace.proofs.Names.{list_any, eqb-true, or_from, and_parts, list_any-append, versions, widths, is_version, is_width, newline}
@@ -110,7 +110,7 @@ lines_faults version client manager (line ∷ lines) text more kept told =
     ∙ ap (λ (o : Option TraceKind). o ∷ map (later_fault version client manager) (cut (rest ++ more))) fault
     ∙ ap (λ (os : List (Option TraceKind)). None ∷ os) later
 
--- a text that tells a trace, and what comes behind it: its lines have no fault
+-- the text of a trace, and more text after it: the lines of the trace have no fault
 pub text_faults : (text more : List ℕ) (version client manager : ℕ) (lines : List Line) → Tells text version client manager lines
     → faults (text ++ more) ≡ replicate (length lines + 1) None ++ map (later_fault version client manager) (cut more)
 text_faults text more version client manager lines t =

@@ -95,7 +95,7 @@ shifted_at version n i is few lt =
     ∙ ap (λ (k : ℕ). Some (header version k (2 ^ (i % n)))) (sym (shifted (i / n) (omega (arith, above, few))))
     ∙ ap (λ (k : ℕ). Some (header version (1 * 2 ^ (i / n) % 2 ^ 64) k)) (sym (shifted (i % n) (omega (arith, inside, few))))
 
--- what is found behind headers of which none is
+-- the result of a search, after headers that do not match
 behind : (p : Header → Bool) (xs ys : List Header) (x : Header) (is : Bool) → find p xs ≡ None → p x ≡ is
     → find p (xs ++ x ∷ ys) ≡ cond is (Some x) (find p ys)
 behind p xs ys x is none at = find-append p xs (x ∷ ys) ∙ rw (none, at) refl
@@ -144,7 +144,7 @@ find_all p q [] x all e = absurd cc
 find_all p q (y ∷ xs) x all e =
     split_all q y x (find p xs) (p y) (and_parts (q y) (list_all q xs) all).0 e (find_all p q xs x (and_parts (q y) (list_all q xs) all).1)
 
--- what a first line names are a version and widths
+-- a header has a known version and known widths
 pub known : (text : List ℕ) (h : Header) → header_of text ≡ Some h
     → (is_version h.version ≡ true) × (is_width h.version h.client ≡ true) × (is_width h.version h.manager ≡ true)
 unfolding header_of

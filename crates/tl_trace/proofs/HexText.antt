@@ -58,7 +58,7 @@ pair_next n value digits rest i low high lt far l h =
     let R : ℕ → Type 0 = λ c. HexSoFar n value (set (set digits (n - 1 - 2 * i) low) (n - 2 - 2 * i) high) (rest / 256) c in
     subst R count (subst Q left (subst P place two))
 
--- a space, and digits behind it
+-- a space, and digits after it
 pub after_space : (line digits made : List ℕ) (at k n : ℕ) → at < length line → n ≡ at + 1 + length digits → digits ≡ made
     → take n (put_mid (at + 1) k (set line at 32) digits) ≡ take at line ++ 32 ∷ made
 after_space line digits made at k n lt e is =
@@ -68,7 +68,7 @@ after_space line digits made at k n lt e is =
 
 -- ---- the last digits of a number, and those before them
 
--- digits say nothing of what stands above them
+-- the lowest digits of a number do not depend on the higher ones
 hex_low : (k m q r : ℕ) → k ≤ m → hex k (16 ^ m * q + r) ≡ hex k r
 hex_low zero m q r le = refl
 hex_low (suc k) zero q r le = absurd (omega arith)
@@ -107,7 +107,7 @@ pub hex_both : (m count value : ℕ) → m + 16 ≡ count → hex m (value / 2 ^
 hex_both m count value is =
     ap (λ (ds : List ℕ). hex m (value / 2 ^ 64) ++ ds) (hex_rest 16 value (omega arith)) ∙ sym (hex_join m 16 value) ∙ ap (λ (n : ℕ). hex n value) is
 
--- the last 16 digits behind those that were written before them
+-- the last 16 digits after those that were written before them
 pub more_digits : (line digits front : List ℕ) (half k n m count value : ℕ) → half ≤ length line → n ≡ half + length digits → m + 16 ≡ count
     → take half line ≡ front ++ 32 ∷ hex m (value / 2 ^ 64) → digits ≡ hex 16 (value % 2 ^ 64)
     → take n (put_mid half k line digits) ≡ front ++ 32 ∷ hex count value

@@ -11,7 +11,7 @@ use Rattle.tl_trace.specs.declared.known_head.KnownHead.{KnownHead}
 use Rattle.tl_trace.proofs.Shaped.{made, bit_of}
 use Rattle.tl_trace.proofs.LineParts.{line_part, line_values, line_said, line_plain, below_is, in_all, low}
 
--- ---- what stands before a place, of a text that is cut behind it
+-- ---- the part of a text before a position, if the text is cut after that position
 
 range_before : (text : List ℕ) (n a b : ℕ) → a ≤ b → b ≤ n → slice_range (take n text) a b ≡ slice_range text a b
 range_before text n a b first last =
@@ -66,7 +66,7 @@ module _ {H : Type 0} (f : Form H) (version : ℕ) where
       ∙ ap (λ k. take (head_length f) (take k (drop at text))) (sym all) in
       grown (slice_range text at (at + long)) (head_length f) h (omega arith) (subst (λ t. HasHead f version t h) cut has)
 
-  -- what was read of a head
+  -- the head that was read
   pub new_head : (text : List ℕ) (r : HeadFields) (o : Option H) → IsHead (id_digits version) text f.head_fields r → r.bad ≤ 15 → Takes f r o
       → IfSome o (HasHead f version text)
   new_head text r None read good takes = tt

@@ -1,4 +1,4 @@
--- A line in three parts: the head, the mask, data and corrupt; once for the form of every channel.
+-- A line in three parts: the head, the mask, data and corrupt. Stated once for the form of every channel.
 use Rattle.tl_trace.proofs.Names.{◌≡◌, ℕ, ◌+◌, ◌*◌, ◌^◌, ◌<◌, ◌≤◌, Bool, true, false, cond, not, nat_eq, nat_lt, ◌&&◌, ◌||◌, List, [], ◌∷◌, ◌++◌}
 use Rattle.tl_trace.proofs.Names.{length, map, Option, Some, is_none, refl, sym, ap, ◌∙◌, arith, bit_or, length-append, lt-ltb, ltb-true, and_parts}
 use Rattle.tl_trace.proofs.Names.{and_from, or_left, or_right, map-append, length-map, list_any-append, pow_pos, list_all, list_any, BeatOf, Field}
@@ -57,9 +57,9 @@ pub and_field : (w : ℕ) (text : List ℕ) (at next : ℕ) (xs : List Field) (u
 and_field w text at next xs us bad field v bad' there p n =
     both_parts w text at next xs (field ∷ []) us (v ∷ []) bad bad' there p (number_part w text next field v bad' n)
 
--- ---- the mask, and data and corrupt, where the channel has them
+-- ---- the mask, and data and corrupt, on channels that have them
 
--- no mask, and no value of it, where the channel has none
+-- no mask, and no value of it, on a channel without masks
 pub no_mask_part : (w : ℕ) (text : List ℕ) (at m : ℕ) (t : Bool) → t ≡ false → IsPart w text at (fields_of_mask t) (mask_values t m) 0
 no_mask_part w text at m t none = rw none (no_part w text at)
 
@@ -72,7 +72,7 @@ pub mask_room : (w at count n : ℕ) (t : Bool) → t ≡ true → count ≡ (w 
 mask_room w at count n true has same room = omega arith
 mask_room w at count n false has same room = absurd cc
 
--- no data, and none of their values, where the channel has none
+-- no data and no corrupt, and no values of them, on a channel without data
 pub no_data : (w : ℕ) (text : List ℕ) (at d c bad : ℕ) (fs : List Field) (vs : List ℕ) (t : Bool) → t ≡ false → IsPart w text at fs vs bad
     → IsPart w text at (fs ++ fields_of_data t) (vs ++ data_values t d c) bad
 no_data w text at d c bad fs vs true none p = absurd cc
@@ -93,7 +93,7 @@ data_part w text at d c bad bad' true e lanes bits =
     there = omega arith
 data_part w text at d c bad bad' false e lanes bits = absurd cc
 
--- where the fields of the mask end
+-- the length of the mask's fields
 pub mask_size_of : (w : ℕ) (t : Bool) → length_of w (fields_of_mask t) ≡ mask_length t w
 mask_size_of w true = omega arith
 mask_size_of w false = refl
@@ -188,7 +188,7 @@ module _ {H : Type 0} (f : Form H) where
       let datas = data_long w has_data has_datas in
       omega (arith, parts, masks, datas, first, long)
 
-  -- what was read behind a head, by the rules of the channel
+  -- the part of a line after its head, as it was read, by the rules of the channel
   pub rest_of : (masked has_data : Bool) {n w at : ℕ} {text before after : List ℕ} {r : Rest} → f.rules.masked ≡ masked
       → f.rules.corrupts ≡ has_data → IsRest masked has_data n w text at before after r
       → IsRest f.rules.masked f.rules.corrupts n w text at before after r
@@ -250,7 +250,7 @@ module _ {H : Type 0} (f : Form H) where
   data_test w d c true none small = rw (lt-ltb d (256 ^ w) small) (and-true (nat_lt c 2))
   data_test w d c false none small = sym (lt-ltb c 2 (let zero = none refl in omega (arith, zero)))
 
-  -- a line is in range where its head, its mask and corrupt are
+  -- a line is in range if its head, its mask and corrupt are
   pub line_range : (w : ℕ) (r : HeadFields) (m d c : ℕ) → list_all is_head_field f.head_fields ≡ true → (f.rules.masked ≡ false → m ≡ 0)
       → (f.rules.corrupts ≡ false → c ≡ 0) → d < 256 ^ w
       → below f w (fields f) (line_values r m d c) ≡ (is_head_in_range f r && nat_lt m (2 ^ w)) && nat_lt c 2
@@ -310,7 +310,7 @@ module _ {H : Type 0} (f : Form H) where
   pub no_head : (r : HeadFields) (m c : Bool) → is_head_in_range f r ≡ false → (is_head_in_range f r && m) && c ≡ false
   no_head r m c none = rw none refl
 
-  -- a line of its channel's length was read: its head, and what stands behind it
+  -- a line with the length of its channel was read: its head, and the part after it
   pub record WasRead (n w digits : ℕ) (text : List ℕ) (r : HeadFields) (at : ℕ) (before lanes : List ℕ) (rest : Rest) : Type 0 where
     pub heads : list_all is_head_field f.head_fields ≡ true
     pub long : length text ≡ line_length f w

@@ -1,4 +1,4 @@
--- The lines of beats, each behind a head that another line may have, too.
+-- The lines of beats, each after a head that another line may also have.
 use Rattle.tl_trace.proofs.Names.{◌≡◌, ◌≤◌, ◌<◌, ◌+◌, ◌++◌, ℕ, Bool, true, false, not, Result, Ok, Err, List, [], ◌∷◌, length, take, get_or, refl}
 use Rattle.tl_trace.proofs.Names.{sym, ap, ◌∙◌, arith, append_assoc, append-nil, length-append, is_err, OnOk, OnErr, flat_map, false≢true}
 use Rattle.tl_trace.proofs.Names.{flat_map-append, take-take, take_more, take_all, take-append-le, length-take-le, BeatOf, Field, Form, digit_count}
@@ -25,11 +25,11 @@ head_long {H} f h = let more = long f.head_fields in omega (arith, more)
 pub head_end : {H : Type 0} (f : Form H) (h : H) (line : List ℕ) (end : ℕ) → end ≤ length line → take end line ≡ head_text f h → end ≡ head_length f
 head_end f h line end within is = sym (length-take-le end line within) ∙ ap length is ∙ head_long f h
 
--- the front of a line that is cut behind its rest
+-- the beginning of a line that is cut after its rest
 pub front : (at rest : ℕ) (line : List ℕ) → take at (take (at + rest + 1) line) ≡ take at line
 front at rest line = take-take at (at + rest + 1) line (omega arith)
 
--- where it was appended
+-- the position where it was appended
 pub put_place : (s old cut : List ℕ) (start : ℕ) → s ≡ old ++ cut → start ≡ length old → start ≤ length s
 put_place s old cut start same here = omega (arith, ap length same, length-append old cut, here)
 
@@ -49,7 +49,7 @@ put_behind s old cut new rest start at end same here size past is =
     sym (take_all end new (omega (arith, size, ap length mid, past))) ∙ is ∙ ap (λ x. take at x ++ rest) mid in
     ap (λ x. x ++ (new ++ drop n (drop start s))) before ∙ ap (λ x. old ++ (new ++ x)) after ∙ ap (λ x. old ++ x) (append-nil new ∙ whole)
 
--- another head ends where the one before it did
+-- another head ends at the same position as the one before it
 pub other_head : {H : Type 0} (f : Form H) (h next : H) (line new : List ℕ) (at end : ℕ) → at ≤ length line → take at line ≡ head_text f h
     → end ≤ length new → take end new ≡ head_text f next → take at new ≡ head_text f next
 other_head f h next line new at end within is within' is' =
@@ -61,7 +61,7 @@ not_other true e = refl
 not_other false e = absurd (false≢true e)
 
 module _ {H : Type 0} (f : Form H) {n : ℕ} (w : ℕ) where
-  -- a line is its head, and what stands behind it
+  -- a line is its head, and the part after it
   pub line_is : (b : BeatOf H n) (front line : List ℕ) (masked has_data : Bool) → f.rules.masked ≡ masked → f.rules.corrupts ≡ has_data
       → flat_map (λ field. 32 ∷ hex (digit_count w field) (value_of f b field)) f.head_fields ≡
       flat_map (λ field. 32 ∷ hex (digit_count 0 field) (f.value b.head field)) f.head_fields
@@ -73,7 +73,7 @@ module _ {H : Type 0} (f : Form H) {n : ℕ} (w : ℕ) where
       ∙ sym (append_assoc (head_text f b.head) (masks ++ datas) newline)
       ∙ ap (λ xs. xs ++ newline) (sym (append_assoc (head_text f b.head) masks datas) ∙ line_parts f w b masked has_data has_mask has_datas narrow)
 
-  -- lines are appended, behind what stood there
+  -- lines are appended to the earlier contents
   pub record Appended (old : List ℕ) (beats : List (BeatOf H n)) (start : ℕ) (out : List ℕ) : Type 0 where
     pub long : start ≤ length out
     pub front : take start out ≡ old
@@ -86,7 +86,7 @@ module _ {H : Type 0} (f : Form H) {n : ℕ} (w : ℕ) where
     made = same ∙ sym (append-nil old);
   }
 
-  -- of no beats no line
+  -- no beats, no lines
   pub none_written : (old : List ℕ) (beats : List (BeatOf H n)) → length beats ≤ 0 → old ≡ old ++ beats_text f w beats
   none_written old [] none = sym (append-nil old)
   none_written old (b ∷ bs) none = absurd (omega (arith, none))
@@ -111,17 +111,17 @@ module _ {H : Type 0} (f : Form H) {n : ℕ} (w : ℕ) where
       → out ≡ old ++ beats_text f w beats
   appended_all old out beats start i past before = before.made ∙ ap (λ bs. old ++ beats_text f w bs) (take_all i beats past)
 
-  -- what stood there before all lines
+  -- the contents before all lines
   pub appended_front : (old out new : List ℕ) (beats : List (BeatOf H n)) (start : ℕ) → new ≡ out → Appended old beats start out
       → take start new ≡ old
   appended_front old out new beats start same before = ap (take start) same ∙ before.front
 
--- what a call promises where it answers no fault
+-- the promise of a call that returned no error
 pub of_ok : {E P : Type 0} (r : Result (Unit {0}) E) → is_err r ≡ false → OnOk r P → P
 of_ok (Ok x) fine p = p
 of_ok (Err e) fine p = absurd (false≢true (sym fine))
 
--- and where it answers one
+-- and of a call that returned an error
 pub of_err : {E P : Type 0} (r : Result (Unit {0}) E) → is_err r ≡ true → OnErr r P → P
 of_err (Ok x) bad p = absurd (false≢true bad)
 of_err (Err e) bad p = p

@@ -41,7 +41,7 @@ a_part old new text m has is = is ∙ ap (λ (t : Bool). old ++ (if t then text 
 pub no_part : (old text : List ℕ) (m : Bool) → m ≡ false → old ≡ old ++ (if m then text else [])
 no_part old text m none = sym (append-nil old) ∙ ap (λ (t : Bool). old ++ (if t then text else [])) (sym none)
 
--- where it ends
+-- the position where it ends
 pub a_part_end : (end at long : ℕ) (m : Bool) → m ≡ true → end ≡ at + long → end ≡ at + (if m then long else 0)
 a_part_end end at long m has is = is ∙ ap (λ (t : Bool). at + (if t then long else 0)) (sym has)
 
@@ -54,7 +54,7 @@ no_part_end at long m none =
 pub part_room : (at long room : ℕ) (m : Bool) → m ≡ true → at + (if m then long else 0) ≤ room → at + long ≤ room
 part_room at long room m has fits = subst (λ (t : Bool). at + (if t then long else 0) ≤ room) has fits
 
--- a field of so many digits, behind a space
+-- a field of `count` digits, after a space
 pub field_end : (end at count digits : ℕ) → count ≡ digits → end ≡ at + 1 + count → end ≡ at + (1 + digits)
 field_end end at count digits same is = omega arith
 
@@ -66,7 +66,7 @@ pub regrouped : (a b c d : List ℕ) → (((a ++ b) ++ c) ++ 32 ∷ []) ++ d ≡
 regrouped a b c d =
     append_assoc ((a ++ b) ++ c) (32 ∷ []) d ∙ ap (λ (xs : List ℕ). xs ++ 32 ∷ d) (append_assoc a b c) ∙ append_assoc a (b ++ c) (32 ∷ d)
 
--- the same where each piece was put behind those before it
+-- the same if each piece was appended to those before it
 pub four_put : (a b c d e t1 t2 t3 t4 : List ℕ) → t1 ≡ a ++ b → t2 ≡ t1 ++ c → t3 ≡ t2 ++ 32 ∷ [] → e ≡ d → t4 ≡ t3 ++ e
     → t4 ≡ a ++ ((b ++ c) ++ 32 ∷ d)
 four_put a b c d e t1 t2 t3 t4 first second space same last =
@@ -74,12 +74,12 @@ four_put a b c d e t1 t2 t3 t4 first second space same last =
     ap (λ (xs : List ℕ). xs ++ d) (space ∙ ap (λ (xs : List ℕ). xs ++ 32 ∷ []) (second ∙ ap (λ (xs : List ℕ). xs ++ c) first))
     ∙ regrouped a b c d
 
--- a word, a number, a space and what follows it
+-- a word, a number, a space and the text after it
 pub spaced : (before word number rest text : List ℕ) → text ≡ before ++ ((word ++ number) ++ 32 ∷ rest)
     → text ≡ before ++ (((word ++ number) ++ 32 ∷ []) ++ rest)
 spaced before word number rest text is = is ∙ ap (λ (xs : List ℕ). before ++ xs) (sym (append_assoc (word ++ number) (32 ∷ []) rest))
 
--- corrupt behind the lanes
+-- corrupt after the lanes
 pub data_put : (before lanes : List ℕ) (v c : ℕ) (t1 t2 : List ℕ) → v ≡ c → t1 ≡ before ++ lanes → t2 ≡ t1 ++ 32 ∷ hex 1 v
     → t2 ≡ before ++ (lanes ++ 32 ∷ hex 1 c)
 data_put before lanes v c t1 t2 same first second =

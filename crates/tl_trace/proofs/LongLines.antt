@@ -1,4 +1,4 @@
--- A line that is too long has its fault by its letter alone, whatever follows in it.
+-- A line that is too long has the fault of its letter, whatever else it contains.
 use Rattle.tl_trace.proofs.Names.{◌≡◌, ℕ, ◌<◌, ◌≤◌, Bool, true, false, List, [], ◌∷◌, ◌++◌, length, Option, Some, refl, sym, ap, ◌∙◌, arith}
 use Rattle.tl_trace.proofs.Names.{length-append, cond, ◌==◌, if◌then◌else◌, list_any, slice_index, eqb-true, or_parts, WIDEST, unless, ◌or_else◌}
 use Rattle.tl_trace.proofs.Names.{Form, id_digits, form_a, form_b, form_c, form_d, form_e, line_length, is_shaped, is_in_range, SaysLine, is_newline}
@@ -15,7 +15,7 @@ short : (version w : ℕ) → w ≤ WIDEST
     × (line_length (form_d version) w < LONGEST_LINE) × (line_length (form_e version) w < LONGEST_LINE)
 short version w le = let few = ids_few version in (omega arith, omega arith, omega arith, omega arith, omega arith)
 
--- a line that says a beat is not too long
+-- the line of a beat is not too long
 pub says_short : (version client manager : ℕ) (line : Line) (text : List ℕ) → client ≤ WIDEST → manager ≤ WIDEST
     → SaysLine version client manager line text → length text < LONGEST_LINE
 says_short version client manager (A b) text c m says = let short = (short version client c).0 in omega (arith, says.long)

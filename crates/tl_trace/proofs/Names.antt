@@ -1,4 +1,4 @@
--- What the proofs of this crate name most, of the library and of the definitions, passed on by one module.
+-- The names that the proofs of this crate use most, from the library and from the definitions, re-exported by one module.
 pub use Rattle.std.proofs.Common.{ℕ, ◌+◌, ◌*◌, ◌≤◌, ◌<◌, arith, ◌≡◌, ◌≢◌, zero, suc, ◌-◌, Bool, true, false, nat_eq, ◌||◌, List, [], ◌∷◌, ◌++◌}
 pub use Rattle.std.proofs.Common.{length, get_or, drop, refl, sym, ap, ◌∙◌, drop-cons, append_assoc, append-nil, add-one, eq-eqb, ◌/◌, ◌%◌, ◌^◌}
 pub use Rattle.std.proofs.Common.{length-append, cond, ◌&&◌, map, replicate, Option, None, Some, is_none, take, subst, set, nat_lt, not, bit_or, ◌⊎◌}
@@ -47,8 +47,8 @@ pub use Rattle.tl_trace.specs.Inner.Reading.{IsPieceRead, IsSameScript, IsPushed
 unfoldable pub use Rattle.tl_trace.specs.Inner.Reading.{number_of, field_at}
 pub use Rattle.tl_trace.specs.Lines.{FieldPlace, places_from, places, is_hex, digits_at, is_shaped_at, IsLine, hex, is_kept, is_lanes, is_plain}
 pub use Rattle.tl_trace.specs.Lines.{head_text, line_text, beats_text, is_shaped, is_in_range, is_writable, value_at}
-pub use Rattle.tl_trace.specs.Scripts.{HasBeats, on_lanes, beat_of_a, beat_of_b, beat_of_c, beat_of_d, beat_of_e, Gone, GoesOn, HasGrown, IsScriptOf}
-pub use Rattle.tl_trace.specs.Scripts.{TellsScript, IsHeaderLine, HasLetGo, HasRead, HasReadPast, IsUnfinished, more_gone, IsRestOf}
+pub use Rattle.tl_trace.specs.Scripts.{HasBeats, on_lanes, beat_of_a, beat_of_b, beat_of_c, beat_of_d, beat_of_e, Discarded, GoesOn, HasGrown, IsScriptOf}
+pub use Rattle.tl_trace.specs.Scripts.{TellsScript, IsHeaderLine, HasRemoved, HasRead, HasReadPast, IsUnfinished, more_discarded, IsRestOf}
 pub use Rattle.tl_trace.specs.Scripts.{none_gone}
 pub use Rattle.tl_trace.specs.Texts.{SaysLine, versions, widths, is_version, is_width, newline, header_text, is_kept_line, TellsLines, Tells}
 pub use Rattle.tl_trace.specs.Texts.{widest_power, IsTrace, text_of_line, lines_text, trace_text}
@@ -61,4 +61,4 @@ pub use Rattle.tl_trace.specs.declared.line.Line.{Line}
 pub use Rattle.tl_trace.specs.declared.line.Line.TheVariants.{A, B, C, D, E}
 pub use Rattle.tl_trace.specs.declared.places.TheConstants.{LONGEST_LINE}
 pub use Rattle.tl_trace.specs.declared.script.Script.{Script}
-pub use Rattle.tl_trace.specs.declared.script_reader.PushedLines.{PushedLines}
+pub use Rattle.tl_trace.specs.declared.script_reader.ParsedLines.{ParsedLines}

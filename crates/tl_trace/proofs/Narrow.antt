@@ -74,7 +74,7 @@ same_beat {H} f w text b r =
     let narrow : List ℕ → BeatOf H w = λ ls. record { head = b.head; mask = b.mask; lanes = ls; corrupt = b.corrupt } in
     sym (ap narrow (narrowed f w text b r))
 
--- the line of a narrow beat says it, with zeros on the lanes past its own
+-- the line of a narrow beat is the line of the same beat with zeros on the lanes above its own
 pub near_a : (v c m : ℕ) (text : List ℕ) (b : BeatOf HeadA c) → c ≤ WIDEST → IsRead (form_a v) c text b
     → IsReadLine v c m text (A (wide b)) × (Some b ≡ beat_of_a c (A (wide b)))
 near_a v c m text b le r = (read_as_a v c m text (wide b) (widened (form_a v) c text b le r), ap Some (same_beat (form_a v) c text b r))

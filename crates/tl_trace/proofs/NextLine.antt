@@ -1,9 +1,9 @@
--- The beat of a line, put behind those of its channel.
+-- The beat of a line, appended to those of its channel.
 use Rattle.tl_trace.proofs.Names.{◌≡◌, ◌≤◌, ◌<◌, ◌+◌, ◌-◌, arith, ℕ, zero, suc, length, take, drop, drop-cons, true, false, cond, List, [], ◌++◌}
 use Rattle.tl_trace.proofs.Names.{Option, Some, Result, Ok, Err, sym, ap, ◌∙◌, ◌∷◌, append-nil, slice_index, is_ok, is_err}
 use Rattle.tl_trace.proofs.Names.{slice_range, option_to_list, form_a, form_b, form_c, form_d, form_e, Form, IsLinePushed, IsNextPushed, IsSameScript}
 use Rattle.tl_trace.proofs.Names.{IsPushed, IsReadLine, Script, WIDEST, Line, BeatOf, HeadA, HeadB, HeadC, HeadD, HeadE, Vec, refl, subst}
-use Rattle.tl_trace.proofs.Names.{IsSameAt, PushedLines, ArePushed, AreLinesPushed, AreBehind, AreNextPushed}
+use Rattle.tl_trace.proofs.Names.{IsSameAt, ParsedLines, ArePushed, AreLinesPushed, AreBehind, AreNextPushed}
 use Rattle.tl_trace.proofs.Names.{head_length, HasHead}
 use Rattle.std.proofs.Common.{Global}
 use Rattle.tl_trace.specs.Inner.Reading.{CanPush}
@@ -11,22 +11,22 @@ use Rattle.tl_trace.proofs.KnownHeads.{head_there}
 use Rattle.tl_trace.specs.declared.line.Line.TheVariants as lines
 use Rattle.tl_trace.proofs.Narrow.{wide, near_a, near_b, near_c, near_d, near_e}
 
--- what a growth gives that is not refused
+-- the list after an allocation that succeeded
 pub was_put : {A E X : Type 0} (r : Result A E) (now put before : X) → is_err r ≡ false → now ≡ cond (is_ok r) put before → now ≡ put
 was_put (Ok v) now put before went is = is
 was_put (Err x) now put before went is = absurd cc
 
--- and what one that is refused leaves
+-- and after one that failed
 pub was_kept : {A E X : Type 0} (r : Result A E) (now put before : X) → is_err r ≡ true → now ≡ cond (is_ok r) put before → now ≡ before
 was_kept (Ok v) now put before went is = absurd cc
 was_kept (Err x) now put before went is = is
 
--- the places of a line that begins at one and has a head and so many bytes behind it
+-- the positions of a line that begins at `at` and has a head and `rest` bytes after it
 pub line_places : (at rest_at head rest n : ℕ) → rest_at ≡ 1 + head → rest_at + rest < n - at →
     (1 ≤ rest_at + rest) × (1 + head ≤ rest_at + rest) × (at + (rest_at + rest) ≤ n) × (at < at + (rest_at + rest)) × (at + (rest_at + rest) < n)
 line_places at rest_at head rest n some less = (omega arith, omega arith, omega arith, omega arith, omega arith)
 
--- what stands behind a head is within its line
+-- the part after a head is within its line
 pub rest_room : (at m d r n : ℕ) → r ≡ m + d → n ≡ at + r → at + (m + d) ≤ n
 rest_room at m d r n parts long = omega arith
 
@@ -38,7 +38,7 @@ first_in text at (suc long) some less =
     let size : (at + suc long) - at ≡ suc long = omega arith in
     ap (λ (n : ℕ). slice_index (take n (drop at text)) 0) size ∙ ap (λ (xs : List ℕ). slice_index (take (suc long) xs) 0) (drop-cons text at 0 less)
 
--- two places from which the same bytes stand have the same first one
+-- two positions with the same bytes have the same first byte
 pub same_first : (text : List ℕ) (at before n : ℕ) → 1 ≤ n → before < length text → IsSameAt text at before n
     → slice_index text at ≡ slice_index text before
 same_first text at before n some less is =
@@ -84,7 +84,7 @@ module _ {H Z : Type 0} (f : Form H) (w : ℕ) (text : List ℕ) (at : ℕ) (bef
       (p.0, p.1, p.2, subst (λ (xs : List (BeatOf H w)). IsLinePushed f w text p.1 p.0.items xs end) (sym same) p.3, p.4)
 
   -- a list that stays has no line more
-  pub none_more : (lines : PushedLines) → after.items ≡ now.items → AreLinesPushed f w text at before now lines
+  pub none_more : (lines : ParsedLines) → after.items ≡ now.items → AreLinesPushed f w text at before now lines
       → AreLinesPushed f w text at before after lines
   none_more lines same far = record { ends = far.ends; count = far.count; few = far.few; pushed = same_put far.ends lines.place same far.pushed }
 
@@ -168,7 +168,7 @@ module _ {C M : ℕ} (version : ℕ) (text : List ℕ) (at : ℕ) where
   behind_a s v (end ∷ ends) place few p =
       (with_a s p.0, p.1, behind_a s p.0 ends p.1 few p.2, next_a version text p.1 s p.0 v end few p.3, p.4)
 
-  pub lines_a : (s : Script C M) (v : Vec (BeatOf HeadA C) Global) (lines : PushedLines) → C ≤ WIDEST
+  pub lines_a : (s : Script C M) (v : Vec (BeatOf HeadA C) Global) (lines : ParsedLines) → C ≤ WIDEST
       → AreLinesPushed (form_a version) C text at s.a v lines → AreNextPushed version text at s (with_a s v) lines
   lines_a s v lines few far =
       record { ends = far.ends; count = far.count; few = far.few; pushed = behind_a s v far.ends lines.place few far.pushed }
@@ -180,7 +180,7 @@ module _ {C M : ℕ} (version : ℕ) (text : List ℕ) (at : ℕ) where
   behind_b s v (end ∷ ends) place few p =
       (with_b s p.0, p.1, behind_b s p.0 ends p.1 few p.2, next_b version text p.1 s p.0 v end few p.3, p.4)
 
-  pub lines_b : (s : Script C M) (v : Vec (BeatOf HeadB M) Global) (lines : PushedLines) → M ≤ WIDEST
+  pub lines_b : (s : Script C M) (v : Vec (BeatOf HeadB M) Global) (lines : ParsedLines) → M ≤ WIDEST
       → AreLinesPushed (form_b version) M text at s.b v lines → AreNextPushed version text at s (with_b s v) lines
   lines_b s v lines few far =
       record { ends = far.ends; count = far.count; few = far.few; pushed = behind_b s v far.ends lines.place few far.pushed }
@@ -192,7 +192,7 @@ module _ {C M : ℕ} (version : ℕ) (text : List ℕ) (at : ℕ) where
   behind_c s v (end ∷ ends) place few p =
       (with_c s p.0, p.1, behind_c s p.0 ends p.1 few p.2, next_c version text p.1 s p.0 v end few p.3, p.4)
 
-  pub lines_c : (s : Script C M) (v : Vec (BeatOf HeadC C) Global) (lines : PushedLines) → C ≤ WIDEST
+  pub lines_c : (s : Script C M) (v : Vec (BeatOf HeadC C) Global) (lines : ParsedLines) → C ≤ WIDEST
       → AreLinesPushed (form_c version) C text at s.c v lines → AreNextPushed version text at s (with_c s v) lines
   lines_c s v lines few far =
       record { ends = far.ends; count = far.count; few = far.few; pushed = behind_c s v far.ends lines.place few far.pushed }
@@ -204,7 +204,7 @@ module _ {C M : ℕ} (version : ℕ) (text : List ℕ) (at : ℕ) where
   behind_d s v (end ∷ ends) place few p =
       (with_d s p.0, p.1, behind_d s p.0 ends p.1 few p.2, next_d version text p.1 s p.0 v end few p.3, p.4)
 
-  pub lines_d : (s : Script C M) (v : Vec (BeatOf HeadD M) Global) (lines : PushedLines) → M ≤ WIDEST
+  pub lines_d : (s : Script C M) (v : Vec (BeatOf HeadD M) Global) (lines : ParsedLines) → M ≤ WIDEST
       → AreLinesPushed (form_d version) M text at s.d v lines → AreNextPushed version text at s (with_d s v) lines
   lines_d s v lines few far =
       record { ends = far.ends; count = far.count; few = far.few; pushed = behind_d s v far.ends lines.place few far.pushed }
@@ -216,15 +216,15 @@ module _ {C M : ℕ} (version : ℕ) (text : List ℕ) (at : ℕ) where
   behind_e s v (end ∷ ends) place few p =
       (with_e s p.0, p.1, behind_e s p.0 ends p.1 few p.2, next_e version text p.1 s p.0 v end few p.3, p.4)
 
-  pub lines_e : (s : Script C M) (v : Vec (BeatOf HeadE C) Global) (lines : PushedLines) → C ≤ WIDEST
+  pub lines_e : (s : Script C M) (v : Vec (BeatOf HeadE C) Global) (lines : ParsedLines) → C ≤ WIDEST
       → AreLinesPushed (form_e version) C text at s.e v lines → AreNextPushed version text at s (with_e s v) lines
   lines_e s v lines few far =
       record { ends = far.ends; count = far.count; few = far.few; pushed = behind_e s v far.ends lines.place few far.pushed }
 
-  -- where no line was put
+  -- no line was appended
   none_put : (s s' : Script C M) (ends : List ℕ) (place : ℕ) → length ends ≤ 0 → AreBehind version text at s s' ends place → IsSameScript s s'
   none_put s s' [] place none p = p.0
   none_put s s' (end ∷ ends) place none p = absurd (omega (arith, none))
 
-  pub no_lines : (s s' : Script C M) (lines : PushedLines) → lines.count ≤ 0 → AreNextPushed version text at s s' lines → IsSameScript s s'
+  pub no_lines : (s s' : Script C M) (lines : ParsedLines) → lines.count ≤ 0 → AreNextPushed version text at s s' lines → IsSameScript s s'
   no_lines s s' lines none far = none_put s s' far.ends lines.place (omega (arith, none, far.count)) far.pushed

@@ -1,4 +1,4 @@
--- No text tells two traces.
+-- No text is the text of two traces.
 use Rattle.tl_trace.proofs.Names.{◌≡◌, ◌≤◌, ℕ, zero, suc, Bool, true, false, not, nat_eq, nat_le, nat_lt, ◌&&◌, ◌||◌, List, [], ◌∷◌, ◌++◌, length}
 use Rattle.tl_trace.proofs.Names.{map, refl, sym, ap, ◌∙◌, arith, append_assoc, eq-eqb, subst, get_or, decimal, codes, ◌==◌, eqb-true, leb-true}
 use Rattle.tl_trace.proofs.Names.{ltb-true, not-true, and_parts, or_parts, decimal_is_IsNumeral, list_all, list_any, digits_value, BeatOf, HeadA}
@@ -90,7 +90,7 @@ pub record SameHeader (version client manager version' client' manager' : ℕ) (
 flat : (a b c d e f g : List ℕ) → (a ++ b ++ c ++ d ++ e ++ f) ++ newline ++ g ≡ a ++ (b ++ (c ++ (d ++ (e ++ (f ++ 10 ∷ g)))))
 flat a b c d e f g = simp append_assoc
 
--- what stands behind the version, and behind the client's width
+-- the text after the version, and after the client's width
 abbrev behind_version : (client manager : ℕ) → List ℕ → List ℕ
 behind_version client manager rest = decimal client ++ (codes " manager " ++ (decimal manager ++ 10 ∷ rest))
 
@@ -160,7 +160,7 @@ bit_same true false e = absurd (omega arith)
 bit_same false true e = absurd (omega arith)
 bit_same false false e = refl
 
--- what the first values of a line say of a head
+-- the head with the first values of a line
 abbrev head_a : List ℕ → HeadA
 head_a vs = record { opcode = get_or vs 0 0; param = get_or vs 1 0; size = get_or vs 2 0; source = get_or vs 3 0; address = get_or vs 4 0 }
 

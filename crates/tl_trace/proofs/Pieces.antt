@@ -1,10 +1,10 @@
--- Reading a text piece by piece: what has been read, and one line more.
+-- Reading a text incrementally: the part that was read, and one line more.
 use Rattle.tl_trace.proofs.Names.{◌≡◌, ℕ, ◌+◌, ◌-◌, ◌<◌, ◌≤◌, true, ◌&&◌, List, [], ◌∷◌, ◌++◌, length, map, take, drop, replicate, Option, Some, None}
 use Rattle.tl_trace.proofs.Names.{IsPieceRead, OutOfMemory, Result, Ok, Err, ◌≢◌, refl, sym, ap, ◌∙◌, arith, subst, append_assoc, append-nil}
 use Rattle.tl_trace.proofs.Names.{length-append, take-append-drop, length-drop, inl, inr, cases_eq, and_from, list_all-append, list_all, list_any}
-use Rattle.tl_trace.proofs.Names.{slice_range, WIDEST, newline, header_text, is_kept_line, Gone, GoesOn, HasGrown, IsScriptOf, TellsScript}
-use Rattle.tl_trace.proofs.Names.{IsHeaderLine, HasLetGo, HasRead, HasReadPast, IsUnfinished, more_gone, is_newline, cut, body, body_fault}
-use Rattle.tl_trace.proofs.Names.{AreBehind, AreNextPushed, PushedLines, later_fault, header_of, faults, HasHeader, IsFirstFault, IsReadableTo}
+use Rattle.tl_trace.proofs.Names.{slice_range, WIDEST, newline, header_text, is_kept_line, Discarded, GoesOn, HasGrown, IsScriptOf, TellsScript}
+use Rattle.tl_trace.proofs.Names.{IsHeaderLine, HasRemoved, HasRead, HasReadPast, IsUnfinished, more_discarded, is_newline, cut, body, body_fault}
+use Rattle.tl_trace.proofs.Names.{AreBehind, AreNextPushed, ParsedLines, later_fault, header_of, faults, HasHeader, IsFirstFault, IsReadableTo}
 use Rattle.tl_trace.proofs.Names.{IsPushed, IsReadLine, IsNextPushed}
 use Rattle.tl_trace.proofs.Names.{IsSameScript, IsFaultyAt, IsReadableAt, LineAt, TraceKind, Line, LONGEST_LINE, Script, drop_all}
 use Rattle.tl_trace.specs.declared.fault.TraceFault.{TraceFault}
@@ -19,13 +19,13 @@ use Rattle.tl_trace.proofs.Walk.{free_line, split_line, last_line, later_line, c
 
 -- ---- the part of a text that was read
 
--- its lines have no fault, whatever comes behind them
-pub read_faults : {C M : ℕ} (version : ℕ) (done more : List ℕ) (gone : Gone C M) (s : Script C M) (line : ℕ) → HasReadPast version done gone s line
+-- its lines have no fault, whatever comes after them
+pub read_faults : {C M : ℕ} (version : ℕ) (done more : List ℕ) (discarded : Discarded C M) (s : Script C M) (line : ℕ) → HasReadPast version done discarded s line
     → faults (done ++ more) ≡ replicate line None ++ map (later_fault version C M) (cut more)
-read_faults {C} {M} version done more gone s line r =
+read_faults {C} {M} version done more discarded s line r =
     text_faults done more version C M r.lines r.told ∙ ap (λ (n : ℕ). replicate n None ++ map (later_fault version C M) (cut more)) (sym r.place)
 
--- the header's line alone
+-- only the header line
 pub begun : {C M : ℕ} (version : ℕ) (text : List ℕ) (s : Script C M) → IsScriptOf [] s → IsHeaderLine text version C M → HasRead version text s 1
 begun {C} {M} version text s none line =
     let all = known (body text) (header version C M) line.named in
@@ -43,10 +43,10 @@ begun {C} {M} version text s none line =
     }
 
 -- a line more
-pub read_more : {C M : ℕ} (version : ℕ) (done b : List ℕ) (gone : Gone C M) (s s' : Script C M) (line : ℕ) (beat : Line)
-    → HasReadPast version done gone s line → IsReadLine version C M b beat → IsPushed beat s s'
-    → HasReadPast version (done ++ b ++ newline) gone s' (line + 1)
-read_more {C} {M} version done b gone s s' line beat r read put =
+pub read_more : {C M : ℕ} (version : ℕ) (done b : List ℕ) (discarded : Discarded C M) (s s' : Script C M) (line : ℕ) (beat : Line)
+    → HasReadPast version done discarded s line → IsReadLine version C M b beat → IsPushed beat s s'
+    → HasReadPast version (done ++ b ++ newline) discarded s' (line + 1)
+read_more {C} {M} version done b discarded s s' line beat r read put =
     let kept_line = is_kept_line version C M in
     record {
       lines = r.lines ++ beat ∷ [];
@@ -64,20 +64,20 @@ read_more {C} {M} version done b gone s s' line beat r read put =
             ∙ append_assoc (header_text version C M ++ newline) (r.told.rest ++ b) newline;
         told = told_more version C M r.lines beat r.told.rest b r.told.told read.says;
       };
-      script = pushed_past r.lines beat gone s s' r.script put;
+      script = pushed_past r.lines beat discarded s s' r.script put;
       place = let sum = length-append r.lines (beat ∷ []) in omega (arith, r.place);
     }
 
 -- ---- a line of a piece
 
--- what is left where the piece ends within a line
+-- the bytes that are left if the piece ends within a line
 pub left : (piece : List ℕ) (at end : ℕ) → LineAt piece at end → end ≡ length piece → end - at < LONGEST_LINE → IsUnfinished (drop at piece)
 left piece at end l e few = record {
   free = ap (list_any is_newline) (last_line piece at end l e) ∙ free_line piece at end l;
   short = let long = length-drop at piece in omega arith;
 }
 
--- a line that says a beat and is not left ends in the piece
+-- a line of a beat that is not left ends in the piece
 pub ends_inside : (version client manager : ℕ) (piece : List ℕ) (at end : ℕ) (beat : Line) → client ≤ WIDEST → manager ≤ WIDEST → LineAt piece at end
     → (end ≡ length piece → LONGEST_LINE ≤ end - at)
     → IsReadLine version client manager (slice_range piece at end) beat → end < length piece
@@ -107,12 +107,12 @@ all-same s s' same = record {
   e = kept s.e.items s.e.items s'.e.items ([], sym (append-nil s.e.items)) same.e;
 }
 
--- what has been read of a piece, where the script and the line were these before it
+-- the part of a piece that was read, from this script and this line number on
 pub record Walked {C M : ℕ} (version : ℕ) (piece : List ℕ) (first : Script C M) (line : ℕ) (s : Script C M) (at before : ℕ) : Type 0 where
   pub within : at ≤ length piece
   pub few : before ≤ line + at
   pub grown : HasGrown first s
-  pub read : (done : List ℕ) (gone : Gone C M) → HasReadPast version done gone first line → HasReadPast version (done ++ take at piece) gone s before
+  pub read : (done : List ℕ) (discarded : Discarded C M) → HasReadPast version done discarded first line → HasReadPast version (done ++ take at piece) discarded s before
 
 module _ {C M : ℕ} (version : ℕ) (piece : List ℕ) (first : Script C M) (line : ℕ) where
   pub starts : Walked version piece first line first 0 line
@@ -120,7 +120,7 @@ module _ {C M : ℕ} (version : ℕ) (piece : List ℕ) (first : Script C M) (li
     within = omega arith;
     few = omega arith;
     grown = all-same first first (record { a = refl; b = refl; c = refl; d = refl; e = refl });
-    read = λ done gone r. subst (λ text. HasReadPast version text gone first line) (sym (append-nil done)) r;
+    read = λ done discarded r. subst (λ text. HasReadPast version text discarded first line) (sym (append-nil done)) r;
   }
 
   to_end : (at end : ℕ) → LineAt piece at end → end < length piece → take (end + 1) piece ≡ take at piece ++ slice_range piece at end ++ newline
@@ -143,12 +143,12 @@ module _ {C M : ℕ} (version : ℕ) (piece : List ℕ) (first : Script C M) (li
       d = longer first.d.items s.d.items s'.d.items _ w.grown.d put.d;
       e = longer first.e.items s.e.items s'.e.items _ w.grown.e put.e;
     };
-    read = λ done gone r.
+    read = λ done discarded r.
         let whole : (done ++ take at piece) ++ slice_range piece at end ++ newline ≡ done ++ take (end + 1) piece =
         ap (λ (xs : List ℕ). xs ++ newline) (append_assoc done (take at piece) (slice_range piece at end))
         ∙ append_assoc done (take at piece ++ slice_range piece at end) newline ∙ ap (λ (xs : List ℕ). done ++ xs) (sym (to_end at end l lt)) in
-        subst (λ text. HasReadPast version text gone s' (before + 1)) whole
-        (read_more version (done ++ take at piece) (slice_range piece at end) gone s s' before beat (w.read done gone r) read put);
+        subst (λ text. HasReadPast version text discarded s' (before + 1)) whole
+        (read_more version (done ++ take at piece) (slice_range piece at end) discarded s s' before beat (w.read done discarded r) read put);
   }
 
   -- a line that the quick reader takes
@@ -176,17 +176,17 @@ module _ {C M : ℕ} (version : ℕ) (piece : List ℕ) (first : Script C M) (li
       d = kept first.d.items s.d.items s'.d.items w.grown.d same.d;
       e = kept first.e.items s.e.items s'.e.items w.grown.e same.e;
     };
-    read = λ done gone r.
-        let far = w.read done gone r in
+    read = λ done discarded r.
+        let far = w.read done discarded r in
         record {
           lines = far.lines;
           told = far.told;
           script = record {
-            a = ap (λ q. gone.a ++ q) same.a ∙ far.script.a;
-            b = ap (λ q. gone.b ++ q) same.b ∙ far.script.b;
-            c = ap (λ q. gone.c ++ q) same.c ∙ far.script.c;
-            d = ap (λ q. gone.d ++ q) same.d ∙ far.script.d;
-            e = ap (λ q. gone.e ++ q) same.e ∙
+            a = ap (λ q. discarded.a ++ q) same.a ∙ far.script.a;
+            b = ap (λ q. discarded.b ++ q) same.b ∙ far.script.b;
+            c = ap (λ q. discarded.c ++ q) same.c ∙ far.script.c;
+            d = ap (λ q. discarded.d ++ q) same.d ∙ far.script.d;
+            e = ap (λ q. discarded.e ++ q) same.e ∙
                 far.script.e;
           };
           place = far.place;
@@ -207,29 +207,29 @@ module _ {C M : ℕ} (version : ℕ) (piece : List ℕ) (first : Script C M) (li
       subst (λ (n : ℕ). Walked version piece first line s' place n) one
       (subst (λ (n : ℕ). Walked version piece first line s' n (before + length ends + 1)) (sym p.4) far)
 
-  pub walks_lines : (s s' : Script C M) (at before : ℕ) (lines : PushedLines) → Walked version piece first line s at before
+  pub walks_lines : (s s' : Script C M) (at before : ℕ) (lines : ParsedLines) → Walked version piece first line s at before
       → AreNextPushed version piece at s s' lines
       → Walked version piece first line s' lines.place (before + lines.count)
   walks_lines s s' at before lines w far =
       subst (λ (n : ℕ). Walked version piece first line s' lines.place (before + n)) (sym far.count)
       (walks_behind s s' at before lines.place far.ends w far.pushed)
 
-  -- and where it ends with one
+  -- and if it ends with a whole line
   pub left_none : (at : ℕ) → length piece ≤ at → IsUnfinished (drop at piece)
   left_none at le = subst IsUnfinished (sym (drop_all at piece le)) (record { free = refl; short = omega arith })
 
-  -- the lines behind those that were read
-  later : (s : Script C M) (at before : ℕ) → Walked version piece first line s at before → (done more : List ℕ) (gone : Gone C M)
-      → HasReadPast version done gone first line
+  -- the lines after those that were read
+  later : (s : Script C M) (at before : ℕ) → Walked version piece first line s at before → (done more : List ℕ) (discarded : Discarded C M)
+      → HasReadPast version done discarded first line
       → faults (done ++ piece ++ more) ≡ replicate before None ++ map (later_fault version C M) (cut (drop at piece ++ more))
-  later s at before w done more gone r =
+  later s at before w done more discarded r =
       let parts : piece ++ more ≡ take at piece ++ (drop at piece ++ more) =
       ap (λ (xs : List ℕ). xs ++ more) (sym (take-append-drop at piece)) ∙ append_assoc (take at piece) (drop at piece) more in
       let whole : done ++ piece ++ more ≡ (done ++ take at piece) ++ (drop at piece ++ more) =
       append_assoc done piece more ∙ ap (λ (xs : List ℕ). done ++ xs) parts ∙ sym (append_assoc done (take at piece) (drop at piece ++ more)) in
-      ap faults whole ∙ read_faults version (done ++ take at piece) (drop at piece ++ more) gone s before (w.read done gone r)
+      ap faults whole ∙ read_faults version (done ++ take at piece) (drop at piece ++ more) discarded s before (w.read done discarded r)
 
-  -- the line at a place, where it ends in the piece
+  -- the line at a position, if it ends in the piece
   cut_here : (at end : ℕ) (more : List ℕ) → LineAt piece at end → end < length piece
       → cut (drop at piece ++ more) ≡ (slice_range piece at end ++ newline) ∷ cut (drop (end + 1) piece ++ more)
   cut_here at end more l lt =
@@ -241,11 +241,11 @@ module _ {C M : ℕ} (version : ℕ) (piece : List ℕ) (first : Script C M) (li
   pub refused : (s : Script C M) (at before end : ℕ) (kind : TraceKind) → C ≤ WIDEST → M ≤ WIDEST → Walked version piece first line s at before
       → LineAt piece at end → at < length piece
       → (end ≡ length piece → LONGEST_LINE ≤ end - at) → body_fault version C M (slice_range piece at end) ≡ Some kind
-      → (done more : List ℕ) (gone : Gone C M) → HasReadPast version done gone first line → IsFirstFault (done ++ piece ++ more) (before + 1) kind
-  refused s at before end kind client manager w l lt long fault done more gone r =
+      → (done more : List ℕ) (discarded : Discarded C M) → HasReadPast version done discarded first line → IsFirstFault (done ++ piece ++ more) (before + 1) kind
+  refused s at before end kind client manager w l lt long fault done more discarded r =
       let b = slice_range piece at end in
       let free = free_line piece at end l in
-      let all = later s at before w done more gone r in
+      let all = later s at before w done more discarded r in
       elim (cases_eq end (length piece)) [
         | inl e ↦
             let rest : drop at piece ≡ b = last_line piece at end l e in
@@ -266,7 +266,7 @@ module _ {C M : ℕ} (version : ℕ) (piece : List ℕ) (first : Script C M) (li
       unended (byte ∷ b) free enough rest is =
           let starts = starts_line byte b more free in
           first_fault (done ++ piece ++ more) before kind (map (later_fault version C M) starts.rest)
-          (later s at before w done more gone r ∙ ap (λ (xs : List ℕ). replicate before None ++ map (later_fault version C M) (cut (xs ++ more))) rest
+          (later s at before w done more discarded r ∙ ap (λ (xs : List ℕ). replicate before None ++ map (later_fault version C M) (cut (xs ++ more))) rest
           ∙ ap (λ (ls : List (List ℕ)). replicate before None ++ map (later_fault version C M) ls) starts.cuts
           ∙ ap (λ (o : Option TraceKind). replicate before None ++ o ∷ map (later_fault version C M) starts.rest)
           (long_fault version C M (byte ∷ b) starts.end kind client manager free enough is))
@@ -274,28 +274,28 @@ module _ {C M : ℕ} (version : ℕ) (piece : List ℕ) (first : Script C M) (li
   -- no line up to one that was read and not stored has a fault
   pub unstored : (s : Script C M) (at before end : ℕ) (beat : Line) → Walked version piece first line s at before → LineAt piece at end
       → IsReadLine version C M (slice_range piece at end) beat → end < length piece
-      → (done more : List ℕ) (gone : Gone C M) → HasReadPast version done gone first line → IsReadableTo (done ++ piece ++ more) (before + 1)
-  unstored s at before end beat w l read lt done more gone r =
+      → (done more : List ℕ) (discarded : Discarded C M) → HasReadPast version done discarded first line → IsReadableTo (done ++ piece ++ more) (before + 1)
+  unstored s at before end beat w l read lt done more discarded r =
       let b = slice_range piece at end in
       let rest = map (later_fault version C M) (cut (drop (end + 1) piece ++ more)) in
       let is : later_fault version C M (b ++ newline) ≡ None = later_line version C M b (free_line piece at end l) ∙ read.faultless in
-      let place = (w.read done gone r).place in
+      let place = (w.read done discarded r).place in
       readable_to (done ++ piece ++ more) (before + 1) rest (omega arith)
-      (later s at before w done more gone r ∙ ap (λ (ls : List (List ℕ)). replicate before None ++ map (later_fault version C M) ls)
+      (later s at before w done more discarded r ∙ ap (λ (ls : List (List ℕ)). replicate before None ++ map (later_fault version C M) ls)
       (cut_here at end more l lt)
       ∙ ap (λ (o : Option TraceKind). replicate before None ++ o ∷ rest) is ∙ one_more before rest)
 
-  -- the same of what a slow reading says of a line
+  -- the same for the fault that `push_with_diagnostics` names
   pub refused_at : (s : Script C M) (at before : ℕ) (kind : TraceKind) → C ≤ WIDEST → M ≤ WIDEST → Walked version piece first line s at before
       → at < length piece → IsFaultyAt version C M piece at kind
-      → (done more : List ℕ) (gone : Gone C M) → HasReadPast version done gone first line → IsFirstFault (done ++ piece ++ more) (before + 1) kind
+      → (done more : List ℕ) (discarded : Discarded C M) → HasReadPast version done discarded first line → IsFirstFault (done ++ piece ++ more) (before + 1) kind
   refused_at s at before kind client manager w lt f = refused s at before f.end kind client manager w f.line lt f.long f.fault
 
   pub unstored_at : (s : Script C M) (at before : ℕ) → Walked version piece first line s at before → IsReadableAt version C M piece at
-      → (done more : List ℕ) (gone : Gone C M) → HasReadPast version done gone first line → IsReadableTo (done ++ piece ++ more) (before + 1)
+      → (done more : List ℕ) (discarded : Discarded C M) → HasReadPast version done discarded first line → IsReadableTo (done ++ piece ++ more) (before + 1)
   unstored_at s at before w u = unstored s at before u.end u.beat w u.line u.read u.inside
 
-  -- a piece that is used up but for a line without its end
+  -- a piece that is used up except for a line without its end
   pub ends : (s : Script C M) (at before : ℕ) → Walked version piece first line s at before → IsUnfinished (drop at piece)
       → IsPieceRead version piece first line s before (Ok at)
   ends s at before w rest = record {
@@ -304,9 +304,9 @@ module _ {C M : ℕ} (version : ℕ) (piece : List ℕ) (first : Script C M) (li
     rest = rest;
     grown = λ _. w.grown;
     told = w.read;
-    fault = λ done more gone r. tt;
-    memory = λ done more gone r. tt;
-    stopped = λ done gone r. tt;
+    fault = λ done more discarded r. tt;
+    memory = λ done more discarded r. tt;
+    stopped = λ done discarded r. tt;
   }
 
   -- and one with a line that is refused
@@ -319,10 +319,10 @@ module _ {C M : ℕ} (version : ℕ) (piece : List ℕ) (first : Script C M) (li
     lines = tt;
     rest = tt;
     grown = λ ok. absurd cc;
-    told = λ done gone r. tt;
-    fault = λ done more gone r other. refused_at s at before kind client manager w lt (faulty other) done more gone r;
-    memory = λ done more gone r is. unstored_at s at before w (readable is) done more gone r;
-    stopped = λ done gone r. record { used = at; read = (waits s s' at before w same).read done gone r; next = refl };
+    told = λ done discarded r. tt;
+    fault = λ done more discarded r other. refused_at s at before kind client manager w lt (faulty other) done more discarded r;
+    memory = λ done more discarded r is. unstored_at s at before w (readable is) done more discarded r;
+    stopped = λ done discarded r. record { used = at; read = (waits s s' at before w same).read done discarded r; next = refl };
   }
 
   -- the same by the fault that names the line
@@ -340,11 +340,11 @@ of_version {piece = piece} {before = before} {after = after} {line = line} {last
     subst (λ k. IsPieceRead k piece before line after last r) (sym same)
 
 -- the fault of what is left at the end of a text
-pub end_faulty : {C M : ℕ} (version : ℕ) (done rest : List ℕ) (gone : Gone C M) (s : Script C M) (line : ℕ) (kind : TraceKind)
-    → HasReadPast version done gone s line → 0 < length rest → IsFree rest
+pub end_faulty : {C M : ℕ} (version : ℕ) (done rest : List ℕ) (discarded : Discarded C M) (s : Script C M) (line : ℕ) (kind : TraceKind)
+    → HasReadPast version done discarded s line → 0 < length rest → IsFree rest
     → later_fault version C M rest ≡ Some kind → IsFirstFault (done ++ rest) (line + 1) kind
-end_faulty {C} {M} version done rest gone s line kind r lt free fault =
-    first_fault (done ++ rest) line kind [] (read_faults version done rest gone s line r
+end_faulty {C} {M} version done rest discarded s line kind r lt free fault =
+    first_fault (done ++ rest) line kind [] (read_faults version done rest discarded s line r
     ∙ ap (λ (ls : List (List ℕ)). replicate line None ++ map (later_fault version C M) ls) (cut_whole rest lt free)
     ∙ ap (λ (o : Option TraceKind). replicate line None ++ o ∷ []) fault)
 
@@ -387,23 +387,23 @@ tells_script version done text s line same r = subst (λ t. TellsScript version 
   script = record { a = r.script.a; b = r.script.b; c = r.script.c; d = r.script.d; e = r.script.e };
 })
 
--- ---- beats that are let go
+-- ---- beats that are removed
 
-parts-of : {X : Type 0} (gone held left : List X) (n : ℕ) → left ≡ drop n held → (gone ++ take n held) ++ left ≡ gone ++ held
-parts-of {X} gone held left n is =
-    append_assoc gone (take n held) left ∙ ap (λ (xs : List X). gone ++ xs) (ap (λ (xs : List X). take n held ++ xs) is ∙ take-append-drop n held)
+parts-of : {X : Type 0} (discarded held left : List X) (n : ℕ) → left ≡ drop n held → (discarded ++ take n held) ++ left ≡ discarded ++ held
+parts-of {X} discarded held left n is =
+    append_assoc discarded (take n held) left ∙ ap (λ (xs : List X). discarded ++ xs) (ap (λ (xs : List X). take n held ++ xs) is ∙ take-append-drop n held)
 
-pub lets_go : {C M : ℕ} (version : ℕ) (counts : Counts) (s s' : Script C M) (line : ℕ) → HasLetGo counts s s' → (done : List ℕ) (gone : Gone C M)
-    → HasReadPast version done gone s line → HasReadPast version done (more_gone gone counts s) s' line
-lets_go version counts s s' line went done gone r = record {
+pub lets_go : {C M : ℕ} (version : ℕ) (counts : Counts) (s s' : Script C M) (line : ℕ) → HasRemoved counts s s' → (done : List ℕ) (discarded : Discarded C M)
+    → HasReadPast version done discarded s line → HasReadPast version done (more_discarded discarded counts s) s' line
+lets_go version counts s s' line went done discarded r = record {
   lines = r.lines;
   told = r.told;
   script = record {
-    a = parts-of gone.a s.a.items s'.a.items counts.a went.a ∙ r.script.a;
-    b = parts-of gone.b s.b.items s'.b.items counts.b went.b ∙ r.script.b;
-    c = parts-of gone.c s.c.items s'.c.items counts.c went.c ∙ r.script.c;
-    d = parts-of gone.d s.d.items s'.d.items counts.d went.d ∙ r.script.d;
-    e = parts-of gone.e s.e.items s'.e.items counts.e went.e ∙ r.script.e;
+    a = parts-of discarded.a s.a.items s'.a.items counts.a went.a ∙ r.script.a;
+    b = parts-of discarded.b s.b.items s'.b.items counts.b went.b ∙ r.script.b;
+    c = parts-of discarded.c s.c.items s'.c.items counts.c went.c ∙ r.script.c;
+    d = parts-of discarded.d s.d.items s'.d.items counts.d went.d ∙ r.script.d;
+    e = parts-of discarded.e s.e.items s'.e.items counts.e went.e ∙ r.script.e;
   };
   place = r.place;
 }

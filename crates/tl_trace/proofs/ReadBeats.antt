@@ -1,9 +1,9 @@
--- Reading beats by channel: what has been read, and one step more.
+-- Reading beats by channel: the beats that were read, and one step more.
 use Rattle.std.specs.Prelude.{IfErr}
 use Rattle.tl_trace.proofs.Names.{◌≡◌, ℕ, ◌+◌, ◌<◌, true, false, Result, Ok, Err, arith, List, [], ◌∷◌, ◌++◌, length, drop, take, get_or, subst}
 use Rattle.tl_trace.proofs.Names.{Option}
 use Rattle.tl_trace.proofs.Names.{None, Some, refl, sym, ap, ◌∙◌, append_assoc, take_more, filter_map, cons_option, slice_range, option_to_list}
-use Rattle.tl_trace.proofs.Names.{is_err, OnOk, Gone, IsScriptOf, IsRestOf, beat_of_a, beat_of_b, beat_of_c, beat_of_d, beat_of_e, IsPushed, LineAt}
+use Rattle.tl_trace.proofs.Names.{is_err, OnOk, Discarded, IsScriptOf, IsRestOf, beat_of_a, beat_of_b, beat_of_c, beat_of_d, beat_of_e, IsPushed, LineAt}
 use Rattle.tl_trace.proofs.Names.{Line, Script, newline, is_newline, body, cases_eq, or_parts, list_any, inl, inr}
 use Rattle.std.proofs.lemmas.List.Elements.{filter_map-append}
 use Rattle.tl_trace.proofs.ReadLines.{IsFree, body_last}
@@ -31,21 +31,21 @@ pushed {C} {M} lines line s s' far put = record {
   e = grown (beat_of_e C) lines line s.e.items s'.e.items far.e put.e;
 }
 
--- the same where beats have gone
-grown_past : {X : Type 0} (h : Line → Option X) (lines : List Line) (line : Line) (gone before now : List X) → gone ++ before ≡ filter_map h lines
-    → now ≡ before ++ option_to_list (h line) → gone ++ now ≡ filter_map h (lines ++ line ∷ [])
-grown_past {X} h lines line gone before now was is =
-    grown h lines line (gone ++ before) (gone ++ now) was (ap (λ (xs : List X). gone ++ xs) is ∙
-    sym (append_assoc gone before (option_to_list (h line))))
+-- the same after beats were removed
+grown_past : {X : Type 0} (h : Line → Option X) (lines : List Line) (line : Line) (discarded before now : List X) → discarded ++ before ≡ filter_map h lines
+    → now ≡ before ++ option_to_list (h line) → discarded ++ now ≡ filter_map h (lines ++ line ∷ [])
+grown_past {X} h lines line discarded before now was is =
+    grown h lines line (discarded ++ before) (discarded ++ now) was (ap (λ (xs : List X). discarded ++ xs) is ∙
+    sym (append_assoc discarded before (option_to_list (h line))))
 
-pub pushed_past : {C M : ℕ} (lines : List Line) (line : Line) (gone : Gone C M) (s s' : Script C M) → IsRestOf lines gone s → IsPushed line s s'
-    → IsRestOf (lines ++ line ∷ []) gone s'
-pushed_past {C} {M} lines line gone s s' far put = record {
-  a = grown_past (beat_of_a C) lines line gone.a s.a.items s'.a.items far.a put.a;
-  b = grown_past (beat_of_b M) lines line gone.b s.b.items s'.b.items far.b put.b;
-  c = grown_past (beat_of_c C) lines line gone.c s.c.items s'.c.items far.c put.c;
-  d = grown_past (beat_of_d M) lines line gone.d s.d.items s'.d.items far.d put.d;
-  e = grown_past (beat_of_e C) lines line gone.e s.e.items s'.e.items far.e put.e;
+pub pushed_past : {C M : ℕ} (lines : List Line) (line : Line) (discarded : Discarded C M) (s s' : Script C M) → IsRestOf lines discarded s → IsPushed line s s'
+    → IsRestOf (lines ++ line ∷ []) discarded s'
+pushed_past {C} {M} lines line discarded s s' far put = record {
+  a = grown_past (beat_of_a C) lines line discarded.a s.a.items s'.a.items far.a put.a;
+  b = grown_past (beat_of_b M) lines line discarded.b s.b.items s'.b.items far.b put.b;
+  c = grown_past (beat_of_c C) lines line discarded.c s.c.items s'.c.items far.c put.c;
+  d = grown_past (beat_of_d M) lines line discarded.d s.d.items s'.d.items far.d put.d;
+  e = grown_past (beat_of_e C) lines line discarded.e s.e.items s'.e.items far.e put.e;
 }
 
 -- the beat of the line at i
@@ -61,7 +61,7 @@ pub on_ok : {A E : Type 0} {P : Type 0} (r : Result A E) → OnOk r P → is_err
 on_ok (Ok v) p e = p
 on_ok (Err x) p e = absurd cc
 
--- and where it does
+-- and for a result that is an error
 pub on_err : {A E : Type 0} {P : Type 0} (r : Result A E) → IfErr r (λ _. P) → is_err r ≡ true → P
 on_err (Ok v) p e = absurd cc
 on_err (Err x) p e = p

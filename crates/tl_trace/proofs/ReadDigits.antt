@@ -16,7 +16,7 @@ left_good x y le = omega (arith, le_or_l x y, le)
 pub right_good : {most : ℕ} (x y : ℕ) → bit_or x y ≤ most → y ≤ most
 right_good x y le = omega (arith, le_or_r x y, le)
 
--- where two numbers together are above a limit, one of them is
+-- if the combination of two numbers is above a limit, one of them is
 bad_of : {A : Type 0} (k most x y : ℕ) → most + 1 ≡ 2 ^ k → most < bit_or x y → (most < x → A) → (most < y → A) → A
 bad_of {A} k most x y power lt left right = elim (cases_lt most x) [
   | inl big ↦ left big
@@ -85,7 +85,7 @@ spelt_done ds i n bad le ge f =
 
 -- ---- after a space
 
--- digits that stand after a space
+-- digits after a space
 pub spelt_after : (text : List ℕ) (at count n space bad : ℕ) → at + 1 + count ≤ length text → space ≡ cond (nat_eq (slice_index text at) 32) 0 16
     → IsSpelt (slice_range text (at + 1) (at + 1 + count)) n bad → IsNumber text at count n (bit_or space bad)
 unfolding field_at
@@ -109,7 +109,7 @@ spelt_after text at count n space bad fits is s =
     missing true is lt = absurd (omega (arith, is, lt))
     missing false is lt = refl
 
--- ---- digits behind digits
+-- ---- digits after digits
 
 value_after : (n : ℕ) (ys : List ℕ) → digits_value_after 16 n ys ≡ n * 16 ^ length ys + digits_value 16 ys
 value_after n [] = omega arith
@@ -125,7 +125,7 @@ value_append : (n : ℕ) (xs ys : List ℕ) → digits_value_after 16 n (xs ++ y
 value_append n [] ys = refl
 value_append n (x ∷ xs) ys = value_append (n * 16 + digit_value x) xs ys
 
--- what a number of digits says of them
+-- digits that form a number
 number_good : (ds : List ℕ) (n : ℕ) → number_of ds ≡ Some n → (list_all is_hex ds ≡ true) × (digits_value 16 ds ≡ n)
 unfolding number_of
 number_good ds n e = pick (list_all is_hex ds) refl e
@@ -143,7 +143,7 @@ number_bad ds e = pick (list_all is_hex ds) refl e
     pick true is e = absurd cc
     pick false is e = is
 
--- the number of so many digits before 16 others
+-- the number of the digits before the last 16
 pub spelt_both : (xs ys : List ℕ) (a b bad bad' : ℕ) → length ys ≡ 16 → IsSpelt xs a bad → IsSpelt ys b bad'
     → IsSpelt (xs ++ ys) (a * 2 ^ 64 + b) (bit_or bad bad')
 unfolding number_of
@@ -264,7 +264,7 @@ pair_bad h l high low high_is low_is big le = pick (nat_lt 255 high) (nat_lt 255
 marked : (pairs bad : ℕ) → bad ≡ cond (nat_lt 255 pairs) 16 0 → (bad ≤ 15 → pairs ≤ 255) × (15 < bad → 255 < pairs)
 marked pairs bad is = (λ le. grind (arith, nat_tests), λ lt. grind (arith, nat_tests))
 
--- where a pair has no value there is no number
+-- if a pair has no value, there is no number
 unspelt_pair : (ds : List ℕ) (i pair : ℕ) → 2 * i + 1 < length ds
     → (255 < pair → digit_of (get_or ds (2 * i) 0) ≤ 15 → 15 < digit_of (get_or ds (2 * i + 1) 0)) → 255 < pair → number_of ds ≡ None
 unspelt_pair ds i pair lt either big = pick (nat_lt 15 high) refl

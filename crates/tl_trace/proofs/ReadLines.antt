@@ -180,7 +180,7 @@ told_more version client manager (first ∷ lines) line text body told says =
       told_more version client manager lines line rest body told.4 says,
     )
 
--- what the walk has read of a text
+-- the part of a text that was read
 pub record SoFar (text : List ℕ) (start version client manager : ℕ) (lines : List Line) (at before : ℕ) : Type 0 where
   pub begun : start ≤ at
   pub within : at ≤ length text

@@ -1,4 +1,4 @@
--- Two texts are the same where their words are.
+-- Two texts are the same if their words are.
 use Rattle.tl_trace.proofs.Names.{◌≡◌, ◌≤◌, ◌<◌, ◌+◌, ◌-◌, ◌*◌, ℕ, suc, List, [], ◌∷◌, ◌++◌, length, get_or, take, drop, inl, inr, drop-cons, refl}
 use Rattle.tl_trace.proofs.Names.{sym, ap, ◌∙◌, arith, take-add, cases_lt, get_or-take, get_or-drop, take-take, take-append-drop, take_all}
 use Rattle.tl_trace.proofs.Names.{length-take, length-drop, le_bytes_8, w64, from_le_bytes, to_le_bytes, slice_range}

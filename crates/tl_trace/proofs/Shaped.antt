@@ -1,4 +1,4 @@
--- From the fields of a line to what the line says, once for the form of every channel.
+-- From the fields of a line to its contents, once for the form of every channel.
 use Rattle.tl_trace.proofs.Names.{◌≡◌, ◌≢◌, ℕ, zero, suc, ◌+◌, ◌≤◌, Bool, true, false, cond, nat_eq, nat_lt, ◌&&◌, ◌||◌, List, [], ◌∷◌, length, map}
 use Rattle.tl_trace.proofs.Names.{Option, Some, None, is_none, refl, sym, ap, ◌∙◌, arith, eq-eqb, and_from, and_left, and_right, and_parts, list_all}
 use Rattle.tl_trace.proofs.Names.{list_any, slice_index, BeatOf, Length, Shape, Range, Field, Form, bit, digit_count, fields, values, value_of}
@@ -91,7 +91,7 @@ pub same_range : {H : Type 0} (f : Form H) {n : ℕ} (w : ℕ) (b : BeatOf H n) 
     → is_in_range f w text ≡ is_writable f w b
 same_range f w b text line = text_below f w 1 text (fields f) _ line.says ∙ sym (beat_below f w b (fields f) (map (value_of f b) (fields f)) refl)
 
--- what is known of a beat as a trace keeps it
+-- the facts about a beat as a trace keeps it
 pub kept_parts : {H : Type 0} (f : Form H) {n : ℕ} (w : ℕ) (b : BeatOf H n) → is_kept f w b ≡ true
     → (is_lanes n b.lanes ≡ true) × (is_writable f w b ≡ true) × (is_plain f b ≡ true)
 kept_parts f {n} w b kept =

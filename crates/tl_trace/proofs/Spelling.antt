@@ -1,4 +1,4 @@
--- The text of a beat is the only line that says it.
+-- The text of a beat is its only line.
 use Rattle.tl_trace.proofs.Names.{◌≡◌, ℕ, zero, suc, ◌+◌, ◌-◌, ◌*◌, ◌/◌, ◌%◌, ◌^◌, ◌<◌, ◌≤◌, true, nat_eq, nat_lt, ◌&&◌, List, [], ◌∷◌, ◌++◌, length}
 use Rattle.tl_trace.proofs.Names.{map, get_or, take, drop, refl, sym, ap, ◌∙◌, arith, append_assoc, length-append, eq-eqb, lit≤, pow-suc}
 use Rattle.tl_trace.proofs.Names.{pow-le-pow_right, get_or-append_seam, take-append_seam, drop-append_seam, ltb-true, and_parts, and_from, nat_tests}
@@ -107,7 +107,7 @@ length-spelled w value (field ∷ more) =
     length-append (spelled w value field) (flat_map (spelled w value) more)
     ∙ omega (arith, length-hex (digit_count w field) (value field), length-spelled w value more)
 
--- what stands in a text at the places of fields
+-- the contents of a text at the positions of fields
 pub record Placed (text : List ℕ) (at w : ℕ) (value : Field → ℕ) (fs : List Field) : Type 0 where
   pub shaped : list_all (is_shaped_at text) (places_from at w fs) ≡ true
   pub says : map (value_at text) (places_from at w fs) ≡ map value fs

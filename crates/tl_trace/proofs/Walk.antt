@@ -11,7 +11,7 @@ use Rattle.tl_trace.proofs.ReadLines.{IsFree, SoFar, cut_line, cut_last, body_li
 use Rattle.tl_trace.proofs.ReadLines.{one_more, told_more}
 use Rattle.tl_trace.proofs.Headers.{no_empty_header}
 
--- not for want of memory
+-- a fault other than out of memory
 abbrev pub NoMemory : Option TraceKind → Type 0
 NoMemory o = (kind : TraceKind) → o ≡ Some kind → kind ≢ OutOfMemory
 
@@ -34,11 +34,11 @@ end_no_memory is = absurd cc
 pub header_no_memory : kinds.Header ≢ OutOfMemory
 header_no_memory is = absurd cc
 
--- what has a fault has one
+-- Some fault is not None
 pub some_fault : {F : Type 0} {fault : F} → Some fault ≢ None
 some_fault is = absurd cc
 
--- what is not empty has a byte
+-- a text that is not empty has a byte
 pub some_byte : (n : ℕ) → (n == 0) ≡ false → 0 < n
 some_byte zero none = absurd cc
 some_byte (suc n) none = omega arith
@@ -52,7 +52,7 @@ five_no_memory false false false true e fa fb fc fd fe na nb nc nd ne = nd
 five_no_memory false false false false true fa fb fc fd fe na nb nc nd ne = ne
 five_no_memory false false false false false fa fb fc fd fe na nb nc nd ne = channel_no_memory
 
--- what is wrong with a line is no want of memory
+-- no fault of a line is out of memory
 pub no_memory : (version client manager : ℕ) (text : List ℕ) → NoMemory (body_fault version client manager text)
 no_memory version client manager text =
     let letter = slice_index text 0 in
@@ -178,7 +178,7 @@ one_byte xs at lt =
     let one : (at + 1) - at ≡ 1 = omega arith in
     ap (λ (n : ℕ). take n (drop at xs)) one ∙ ap (λ (ys : List ℕ). take 1 ys) (drop-cons xs at 0 lt)
 
--- what was read of a text, and a line more
+-- the part of a text that was read, and one line more
 pub line_more : (text : List ℕ) (start at end : ℕ) → start ≤ at → LineAt text at end → end < length text
     → slice_range text start (end + 1) ≡ slice_range text start at ++ slice_range text at end ++ newline
 line_more text start at end begun line lt =

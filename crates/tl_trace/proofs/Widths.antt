@@ -1,4 +1,4 @@
--- What crates above may want: widths and lanes of a trace.
+-- Facts for crates above: the widths and lanes of a trace.
 use Rattle.tl_trace.proofs.Names.{◌≡◌, ℕ, zero, suc, ◌+◌, ◌*◌, ◌^◌, ◌<◌, ◌≤◌, true, false, cond, nat_lt, List, [], ◌∷◌, length, get_or, refl, sym}
 use Rattle.tl_trace.proofs.Names.{◌∙◌, arith, lit≤, subst, ◌==◌, pow-suc, eqb-true, ltb-true, and_parts, Any-from_list_any, Any, list_all}
 use Rattle.tl_trace.proofs.Names.{slice_index, WIDEST, WIDEST_POWER, width_bounds, number_of_lanes, widest_power, widths, is_width}

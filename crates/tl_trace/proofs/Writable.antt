@@ -35,7 +35,7 @@ of_kind kind limit p z aligned few e =
     let most = leb-true z 12 size in
     (omega arith, omega arith)
 
--- each message of the column has at most so many params
+-- each message of the column has at most `limit` params
 abbrev few_params : (limit : ℕ) → Option Kind → Bool
 few_params limit kind = option_map_or (λ k. nat_le (params k) limit) kind true
 
@@ -91,7 +91,7 @@ data_in_range : {H : Type 0} {w : ℕ} (b : BeatOf H w) → length b.lanes ≡ w
     → nat_lt (number_of_lanes b.lanes) (256 ^ w) && (nat_lt (bit b.corrupt) 2 && true) ≡ true
 data_in_range {w = w} b long bytes = rw (lt-ltb (number_of_lanes b.lanes) (256 ^ w) (data_small w b.lanes long bytes), bit_small b.corrupt) refl
 
--- the fields of a head of A, B or C are in range, and so are those behind it
+-- the fields of a head of A, B or C are in range, and so are those after it
 head_in_range : (version : ℕ) (column : List (Option Kind)) (o p z s a : ℕ) (rest : Bool) → length column ≡ 8 → list_all (few_params 8) column ≡ true
     → head_fault (kind_at column o) p z (is_aligned a z) ≡ None → nat_lt s (16 ^ id_digits version) && true ≡ true → a < 2 ^ 64 → rest ≡ true
     → nat_lt o 8 && (nat_lt p 8 && (nat_lt z 16 && (nat_lt s (16 ^ id_digits version) && (nat_lt a (2 ^ 64) && rest)))) ≡ true

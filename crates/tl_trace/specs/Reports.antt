@@ -5,7 +5,8 @@ use Rattle.tl_msg.specs.declared.verdict.Verdict.{Verdict}
 use Rattle.tl_msg.specs.declared.verdict.Verdict.TheVariants.{Done, Cut, Refused, Waiting}
 use Rattle.tl_trace.specs.Texts.{newline}
 
--- the numbers of near beats accepted and of far beats taken, or that of near beats accepted and the fault of the next one
+-- the numbers of near beats accepted and far beats taken, or the number of near beats accepted and the fault of the
+-- next one
 abbrev pub verdict_text : Verdict → List ℕ
 verdict_text (Done near far) = codes "done " ++ decimal near ++ codes " " ++ decimal far
 verdict_text (Cut near far) = codes "cut " ++ decimal near ++ codes " " ++ decimal far

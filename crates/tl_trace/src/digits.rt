@@ -1,4 +1,5 @@
-//! Reading hexadecimal digits without a test of each: bad ones show in one number at the end.
+//! Reads hexadecimal digits without a test for each one. The values of bad digits are combined, and
+//! tested once at the end.
 ghost use Rattle.std.specs.Prelude.{if◌then◌else◌, ◌==◌, ◌≡◌, ◌≤◌, ◌<◌, ◌+◌, ◌*◌, ◌/◌, length, nat_lt, true};
 ghost use Rattle.tl_lanes.specs.declared.limits.TheConstants.{WIDEST};
 ghost use Rattle.tl_trace.specs.Fields.{number_of_lanes};
@@ -8,10 +9,10 @@ ghost use Rattle.tl_trace.specs.declared.digits.TheConstants.{DIGITS};
 
 use tl_lanes::Mask;
 
-/// The digits for which a `u64` has room.
+/// The number of hexadecimal digits of a `u64`.
 pub const DIGITS: usize = 16;
 
-/// How many values a `u64` has.
+/// The number of values of a `u64`.
 pub const VALUES: Mask = 1 << 64;
 
 /// The value of each byte as a lower-case hexadecimal digit, and 16 for every other byte.
@@ -30,7 +31,7 @@ static DIGIT_VALUES: [u8; 256] = [
 ];
 
 /// The value of each byte as the higher of two lower-case hexadecimal digits, and 256 for every
-/// byte that is none.
+/// byte that is not a digit.
 static HIGH_VALUES: [u16; 256] = [
     256, 256, 256, 256, 256, 256, 256, 256, 256, 256, 256, 256, 256, 256, 256, 256, 256, 256, 256,
     256, 256, 256, 256, 256, 256, 256, 256, 256, 256, 256, 256, 256, 256, 256, 256, 256, 256, 256,
@@ -48,7 +49,7 @@ static HIGH_VALUES: [u16; 256] = [
     256, 256, 256, 256, 256, 256, 256, 256,
 ];
 
-/// The value of each byte as the lower of two, and 256 for every byte that is none.
+/// The value of each byte as the lower of two digits, and 256 for every byte that is not a digit.
 static LOW_VALUES: [u16; 256] = [
     256, 256, 256, 256, 256, 256, 256, 256, 256, 256, 256, 256, 256, 256, 256, 256, 256, 256, 256,
     256, 256, 256, 256, 256, 256, 256, 256, 256, 256, 256, 256, 256, 256, 256, 256, 256, 256, 256,
@@ -66,7 +67,8 @@ static LOW_VALUES: [u16; 256] = [
     256, 256, 256, 256,
 ];
 
-/// 0 for a space, and a bad digit for every other byte: a table is the faster test.
+/// 0 for a space, and 16, as for a bad digit, for every other byte. A table is faster than a
+/// comparison.
 static SPACE_VALUES: [u8; 256] = [
     16, 16, 16, 16, 16, 16, 16, 16, 16, 16, 16, 16, 16, 16, 16, 16, 16, 16, 16, 16, 16, 16, 16, 16,
     16, 16, 16, 16, 16, 16, 16, 16, 0, 16, 16, 16, 16, 16, 16, 16, 16, 16, 16, 16, 16, 16, 16, 16,
@@ -81,7 +83,7 @@ static SPACE_VALUES: [u8; 256] = [
     16, 16, 16, 16, 16, 16, 16, 16, 16, 16, 16, 16, 16, 16, 16, 16,
 ];
 
-/// The value of a lower-case digit, or 16.
+/// Returns the value of a lower-case digit, or 16.
 #[inline(always)]
 fn digit(byte: u8) -> u8
     ensures { result ≡ digit_of byte }
@@ -89,21 +91,23 @@ fn digit(byte: u8) -> u8
     DIGIT_VALUES[byte as usize]
 }
 
-/// A field as a number; where `bad` is above 15 its text has not the shape of one.
+/// A field as a number. If `bad` is above 15, the text of the field does not have the shape of a
+/// number.
 #[derive(Clone, Copy)]
 pub struct Number {
     pub value: u64,
     pub bad: u8,
 }
 
-/// A mask as a number; where `bad` is above 15 its text has not the shape of one.
+/// A mask as a number. If `bad` is above 15, the text of the mask does not have the shape of a
+/// number.
 #[derive(Clone, Copy)]
 pub struct MaskNumber {
     pub value: Mask,
     pub bad: u8,
 }
 
-/// 0 where the byte is a space, else a bad digit.
+/// Returns 0 if the byte is a space, and otherwise 16, as for a bad digit.
 #[inline(always)]
 fn space(byte: u8) -> u8
     ensures { result ≡ (if byte == 32 then 0 else 16) }
@@ -111,7 +115,7 @@ fn space(byte: u8) -> u8
     SPACE_VALUES[byte as usize]
 }
 
-/// 16 times the value of a digit, or 256.
+/// Returns 16 times the value of a digit, or 256.
 #[inline(always)]
 fn high_value(byte: u8) -> u16
     ensures { result ≡ (if nat_lt 15 (digit_of byte) then 256 else 16 * digit_of byte) }
@@ -119,7 +123,7 @@ fn high_value(byte: u8) -> u16
     HIGH_VALUES[byte as usize]
 }
 
-/// The value of a digit, or 256.
+/// Returns the value of a digit, or 256.
 #[inline(always)]
 fn low_value(byte: u8) -> u16
     ensures { result ≡ (if nat_lt 15 (digit_of byte) then 256 else digit_of byte) }
@@ -127,7 +131,7 @@ fn low_value(byte: u8) -> u16
     LOW_VALUES[byte as usize]
 }
 
-/// The value of two digits, or a number above 255.
+/// Returns the value of two digits, or a number above 255.
 #[inline(always)]
 fn pair(high: u8, low: u8) -> u16
     ensures good { result ≤ 255 → IsPair high low result }
@@ -136,7 +140,7 @@ fn pair(high: u8, low: u8) -> u16
     high_value(high) + low_value(low)
 }
 
-/// 0 where all pairs whose bits these are have a value, else a bad digit.
+/// Returns 0 if all pairs combined in `pairs` have a value, and otherwise 16, as for a bad digit.
 #[inline(always)]
 fn bad_of(pairs: u16) -> u8
     ensures { result ≡ (if nat_lt 255 pairs then 16 else 0) }
@@ -144,7 +148,7 @@ fn bad_of(pairs: u16) -> u8
     if pairs > 255 { 16 } else { 0 }
 }
 
-/// The number of these digits, one at a time.
+/// Returns the number that these digits form, read one at a time.
 #[inline(always)]
 fn number_by_digits(digits: &[u8]) -> Number
     requires { length digits.now ≤ DIGITS }
@@ -160,7 +164,8 @@ fn number_by_digits(digits: &[u8]) -> Number
     Number { value, bad }
 }
 
-/// The same two at a time, where the number of digits is even.
+/// Returns the number that these digits form, read two at a time. Requires an even number of
+/// digits.
 #[inline(always)]
 fn number_by_pairs(digits: &[u8]) -> Number
     requires even { length digits.now ≡ 2 * (length digits.now / 2) }
@@ -180,7 +185,7 @@ fn number_by_pairs(digits: &[u8]) -> Number
     }
 }
 
-/// The number of these digits.
+/// Returns the number that these digits form.
 #[inline(always)]
 fn number_of_digits(digits: &[u8]) -> Number
     requires { length digits.now ≤ DIGITS }
@@ -192,7 +197,7 @@ fn number_of_digits(digits: &[u8]) -> Number
     number_by_digits(digits)
 }
 
-/// The number after a space at a place, of so many digits.
+/// Returns the number of `count` digits after the space at `at`.
 #[inline(always)]
 pub fn field(text: &[u8], at: usize, count: usize) -> Number
     requires few { count ≤ DIGITS }
@@ -206,8 +211,9 @@ pub fn field(text: &[u8], at: usize, count: usize) -> Number
     }
 }
 
-/// The mask after a space at a place, of so many digits. Where a `u64` has room for them they are read one at a time, since
-/// at most widths there are one or two; else the last that it has room for apart from those before them.
+/// Returns the mask of `count` digits after the space at `at`. Up to 16 digits, which fit in a
+/// `u64`, are read one at a time, because at most widths there are one or two. If there are more,
+/// the last 16 are read separately.
 #[inline(always)]
 pub fn mask_field(text: &[u8], at: usize, count: usize) -> MaskNumber
     requires few { count ≤ WIDEST / 4 }
@@ -230,8 +236,8 @@ pub fn mask_field(text: &[u8], at: usize, count: usize) -> MaskNumber
     }
 }
 
-/// The first `w` lanes after a space at a place, two digits for each, highest lane first. An answer above 15 says that
-/// their text has not the shape of a number.
+/// Reads the first `w` lanes after the space at `at`, two digits for each lane, highest lane first.
+/// Returns a number above 15 if their text does not have the shape of a number.
 #[inline(always)]
 pub fn lanes_field<const N: usize>(text: &[u8], at: usize, w: usize, lanes: &mut [u8]) -> u8
     requires width { w ≤ N }

@@ -1,4 +1,4 @@
-//! Reading the heads of the five channels.
+//! Readers of the heads of the five channels.
 ghost use Rattle.std.specs.Prelude.{ℕ, ◌≡◌, ◌≤◌, ◌+◌, ◌&&◌, true, false, refl, length, nat_lt, MatchOption};
 ghost use Rattle.std.specs.List.{list_all};
 ghost use Rattle.tl_trace.specs.Fields.{addressed, common, id_digits, length_of};
@@ -12,8 +12,8 @@ use crate::places::{
 };
 use tl_msg::{ChA, ChB, ChC, ChD, ChE, HeadA, HeadB, HeadC, HeadD, HeadE, SinkId, SourceId};
 
-/// The fields of a head as numbers, 0 for each that the channel has not; where `bad` is above 15 the text of one has not
-/// its shape.
+/// The fields of a head as numbers; a field that the channel does not have is 0. If `bad` is above
+/// 15, the text of some field does not have its shape.
 #[derive(Clone, Copy)]
 pub struct HeadFields {
     pub opcode: u64,
@@ -26,19 +26,20 @@ pub struct HeadFields {
     pub bad: u8,
 }
 
-/// A channel whose heads can be read.
+/// A channel whose heads can be read from a line.
 pub trait ReadHead: HeadText {
-    /// The place behind the last field of the head.
+    /// Returns the position after the last field of the head.
     fn head_end(version: u8) -> usize
         ensures end { result ≡ 1 + length_of 0 (Self.form version).head_fields }
         ensures few { result ≤ LONGEST_HEAD };
 
-    /// The fields of the head of a line.
+    /// Returns the fields of the head of a line.
     fn read_head(text: &[u8], version: u8) -> HeadFields
         requires { 1 + length_of 0 (Self.form version).head_fields ≤ length text.now }
         ensures { IsHead (id_digits version) text.now (Self.form version).head_fields result };
 
-    /// The head of these fields, if each has one of its values. No version has ids of more than four digits.
+    /// Returns the head with these fields, or `None` if a field is out of range. Requires fields
+    /// that fit their digits; no version has ids of more than four digits.
     fn head_of(fields: &HeadFields) -> Option<Self::Head>
         requires { IsSmall 4 fields.now }
         ensures { (version : ℕ) → IsSmall (id_digits version) fields.now →
@@ -48,7 +49,7 @@ pub trait ReadHead: HeadText {
         list_all is_head_field (Self.form version).head_fields ≡ true };
 }
 
-/// The fields that the heads of A to D begin with.
+/// Returns the fields that the heads of A to D begin with.
 #[inline(always)]
 fn read_common(text: &[u8], version: u8) -> HeadFields
     requires { 1 + length_of 0 (common version) ≤ length text.now }
@@ -70,7 +71,7 @@ fn read_common(text: &[u8], version: u8) -> HeadFields
     }
 }
 
-/// The fields of a head with an address.
+/// Returns the fields of a head with an address.
 #[inline(always)]
 fn read_addressed(text: &[u8], version: u8) -> HeadFields
     requires { 1 + length_of 0 (addressed version) ≤ length text.now }
@@ -94,7 +95,8 @@ struct CommonFields {
     source: SourceId,
 }
 
-/// The common fields, if the opcode is below 8 and the param below `params`.
+/// Returns the common fields, or `None` if the opcode is above 7 or the param is not below
+/// `params`.
 #[inline(always)]
 fn common_of(fields: &HeadFields, params: u64) -> Option<CommonFields>
     requires { IsSmall 4 fields.now }
@@ -126,7 +128,7 @@ impl ReadHead for ChA {
 
     #[inline(always)]
     fn head_of(fields: &HeadFields) -> Option<HeadA> {
-        // (a `?` is two ways out more to check, here and in the three below)
+        // (here and in the three functions below, `?` would add two return paths to check)
         let Some(common) = common_of(fields, 8) else {
             return None;
         };

@@ -7,13 +7,13 @@ ghost use Rattle.tl_msg.specs.declared.beat.BeatOf.{BeatOf};
 ghost use Rattle.tl_trace.specs.declared.places.TheConstants.{LONGEST_COMMON, LONGEST_HEAD};
 
 use crate::places::{ADDRESS_DIGITS, LONGEST_LINE, id_digits};
-use crate::text::{Room, fill, fill_field, low_digit, put};
+use crate::text::{LineBuffer, fill, fill_field, low_digit, put};
 use arrayvec::ArrayVec;
 use tl_msg::{ChA, ChB, ChC, ChD, ChE, Channel, HeadA, HeadB, HeadC, HeadD, HeadE, SourceId};
 
-/// A channel whose heads can be written.
+/// A channel whose heads can be written to a line.
 pub trait HeadText: Channel {
-    /// Whether its lines have data and corrupt: all but those of E.
+    /// Whether the lines of the channel have data and corrupt: true on all channels except E.
     const HAS_DATA: bool;
 
     ghost form: { (version : ℕ) → Form Self.Head };
@@ -21,14 +21,15 @@ pub trait HeadText: Channel {
     ghost HAS_DATA: { Bool };
 
     /// Writes the line of a trace of this version from its letter up to the last field before mask
-    /// and data, and gives the place behind it; on E the whole line without LF. A field is written
-    /// by its lowest digits: an id by two in version 1, and by four in version 2.
+    /// and data; on E the whole line without LF. Returns the position after it. Each field is
+    /// written by its lowest digits, an id by two in version 1 and by four in version 2.
     fn fill_head(line: &mut [u8; LONGEST_LINE], head: &Self::Head, version: u8) -> usize
         ensures items { take result line.new ≡ head_text (form version) head.now }
         ensures end { result ≤ LONGEST_HEAD };
 
-    /// The line of a trace of this version from its letter up to the last field before mask and data, without LF; on E
-    /// the whole line. A field is written by its lowest digits: an id by two in version 1, and by four in version 2.
+    /// Returns the line of a trace of this version from its letter up to the last field before mask
+    /// and data, without LF; on E the whole line. Each field is written by its lowest digits, an id
+    /// by two in version 1 and by four in version 2.
     fn head_text(head: &Self::Head, version: u8) -> ArrayVec<u8, 32>
         ensures { result.items ≡ head_text (form version) head.now }
     {
@@ -52,10 +53,10 @@ pub trait HeadText: Channel {
         (form version).head_fields };
 }
 
-/// Writes the letter, opcode, param, size and source, and gives the place behind them.
+/// Writes the letter, opcode, param, size and source. Returns the position after them.
 #[inline(always)]
 fn fill_common(
-    line: &mut Room,
+    line: &mut LineBuffer,
     letter: u8,
     opcode: u8,
     param: u8,
@@ -81,7 +82,7 @@ impl HeadText for ChA {
     ghost HAS_DATA = { true };
 
     #[inline(always)]
-    fn fill_head(line: &mut Room, head: &HeadA, version: u8) -> usize {
+    fn fill_head(line: &mut LineBuffer, head: &HeadA, version: u8) -> usize {
         let (opcode, param, size) = (head.opcode, head.param, head.size);
         let address = fill_common(line, b'A', opcode, param, size, head.source, version);
         fill_field(line, address, head.address, ADDRESS_DIGITS)
@@ -104,7 +105,7 @@ impl HeadText for ChB {
     ghost HAS_DATA = { true };
 
     #[inline(always)]
-    fn fill_head(line: &mut Room, head: &HeadB, version: u8) -> usize {
+    fn fill_head(line: &mut LineBuffer, head: &HeadB, version: u8) -> usize {
         let (opcode, param, size) = (head.opcode, head.param, head.size);
         let address = fill_common(line, b'B', opcode, param, size, head.source, version);
         fill_field(line, address, head.address, ADDRESS_DIGITS)
@@ -127,7 +128,7 @@ impl HeadText for ChC {
     ghost HAS_DATA = { true };
 
     #[inline(always)]
-    fn fill_head(line: &mut Room, head: &HeadC, version: u8) -> usize {
+    fn fill_head(line: &mut LineBuffer, head: &HeadC, version: u8) -> usize {
         let (opcode, param, size) = (head.opcode, head.param, head.size);
         let address = fill_common(line, b'C', opcode, param, size, head.source, version);
         fill_field(line, address, head.address, ADDRESS_DIGITS)
@@ -150,7 +151,7 @@ impl HeadText for ChD {
     ghost HAS_DATA = { true };
 
     #[inline(always)]
-    fn fill_head(line: &mut Room, head: &HeadD, version: u8) -> usize {
+    fn fill_head(line: &mut LineBuffer, head: &HeadD, version: u8) -> usize {
         let (opcode, param, size) = (head.opcode, head.param, head.size);
         let sink = fill_common(line, b'D', opcode, param, size, head.source, version);
         let denied = fill_field(line, sink, head.sink as u64, id_digits(version));
@@ -174,7 +175,7 @@ impl HeadText for ChE {
     ghost HAS_DATA = { false };
 
     #[inline(always)]
-    fn fill_head(line: &mut Room, head: &HeadE, version: u8) -> usize {
+    fn fill_head(line: &mut LineBuffer, head: &HeadE, version: u8) -> usize {
         let sink = fill(line, 0, b"E");
         fill_field(line, sink, head.sink as u64, id_digits(version))
     }

@@ -8,20 +8,20 @@ use crate::text::{Text, put, put_decimal};
 use arrayvec::ArrayVec;
 use tl_lanes::WIDEST_POWER;
 
-/// What the first line of a trace names.
+/// The contents of the first line of a trace.
 #[derive(Clone, Copy, PartialEq, Eq)]
 pub struct Header {
-    /// The version of the trace, 1 or 2: its ids have two digits in version 1 and four in version 2 (this project's
-    /// choice).
+    /// The version of the trace, 1 or 2. Ids have two digits in version 1 and four in version 2
+    /// (this project's choice).
     pub version: u8,
-    /// The width of the client's side in bytes, in version 1 at most 64 (this project's choice).
+    /// The width of the client's side in bytes; at most 64 in version 1 (this project's choice).
     pub client: usize,
-    /// The width of the manager's side in bytes, in version 1 at most 64, too.
+    /// The width of the manager's side in bytes; at most 64 in version 1 (this project's choice).
     pub manager: usize,
 }
 
-/// How many widths a header of this version can name: 1, and each the double of the one before, in version 1 up to 64 and
-/// in version 2 up to the widest bus.
+/// Returns how many widths a header of this version can have: the powers of two up to 64 in version
+/// 1, and up to the widest bus in version 2.
 fn width_count(version: u8) -> usize
     ensures count { result ≡ widest_power version + 1 }
     ensures few { result ≤ WIDEST_POWER + 1 }
@@ -32,7 +32,7 @@ fn width_count(version: u8) -> usize
     WIDEST_POWER as usize + 1
 }
 
-/// The header of this version and these widths, without its LF.
+/// Returns the header of this version and these widths, without its LF.
 #[tactic(auto, using(crate::proofs::Decimals::length_decimal))]
 pub fn header_text(version: u8, client: usize, manager: usize) -> Text
     ensures { result.items ≡ header_text version client manager }
@@ -47,7 +47,7 @@ pub fn header_text(version: u8, client: usize, manager: usize) -> Text
     text
 }
 
-/// What a first line of this version names: that whose header the text is, byte for byte.
+/// Returns the header of this version that is `text`, byte for byte, or `None`.
 fn header_in(text: &[u8], version: u8) -> Option<Header>
     ensures { result ≡ find (is_header_of text.now) (headers_of version) }
 {
@@ -66,7 +66,7 @@ fn header_in(text: &[u8], version: u8) -> Option<Header>
     None
 }
 
-/// What a first line names: that whose header the text is, byte for byte.
+/// Returns the header that is `text`, byte for byte, or `None`.
 pub fn header_of(text: &[u8]) -> Option<Header>
     ensures { result ≡ header_of text.now }
 {

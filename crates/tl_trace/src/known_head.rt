@@ -1,13 +1,13 @@
-//! Heads that need not be read again.
+//! Heads that were read before, so that they are not read again.
 ghost use Rattle.std.specs.Prelude.{ℕ, ◌≡◌, ◌≤◌, ◌+◌, List, length, IfSome};
 ghost use Rattle.std.specs.List.{slice_range};
 ghost use Rattle.tl_trace.specs.Inner.KnownHeads.{head_length, HasHead, IsKnown, AreKnown};
 
 use crate::head_reader::ReadHead;
-use crate::same_text::goes_on_as;
+use crate::same_text::repeats_at;
 use tl_msg::{HeadA, HeadB, HeadC, HeadD, HeadE};
 
-/// A head that was read, and where its line begins.
+/// A head that was read, and the position where its line begins.
 #[derive(Drop)]
 pub struct KnownHead<H> {
     pub at: usize,
@@ -24,7 +24,7 @@ pub struct LastHeads {
     pub e: Option<KnownHead<HeadE>>,
 }
 
-/// No head of any channel.
+/// Returns the state without a head on any channel.
 pub fn no_heads() -> LastHeads
     ensures { (version : ℕ) (text : List ℕ) → AreKnown version text result }
 {
@@ -37,7 +37,8 @@ pub fn no_heads() -> LastHeads
     }
 }
 
-/// The head that a text says, from its letter up to the last field: `None` where it has a fault.
+/// Returns the head in a text that goes from the letter to the last field of the head. Returns
+/// `None` if it has a fault.
 #[inline(never)]
 fn new_head<K: ReadHead, const VERSION: u8>(text: &[u8]) -> Option<K::Head>
     requires { length text.now ≡ head_length (K.form VERSION) }
@@ -50,8 +51,9 @@ fn new_head<K: ReadHead, const VERSION: u8>(text: &[u8]) -> Option<K::Head>
     K::head_of(&fields)
 }
 
-/// The head of the line from a place on, by the last line of its channel where their texts are the same up to the end of
-/// the head: `None` where it has a fault.
+/// Returns the head of the line that begins at `at`, or `None` if it has a fault. If its text is
+/// the same as that of the last line of its channel, up to the end of the head, the head is not
+/// read again.
 #[inline(always)]
 pub fn head_at<K: ReadHead, const VERSION: u8>(
     text: &[u8],
@@ -66,7 +68,7 @@ pub fn head_at<K: ReadHead, const VERSION: u8>(
 {
     let len = K::head_end(VERSION);
     if let Some(before) = last {
-        if goes_on_as(text, at, before.at, len) {
+        if repeats_at(text, at, before.at, len) {
             return Some(before.head);
         }
     }

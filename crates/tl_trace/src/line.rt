@@ -2,8 +2,9 @@
 use tl_lanes::WIDEST;
 use tl_msg::{Beat, ChA, ChB, ChC, ChD, ChE};
 
-/// One beat of a trace, on the lanes of the widest bus: those at and past its sender's width are 0.
-/// What the line of its channel does not say is 0: the mask on C, D and E, lanes and corrupt on E.
+/// One beat of a trace, on the lanes of the widest bus. Lanes from its sender's width on are 0.
+/// Fields that a line of its channel does not have are 0: the mask on C, D and E, and lanes and
+/// corrupt on E.
 #[derive(Clone, Copy, PartialEq, Eq, Debug)]
 pub enum Line {
     A(Beat<ChA, WIDEST>),

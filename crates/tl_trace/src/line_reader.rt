@@ -1,4 +1,4 @@
-//! Reading a line of a known channel.
+//! Readers of a line whose channel is known.
 ghost use Rattle.std.specs.Prelude.{◌≡◌, ◌≤◌, ◌+◌, ◌^◌, ◌&&◌, false, length, nat_lt, Some, MatchResult};
 ghost use Rattle.tl_lanes.specs.declared.limits.TheConstants.{WIDEST};
 ghost use Rattle.tl_trace.specs.Faults.{form_fault};
@@ -12,7 +12,7 @@ use crate::places::{mask_digits, rest_len};
 use tl_lanes::{Mask, WIDEST};
 use tl_msg::{Beat, BeatOf};
 
-/// Whether the mask has no bit at or past `w`, and corrupt is one of its two values.
+/// Returns whether the mask has no bit from `w` on, and corrupt is 0 or 1.
 #[inline(always)]
 pub fn are_in_range(mask: Mask, corrupt: u64, w: usize) -> bool
     requires { w ≤ WIDEST }
@@ -21,7 +21,7 @@ pub fn are_in_range(mask: Mask, corrupt: u64, w: usize) -> bool
     (w >= WIDEST || mask < (1 as Mask) << w) && corrupt < 2
 }
 
-/// The mask from this place on, 0 where the channel has none.
+/// Returns the mask at `at`, or 0 if the channel has none.
 #[inline(always)]
 fn read_mask(text: &[u8], at: usize, masked: bool, w: usize) -> MaskNumber
     requires width { w ≤ WIDEST }
@@ -36,8 +36,8 @@ fn read_mask(text: &[u8], at: usize, masked: bool, w: usize) -> MaskNumber
     mask_field(text, at, mask_digits(w))
 }
 
-/// Mask and corrupt as numbers, 0 where the channel has none; where `bad` is above 15 the text of one of them or of the
-/// lanes has not its shape.
+/// Mask and corrupt as numbers, 0 if the channel has none. If `bad` is above 15, the text of mask,
+/// corrupt or lanes does not have its shape.
 #[derive(Clone, Copy)]
 pub struct Rest {
     pub mask: Mask,
@@ -45,7 +45,8 @@ pub struct Rest {
     pub bad: u8,
 }
 
-/// What stands behind the head in a line on `w` lanes, from this place on, as far as the channel has it.
+/// Reads the fields after the head in a line on `w` lanes, starting at `at`: those that the channel
+/// has.
 #[inline(always)]
 pub fn read_rest<const N: usize>(
     text: &[u8],
@@ -66,7 +67,7 @@ pub fn read_rest<const N: usize>(
             bad: mask.bad,
         };
     }
-    // behind the mask alone
+    // after the mask
     let data_at = at + rest_len(masked, false, w);
     let bad = lanes_field::<N>(text, data_at, w, lanes);
     let corrupt = field(text, data_at + 1 + 2 * w, 1);
@@ -77,7 +78,8 @@ pub fn read_rest<const N: usize>(
     }
 }
 
-/// The beat of a line of the channel on `w` lanes, without its LF.
+/// Returns the beat of a line of the channel on `w` lanes, without its LF. Errors: `Length`,
+/// `Shape` or `Range`, the first that applies.
 #[inline(always)]
 pub fn read_beat<K: ReadHead, const N: usize, const VERSION: u8>(
     text: &[u8],

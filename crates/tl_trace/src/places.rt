@@ -1,6 +1,6 @@
-//! Where the fields of a line stand, and how long it is: behind its letter come a space and the field's digits for each
-//! field, one after the other. All places and lengths follow from the digits of the fields, and so from the version of
-//! the trace, whose ids have as many digits as it says.
+//! The positions of the fields in a line, and its length. After the letter come the fields, each
+//! with a space and its digits. So all positions and lengths follow from the numbers of digits,
+//! which depend on the version of the trace.
 ghost use Rattle.std.specs.Prelude.{◌≡◌, ◌≤◌, ◌<◌, ◌+◌, ◌/◌};
 ghost use Rattle.tl_lanes.specs.declared.limits.TheConstants.{WIDEST};
 ghost use Rattle.tl_trace.specs.Fields.{id_digits, common, addressed, length_of};
@@ -9,41 +9,44 @@ ghost use Rattle.tl_trace.specs.declared.places.TheConstants.{MOST_ID_DIGITS, LO
 
 use tl_lanes::WIDEST;
 
-/// The digits of an address.
+/// The number of digits of an address.
 pub const ADDRESS_DIGITS: usize = 16;
 
-/// The first field of a line, behind its letter: the opcode, on E the sink.
+/// The position of the first field of a line, after its letter: the opcode, or the sink on E.
 pub const FIRST_AT: usize = 1;
 
-/// The param, behind the one digit of the opcode.
+/// The position of the param, after the one digit of the opcode.
 pub const PARAM_AT: usize = FIRST_AT + 2;
 
-/// The size, behind the one digit of the param.
+/// The position of the size, after the one digit of the param.
 pub const SIZE_AT: usize = PARAM_AT + 2;
 
-/// The source, behind the one digit of the size.
+/// The position of the source, after the one digit of the size.
 pub const SOURCE_AT: usize = SIZE_AT + 2;
 
-/// The most digits of a source or of a sink, those of version 2.
+/// The largest number of digits of a source or sink: that of version 2.
 pub const MOST_ID_DIGITS: usize = 4;
 
-/// The most bytes of what the heads of A to D begin with, the letter to the source.
+/// The largest number of bytes of the beginning of a head of A to D, from the letter to the source.
 pub const LONGEST_COMMON: usize = SOURCE_AT + 1 + MOST_ID_DIGITS;
 
-/// The most bytes of a head, those of A, B and C in version 2.
+/// The largest number of bytes of a head: that of A, B and C in version 2.
 pub const LONGEST_HEAD: usize = LONGEST_COMMON + 1 + ADDRESS_DIGITS;
 
-/// The most bytes of a mask, with its space: a digit for four lanes.
+/// The largest number of bytes of a mask, with its space: one digit for four lanes.
 pub const LONGEST_MASK: usize = 1 + WIDEST / 4;
 
-/// The most bytes of data and corrupt, each with its space: two digits for a lane, and one.
+/// The largest number of bytes of data and corrupt, each with its space: two digits for a lane, and
+/// one.
 pub const LONGEST_DATA: usize = 1 + 2 * WIDEST + 2;
 
-/// The bytes of the longest line with its LF, that of A or B on the widest bus in version 2 (this project's choice).
+/// The number of bytes of the longest line with its LF: that of A or B on the widest bus in version
+/// 2
+/// (this project's choice).
 pub const LONGEST_LINE: usize = LONGEST_HEAD + LONGEST_MASK + LONGEST_DATA + 1;
 
-/// The digits of a source or of a sink in a trace of this version: two in version 1, four in every other (this project's
-/// choice).
+/// Returns the number of digits of a source or sink in a trace of this version: two in version 1,
+/// otherwise four (this project's choice).
 #[inline]
 pub fn id_digits(version: u8) -> usize
     ensures digits { result ≡ id_digits version }
@@ -52,7 +55,8 @@ pub fn id_digits(version: u8) -> usize
     if version == 1 { 2 } else { 4 }
 }
 
-/// The end of the fields that the heads of A to D begin with: the address on A, B and C, the sink on D.
+/// Returns the position after the fields that the heads of A to D begin with. The address comes
+/// there on A, B and C, the sink on D.
 #[inline]
 pub fn common_end(version: u8) -> usize
     ensures end { result ≡ 1 + length_of 0 (common version) }
@@ -61,7 +65,7 @@ pub fn common_end(version: u8) -> usize
     SOURCE_AT + 1 + id_digits(version)
 }
 
-/// The end of a head with an address.
+/// Returns the position after a head with an address.
 #[inline]
 pub fn addressed_end(version: u8) -> usize
     ensures end { result ≡ 1 + length_of 0 (addressed version) }
@@ -70,7 +74,7 @@ pub fn addressed_end(version: u8) -> usize
     common_end(version) + 1 + ADDRESS_DIGITS
 }
 
-/// The digits of the mask of `w` lanes.
+/// Returns the number of digits of a mask of `w` lanes.
 pub fn mask_digits(w: usize) -> usize
     requires { w ≤ WIDEST }
     ensures { result ≡ (w + 3) / 4 }
@@ -78,7 +82,7 @@ pub fn mask_digits(w: usize) -> usize
     (w + 3) / 4
 }
 
-/// The bytes of what stands behind the head in a line on `w` lanes, without its LF.
+/// Returns the number of bytes after the head in a line on `w` lanes, without its LF.
 #[inline(always)]
 pub fn rest_len(masked: bool, has_data: bool, w: usize) -> usize
     requires { w ≤ WIDEST }

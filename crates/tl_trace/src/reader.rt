@@ -1,4 +1,4 @@
-//! From a text to its trace.
+//! Reads a text as a trace.
 ghost use Rattle.std.specs.Prelude.{ℕ, ◌≡◌, ◌≢◌, ◌≤◌, ◌<◌, ◌+◌, None, Some, ◌∷◌, drop, map, length, slice_index, IfOk, IfErr, MatchResult};
 ghost use Rattle.tl_trace.specs.Texts.{Tells};
 ghost use Rattle.tl_trace.specs.Faults.{cut, faults, body_fault, later_fault, IsFirstFault, IsReadableTo};
@@ -14,7 +14,7 @@ use std::alloc::Global;
 use tl_lanes::WIDEST;
 use tl_msg::{ChA, ChB, ChC, ChD, ChE};
 
-/// The place of the first LF from `at` on, or the text's length.
+/// Returns the position of the first LF from `at` on, or the length of the text if there is none.
 pub fn line_end(text: &[u8], at: usize) -> usize
     requires { at ≤ length text.now }
     ensures from { at ≤ result }
@@ -32,14 +32,14 @@ pub fn line_end(text: &[u8], at: usize) -> usize
     end
 }
 
-/// The letter that a line begins with, 0 of an empty one.
+/// Returns the first byte of a line, or 0 if it is empty.
 fn letter_of(text: &[u8]) -> u8
     ensures { result ≡ slice_index text.now 0 }
 {
     if text.is_empty() { 0 } else { text[0] }
 }
 
-/// The line of a beat that was read.
+/// Turns a beat that was read into a line.
 macro_rules! read_as {
     ($line:ident, $read:expr) => {
         match $read {
@@ -49,7 +49,7 @@ macro_rules! read_as {
     };
 }
 
-/// The beat of a later line, without its LF.
+/// Returns the beat of a line after the header, without its LF.
 fn read_line_in<const VERSION: u8>(
     text: &[u8],
     client: usize,
@@ -69,7 +69,8 @@ fn read_line_in<const VERSION: u8>(
     }
 }
 
-/// The same where the version is known only when the line is read.
+/// Returns the beat of a line after the header, without its LF, if the version is known only at run
+/// time.
 #[inline(never)]
 pub fn read_line(text: &[u8], version: u8, client: usize, manager: usize) -> Result<Line, TraceKind>
     requires { CanRead version client manager }
@@ -82,7 +83,7 @@ pub fn read_line(text: &[u8], version: u8, client: usize, manager: usize) -> Res
     }
 }
 
-/// The beats of the lines from `start` on, where the first of them is line 2.
+/// Returns the beats of the lines from `start` on, the first of which is line 2.
 fn read_lines(
     alloc: Global,
     text: &[u8],
@@ -126,8 +127,8 @@ fn read_lines(
     Ok(lines)
 }
 
-/// Reads a text of version 1 or 2. The trace is the one that the text tells. A fault is the first one of the text, with
-/// its line; `OutOfMemory` has a line behind the header's, up to which no line has a fault.
+/// Reads a text of version 1 or 2. Returns the trace of the text. Errors: the first fault of the
+/// text, with its line. `OutOfMemory` names a line after the header; no line up to it has a fault.
 pub fn read(alloc: Global, text: &[u8]) -> Result<Trace, TraceFault>
     ensures told { IfOk result (λ t.
         Tells text.now t.version t.client t.manager t.lines.items) }

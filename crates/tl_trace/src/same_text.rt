@@ -1,14 +1,14 @@
-//! Whether two texts are the same, eight bytes at a time.
+//! Compares two parts of a text, eight bytes at a time.
 ghost use Rattle.std.specs.Prelude.{◌≡◌, ◌≤◌, ◌+◌, true, length};
 ghost use Rattle.std.specs.Int.{w64, to_le_bytes};
 ghost use Rattle.std.specs.List.{slice_range};
 ghost use Rattle.tl_trace.specs.Inner.KnownHeads.{IsSameAt};
 ghost use Rattle.tl_trace.specs.declared.same_text.TheConstants.{WORD};
 
-/// The bytes of a word.
+/// The number of bytes of a word.
 const WORD: usize = 8;
 
-/// The word from a place on.
+/// Returns the word at `at`.
 #[inline(always)]
 fn word(text: &[u8], at: usize) -> u64
     requires { at + WORD ≤ length text.now }
@@ -26,9 +26,10 @@ fn word(text: &[u8], at: usize) -> u64
     ])
 }
 
-/// Whether so many bytes of a text from one place on are there, and are those from another place on.
+/// Returns true only if the text has `len` bytes from `at` on, and they are the same as those from
+/// `before` on.
 #[inline(always)]
-pub fn goes_on_as(text: &[u8], at: usize, before: usize, len: usize) -> bool
+pub fn repeats_at(text: &[u8], at: usize, before: usize, len: usize) -> bool
     requires { (at ≤ length text.now) × (before + len ≤ length text.now) }
     ensures { result ≡ true → IsSameAt text.now at before len }
 {
@@ -45,6 +46,6 @@ pub fn goes_on_as(text: &[u8], at: usize, before: usize, len: usize) -> bool
             return false;
         }
     }
-    // the last word may begin within the one before it
+    // the last word may overlap the one before it
     word(one, len - WORD) == word(other, len - WORD)
 }

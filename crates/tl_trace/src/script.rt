@@ -1,7 +1,7 @@
 //! The beats of a trace by channel.
 ghost use Rattle.std.specs.Prelude.{◌≡◌, ◌≤◌, ◌++◌, ◌∷◌, [], drop, length, IfOk, IfErr, OnOk};
 ghost use Rattle.tl_lanes.specs.declared.limits.TheConstants.{WIDEST};
-ghost use Rattle.tl_trace.specs.Scripts.{HasCounts, HasLetGo, IsScriptOf, on_lanes};
+ghost use Rattle.tl_trace.specs.Scripts.{HasCounts, HasRemoved, IsScriptOf, on_lanes};
 ghost use Rattle.tl_trace.specs.Inner.Reading.{IsPushed, IsSameScript};
 ghost use Rattle.tl_lanes.specs.Lanes.{IsWidth};
 
@@ -13,22 +13,23 @@ use tl_msg::{
     Beat, BeatOf, ChA, ChB, ChC, ChD, ChE, HeadA, HeadB, HeadC, HeadD, HeadE, OutOfMemory,
 };
 
-/// The near beats of the five channels, each on its sender's lanes. The order between channels has no meaning.
+/// The near beats of the five channels, each on its sender's lanes. The order between channels has
+/// no meaning.
 #[derive(Drop)]
 pub struct Script<const C: usize, const M: usize> {
-    /// What the client side sends on A, on its `C` lanes, in order.
+    /// The beats that the client side sends on A, on its `C` lanes, in order.
     pub a: Vec<Beat<ChA, C>>,
-    /// What the manager side sends on B, on its `M` lanes, in order.
+    /// The beats that the manager side sends on B, on its `M` lanes, in order.
     pub b: Vec<Beat<ChB, M>>,
-    /// What the client side sends on C, on its `C` lanes, in order.
+    /// The beats that the client side sends on C, on its `C` lanes, in order.
     pub c: Vec<Beat<ChC, C>>,
-    /// What the manager side sends on D, on its `M` lanes, in order.
+    /// The beats that the manager side sends on D, on its `M` lanes, in order.
     pub d: Vec<Beat<ChD, M>>,
-    /// What the client side sends on E, in order.
+    /// The beats that the client side sends on E, in order.
     pub e: Vec<Beat<ChE, C>>,
 }
 
-/// How many beats of each channel.
+/// A number of beats for each channel.
 #[derive(Clone, Copy)]
 pub struct Counts {
     pub a: usize,
@@ -38,13 +39,13 @@ pub struct Counts {
     pub e: usize,
 }
 
-/// Lets so many of the first items of a list go.
+/// Removes the first `count` items of a list. Requires a list of at least `count` items.
 #[inline(never)]
-fn let_first_go<T: Copy>(list: &mut Vec<T>, count: usize)
+fn remove_front_of<T: Copy>(list: &mut Vec<T>, count: usize)
     requires { count ≤ length list.old.items }
     ensures { list.new.items ≡ drop count list.old.items }
 {
-    // what stays where it is costs nothing
+    // nothing to move
     if count == 0 {
         return;
     }
@@ -54,23 +55,27 @@ fn let_first_go<T: Copy>(list: &mut Vec<T>, count: usize)
 }
 
 impl<const C: usize, const M: usize> Script<C, M> {
-    /// Lets so many of the first beats of each list go. It moves those that stay, so that it costs no
-    /// more than it takes where at least half of a list goes, or none.
-    pub fn let_go(&mut self, counts: &Counts)
+    /// Removes the first `counts` beats of each list and moves the rest to the front. A call that
+    /// removes at least half of each list, or nothing, moves no more beats than it removes.
+    ///
+    /// Requires: each list has at least as many beats as are removed, and `C` and `M` are at most
+    /// `WIDEST`.
+    pub fn remove_front(&mut self, counts: &Counts)
         requires client { C ≤ WIDEST }
         requires manager { M ≤ WIDEST }
         requires counts { HasCounts counts.now self.old }
-        ensures { HasLetGo counts.now self.old self.new }
+        ensures { HasRemoved counts.now self.old self.new }
     {
-        let_first_go(&mut self.a, counts.a);
-        let_first_go(&mut self.b, counts.b);
-        let_first_go(&mut self.c, counts.c);
-        let_first_go(&mut self.d, counts.d);
-        let_first_go(&mut self.e, counts.e);
+        remove_front_of(&mut self.a, counts.a);
+        remove_front_of(&mut self.b, counts.b);
+        remove_front_of(&mut self.c, counts.c);
+        remove_front_of(&mut self.d, counts.d);
+        remove_front_of(&mut self.e, counts.e);
     }
 }
 
-/// Appends the first `W` lanes of a beat to a list.
+/// Appends the first `W` lanes of a beat to a list. If the allocation fails, the list stays as it
+/// was.
 fn push_beat<H: Copy, const W: usize>(
     list: &mut Vec<BeatOf<H, W>>,
     beat: &BeatOf<H, WIDEST>,
@@ -93,8 +98,8 @@ fn push_beat<H: Copy, const W: usize>(
     }
 }
 
-/// Appends the beat of a line to the list of its channel, on its sender's lanes. Where that is refused,
-/// the lists stay as they were.
+/// Appends the beat of a line to the list of its channel, on its sender's lanes. If the allocation
+/// fails, the lists stay as they were.
 pub fn push_beat_of<const C: usize, const M: usize>(
     script: &mut Script<C, M>,
     line: &Line,
@@ -113,7 +118,7 @@ pub fn push_beat_of<const C: usize, const M: usize>(
     }
 }
 
-/// A script without beats.
+/// Returns a script without beats.
 pub fn empty_script<const C: usize, const M: usize>(alloc: Global) -> Script<C, M>
     ensures { IsScriptOf [] result }
 {
@@ -126,7 +131,8 @@ pub fn empty_script<const C: usize, const M: usize>(alloc: Global) -> Script<C, 
     }
 }
 
-/// The beats of a trace of these widths by channel, each channel's in the order of its lines.
+/// Returns the beats of a trace by channel, on each channel in the order of its lines. Errors:
+/// `OutOfMemory`. Requires: `C` and `M` are widths, and they are the widths of the trace.
 pub fn script_of<const C: usize, const M: usize>(
     alloc: Global,
     trace: &Trace,

@@ -1,8 +1,8 @@
-//! From a text to its script.
+//! Reads a text as a script.
 ghost use Rattle.std.specs.Prelude.{ℕ, true, false, ◌≡◌, ◌≢◌, ◌≤◌, ◌<◌, ◌+◌, ◌^◌, ◌++◌, None, Some, List, [], drop, take, length, IfSome, IfOk, IfErr, IsOk, MatchOption, MatchResult};
 ghost use Rattle.std.specs.List.{list_any, slice_range};
 ghost use Rattle.tl_lanes.specs.declared.limits.TheConstants.{WIDEST};
-ghost use Rattle.tl_trace.specs.Scripts.{Gone, TellsScript, HasCounts, HasGrown, HasLetGo, HasRead, HasReadPast, HasStopped, IsHeaderLine, IsUnfinished, more_gone};
+ghost use Rattle.tl_trace.specs.Scripts.{Discarded, TellsScript, HasCounts, HasGrown, HasRemoved, HasRead, HasReadPast, HasStopped, IsHeaderLine, IsUnfinished, more_discarded};
 ghost use Rattle.tl_trace.specs.Texts.{is_version};
 ghost use Rattle.tl_trace.specs.Faults.{is_newline, body, header_of, HasHeader, IsFirstFault, IsReadableTo};
 ghost use Rattle.tl_trace.specs.Inner.KnownHeads.{head_length, AreKnown, HasHead, IsKnown};
@@ -16,35 +16,37 @@ use crate::known_head::{KnownHead, LastHeads, head_at, no_heads};
 use crate::line_reader::{are_in_range, read_rest};
 use crate::places::{LONGEST_LINE, rest_len};
 use crate::reader::{line_end, read_line};
-use crate::same_text::goes_on_as;
+use crate::same_text::repeats_at;
 use crate::script::{Counts, Script, empty_script, push_beat_of};
 use std::alloc::Global;
 use tl_msg::{Beat, BeatOf, ChA, ChB, ChC, ChD, ChE};
 
-/// What the first line of a text names; `None` where it is no header.
+/// Returns the header of a text, or `None` if its first line is not a header.
 pub fn header_of_text(text: &[u8]) -> Option<Header>
     ensures { result ≡ header_of (body text.now) }
 {
     header_of(&text[..line_end(text, 0)])
 }
 
-/// How many lines were pushed, one behind the other, and the place behind the last of them.
+/// The number of consecutive lines whose beats were appended, and the position after the last of
+/// them.
 #[derive(Clone, Copy)]
-pub struct PushedLines {
+pub struct ParsedLines {
     pub count: usize,
     pub place: usize,
 }
 
-/// Puts the beat of the line from `at` on, which begins with this head, behind those of its channel, and gives the line's
-/// end. `None`, and the list as it was, where the rest of the line has a fault, where its LF is not at its place, and
-/// where a growth is refused, which `no_room` then says.
+/// Appends the beat of the line at `at`, which begins with this head, to the list of its channel.
+/// Returns the position of the line's LF. Returns `None`, and leaves the list as it was, if the
+/// rest of the line has a fault, if its LF is not at its position, or if an allocation fails. In
+/// the last case it also sets `out_of_memory`.
 #[inline(always)]
 fn push_line<K: ReadHead, const W: usize, const VERSION: u8>(
     list: &mut Vec<Beat<K, W>>,
     head: K::Head,
     text: &[u8],
     at: usize,
-    no_room: &mut bool,
+    out_of_memory: &mut bool,
 ) -> Option<usize>
     requires { CanPush (K.form VERSION) W text.now at × HasHead (K.form VERSION) VERSION
         (slice_range text.now at (at + head_length (K.form VERSION))) head }
@@ -71,34 +73,35 @@ fn push_line<K: ReadHead, const W: usize, const VERSION: u8>(
         corrupt: rest.corrupt == 1,
     };
     if list.push(beat).is_err() {
-        *no_room = true;
+        *out_of_memory = true;
         return None;
     }
     Some(at + long)
 }
 
-/// Puts the beats of the line from `at` on, and of those right behind it whose heads have the same text, behind those of
-/// their channel. It ends before a line that has a fault or whose LF is not at its place, and where a growth is refused,
-/// which `no_room` then says, so that it is not asked for again. The head is not read where that of the last line of the
-/// channel has the same text.
+/// Appends the beats of the line at `at`, and of the lines directly after it whose heads have the
+/// same text, to the list of their channel. Stops before a line that has a fault or whose LF is not
+/// at its position. If an allocation fails, it stops and sets `out_of_memory`, so that no further
+/// allocation is tried. The head is not read again if the last line of the channel has a head with
+/// the same text.
 #[inline(never)]
 fn push_lines<K: ReadHead, const W: usize, const VERSION: u8>(
     list: &mut Vec<Beat<K, W>>,
     last: &mut Option<KnownHead<K::Head>>,
     text: &[u8],
     at: usize,
-    no_room: &mut bool,
-) -> PushedLines
+    out_of_memory: &mut bool,
+) -> ParsedLines
     requires { CanPush (K.form VERSION) W text.now at × IfSome last.old (IsKnown (K.form VERSION) VERSION text.now) }
     ensures pushed { AreLinesPushed (K.form VERSION) W text.now at list.old list.new result }
     ensures known { IfSome last.new (IsKnown (K.form VERSION) VERSION text.now) }
 {
     let len = K::head_end(VERSION);
-    let mut lines = PushedLines {
+    let mut lines = ParsedLines {
         count: 0,
         place: at,
     };
-    if *no_room || len > text.len() - at {
+    if *out_of_memory || len > text.len() - at {
         return lines;
     }
     let Some(head) = head_at::<K, VERSION>(text, at, last) else {
@@ -109,54 +112,66 @@ fn push_lines<K: ReadHead, const W: usize, const VERSION: u8>(
         head,
         text,
         lines.place,
-        no_room,
+        out_of_memory,
     ) {
         lines.count += 1;
         lines.place = end + 1;
-        if !goes_on_as(text, lines.place, at, len) {
+        if !repeats_at(text, lines.place, at, len) {
             break;
         }
     }
     lines
 }
 
-/// The same for lines of any channel: none, where the letter of the first one is none of the five, too.
+/// Appends the beats of consecutive lines like `push_lines`, for any channel. Appends none if the
+/// letter of the first line is not that of a channel.
 #[inline(always)]
 fn push_next<const C: usize, const M: usize, const VERSION: u8>(
     script: &mut Script<C, M>,
     heads: &mut LastHeads,
     text: &[u8],
     at: usize,
-    no_room: &mut bool,
-) -> PushedLines
+    out_of_memory: &mut bool,
+) -> ParsedLines
     requires { CanRead VERSION C M × (at < length text.now) × AreKnown VERSION text.now heads.old }
     ensures pushed { AreNextPushed VERSION text.now at script.old script.new result }
     ensures known { AreKnown VERSION text.now heads.new }
 {
     match text[at] {
-        b'A' => { push_lines::<ChA, C, VERSION>(&mut script.a, &mut heads.a, text, at, no_room) }
-        b'B' => { push_lines::<ChB, M, VERSION>(&mut script.b, &mut heads.b, text, at, no_room) }
-        b'C' => { push_lines::<ChC, C, VERSION>(&mut script.c, &mut heads.c, text, at, no_room) }
-        b'D' => { push_lines::<ChD, M, VERSION>(&mut script.d, &mut heads.d, text, at, no_room) }
-        b'E' => { push_lines::<ChE, C, VERSION>(&mut script.e, &mut heads.e, text, at, no_room) }
-        _ => PushedLines {
+        b'A' => {
+            push_lines::<ChA, C, VERSION>(&mut script.a, &mut heads.a, text, at, out_of_memory)
+        }
+        b'B' => {
+            push_lines::<ChB, M, VERSION>(&mut script.b, &mut heads.b, text, at, out_of_memory)
+        }
+        b'C' => {
+            push_lines::<ChC, C, VERSION>(&mut script.c, &mut heads.c, text, at, out_of_memory)
+        }
+        b'D' => {
+            push_lines::<ChD, M, VERSION>(&mut script.d, &mut heads.d, text, at, out_of_memory)
+        }
+        b'E' => {
+            push_lines::<ChE, C, VERSION>(&mut script.e, &mut heads.e, text, at, out_of_memory)
+        }
+        _ => ParsedLines {
             count: 0,
             place: at,
         },
     }
 }
 
-/// The same by the reader that names the fault of a line, for what that one does not take: the line's end, or `None` where
-/// the piece ends within it.
+/// Appends the beat of a line that `push_next` did not take, with the reader that names its fault.
+/// Returns the position of the line's end, or `None` if the piece ends within the line.
 ///
-/// A line without its LF is left, unless it is too long for a line: then it is refused.
+/// A line without its LF is left for later, unless it is longer than any line can be: then it is
+/// refused.
 #[inline(never)]
-fn push_slowly<const C: usize, const M: usize>(
+fn push_with_diagnostics<const C: usize, const M: usize>(
     script: &mut Script<C, M>,
     piece: &[u8],
     at: usize,
     version: u8,
-    no_room: bool,
+    out_of_memory: bool,
 ) -> Result<Option<usize>, TraceKind>
     requires { CanRead version C M × (at < length piece.now) }
     ensures { MatchResult result (λ end. MatchOption end (IsLeft piece.now at script.old script.new)
@@ -171,22 +186,23 @@ fn push_slowly<const C: usize, const M: usize>(
         Ok(line) => line,
         Err(kind) => return Err(kind),
     };
-    if no_room || push_beat_of(script, &line).is_err() {
+    if out_of_memory || push_beat_of(script, &line).is_err() {
         return Err(TraceKind::OutOfMemory);
     }
     Ok(Some(end))
 }
 
-/// Reads a text piece by piece, from its lines straight into the lists of a script, with no trace
-/// between them: the text never has to stand in memory whole.
+/// Reads a text incrementally, from its lines directly into the lists of a script. It builds no
+/// trace, and the text never has to be in memory as a whole.
 ///
-/// In contracts it stands for the part of the text that was read, which are whole lines, the
-/// header's among them (`HasRead`): none of them has a fault, and the script has their beats, but for
-/// those that were let go (`HasReadPast`). Of a piece `read` takes the whole lines. What it leaves has to stand before the next piece, and at the
-/// end of the text `end_fault` judges it.
+/// In contracts it stands for the part of the text that it has read, which consists of whole lines,
+/// including the header (`HasRead`). None of these lines has a fault, and the script has their
+/// beats, except for those that were removed (`HasReadPast`). `read` takes the whole lines of a
+/// piece. The caller puts the bytes that it leaves before the next piece; at the end of the text,
+/// `end_fault` judges them.
 #[derive(Drop)]
 pub struct ScriptReader<const C: usize, const M: usize> {
-    /// The beats of the lines that were read.
+    /// The beats of the lines that were read, without those that were removed.
     pub script: Script<C, M>,
     /// The version of the trace, 1 or 2.
     pub version: u8,
@@ -194,7 +210,7 @@ pub struct ScriptReader<const C: usize, const M: usize> {
     pub line: u64,
 }
 
-/// The fault of the line behind the one with this number.
+/// Returns this fault, of the line after line number `last`.
 fn fault_behind(last: u64, kind: TraceKind) -> TraceFault
     requires { last + 1 < 2 ^ 64 }
     ensures line { result.line ≡ last + 1 }
@@ -215,7 +231,7 @@ fn read_beats<const C: usize, const M: usize, const VERSION: u8>(
         reader.new.line result }
 {
     let mut at = 0;
-    let mut no_room = false;
+    let mut out_of_memory = false;
     let mut heads = no_heads();
     while at < piece.len() {
         let lines = push_next::<C, M, VERSION>(
@@ -223,14 +239,14 @@ fn read_beats<const C: usize, const M: usize, const VERSION: u8>(
             &mut heads,
             piece,
             at,
-            &mut no_room,
+            &mut out_of_memory,
         );
         if lines.count > 0 {
             at = lines.place;
             reader.line += lines.count as u64;
             continue;
         }
-        match push_slowly(&mut reader.script, piece, at, VERSION, no_room) {
+        match push_with_diagnostics(&mut reader.script, piece, at, VERSION, out_of_memory) {
             Ok(Some(end)) => {
                 at = end + 1;
                 reader.line += 1;
@@ -243,7 +259,7 @@ fn read_beats<const C: usize, const M: usize, const VERSION: u8>(
 }
 
 impl<const C: usize, const M: usize> ScriptReader<C, M> {
-    /// One that has read the line of the header, which names this version and these widths.
+    /// Creates a reader that has read the header line, which names this version and these widths.
     pub fn new(alloc: Global, version: u8) -> Self
         ensures version { result.version ≡ version }
         ensures line { result.line ≡ 1 }
@@ -257,13 +273,14 @@ impl<const C: usize, const M: usize> ScriptReader<C, M> {
         }
     }
 
-    /// Reads the whole lines of a piece of the text, and says how many bytes these are: what is left
-    /// of the piece is a line without its LF, shorter than [`LONGEST_LINE`](crate::LONGEST_LINE), or
-    /// nothing.
+    /// Reads the whole lines of a piece of the text. Returns how many bytes they have. The rest of
+    /// the piece is empty, or is a line without its LF that is shorter than
+    /// [`LONGEST_LINE`](crate::LONGEST_LINE).
     ///
-    /// Refused with the first fault of the text, whatever comes behind the piece, or with
-    /// `OutOfMemory`, which names the line after those that were read. It then stands for the lines
-    /// before the one that is named, those of the piece among them.
+    /// Errors: the first fault of the text, whatever comes after the piece; or `OutOfMemory`, which
+    /// names the line after those that were read. Afterwards the reader stands for the lines before
+    /// the line that is named, including those of this piece. Requires: the version is 1 or 2, `C`
+    /// and `M` are at most `WIDEST`, and the line numbers stay below `2^64`.
     pub fn read(&mut self, piece: &[u8]) -> Result<usize, TraceFault>
         requires version { is_version self.old.version ≡ true }
         requires client { C ≤ WIDEST }
@@ -275,22 +292,22 @@ impl<const C: usize, const M: usize> ScriptReader<C, M> {
         ensures rest { IfOk result (λ used. IsUnfinished (drop used piece.now)) }
         ensures grown { IsOk result → HasGrown self.old.script self.new.script }
 
-        // for every part of the text that it stood for, and the beats that have gone
-        ensures told { (done : List ℕ) (gone : Gone C M) →
-            HasReadPast self.old.version done gone self.old.script self.old.line →
-            IfOk result (λ used. HasReadPast self.old.version (done ++ take used piece.now) gone
+        // for every part of the text that it stood for, and the beats that were removed
+        ensures told { (done : List ℕ) (discarded : Discarded C M) →
+            HasReadPast self.old.version done discarded self.old.script self.old.line →
+            IfOk result (λ used. HasReadPast self.old.version (done ++ take used piece.now) discarded
             self.new.script self.new.line) }
-        ensures fault { (done more : List ℕ) (gone : Gone C M) →
-            HasReadPast self.old.version done gone self.old.script self.old.line →
+        ensures fault { (done more : List ℕ) (discarded : Discarded C M) →
+            HasReadPast self.old.version done discarded self.old.script self.old.line →
             IfErr result (λ e. e.kind ≢ OutOfMemory →
             IsFirstFault (done ++ piece.now ++ more) e.line e.kind) }
-        ensures memory { (done more : List ℕ) (gone : Gone C M) →
-            HasReadPast self.old.version done gone self.old.script self.old.line →
+        ensures memory { (done more : List ℕ) (discarded : Discarded C M) →
+            HasReadPast self.old.version done discarded self.old.script self.old.line →
             IfErr result (λ e. e.kind ≡ OutOfMemory →
             IsReadableTo (done ++ piece.now ++ more) e.line) }
-        ensures stopped { (done : List ℕ) (gone : Gone C M) →
-            HasReadPast self.old.version done gone self.old.script self.old.line →
-            IfErr result (λ e. HasStopped self.old.version done piece.now gone
+        ensures stopped { (done : List ℕ) (discarded : Discarded C M) →
+            HasReadPast self.old.version done discarded self.old.script self.old.line →
+            IfErr result (λ e. HasStopped self.old.version done piece.now discarded
             self.new.script self.new.line e.line) }
     {
         match self.version {
@@ -299,23 +316,25 @@ impl<const C: usize, const M: usize> ScriptReader<C, M> {
         }
     }
 
-    /// Lets so many of the first beats of each list go, and stands for the same text (`HasReadPast`).
-    pub fn let_go(&mut self, counts: &Counts)
+    /// Removes the first `counts` beats of each list. The reader still stands for the same text
+    /// (`HasReadPast`). Requires: each list has at least as many beats as are removed.
+    pub fn remove_front(&mut self, counts: &Counts)
         requires client { C ≤ WIDEST }
         requires manager { M ≤ WIDEST }
         requires counts { HasCounts counts.now self.old.script }
         ensures version { self.new.version ≡ self.old.version }
         ensures line { self.new.line ≡ self.old.line }
-        ensures left { HasLetGo counts.now self.old.script self.new.script }
-        ensures told { (done : List ℕ) (gone : Gone C M) →
-            HasReadPast self.old.version done gone self.old.script self.old.line →
-            HasReadPast self.old.version done (more_gone gone counts.now self.old.script)
+        ensures left { HasRemoved counts.now self.old.script self.new.script }
+        ensures told { (done : List ℕ) (discarded : Discarded C M) →
+            HasReadPast self.old.version done discarded self.old.script self.old.line →
+            HasReadPast self.old.version done (more_discarded discarded counts.now self.old.script)
             self.new.script self.new.line }
     {
-        self.script.let_go(counts);
+        self.script.remove_front(counts);
     }
 
-    /// The fault of the text where it ends with what `read` left: `None` where that is nothing.
+    /// Returns the fault of a text that ends with `rest`, which is what `read` left. Returns `None`
+    /// only if `rest` is empty. Requires: `rest` contains no LF.
     pub fn end_fault(&self, rest: &[u8]) -> Option<TraceFault>
         requires version { is_version self.now.version ≡ true }
         requires client { C ≤ WIDEST }
@@ -325,9 +344,9 @@ impl<const C: usize, const M: usize> ScriptReader<C, M> {
         ensures none { result ≡ None → rest.now ≡ [] }
         ensures kind { IfSome result (λ e. e.kind ≢ OutOfMemory) }
 
-        // for every part of the text that it stood for, and the beats that have gone
-        ensures fault { (done : List ℕ) (gone : Gone C M) →
-            HasReadPast self.now.version done gone self.now.script self.now.line →
+        // for every part of the text that it stood for, and the beats that were removed
+        ensures fault { (done : List ℕ) (discarded : Discarded C M) →
+            HasReadPast self.now.version done discarded self.now.script self.now.line →
             IfSome result (λ e. IsFirstFault (done ++ rest.now) e.line e.kind) }
     {
         if rest.is_empty() {
@@ -344,15 +363,16 @@ impl<const C: usize, const M: usize> ScriptReader<C, M> {
     }
 }
 
-/// What a header says of the version and the widths that it names.
+/// Lemma: the version of a header is 1 or 2, and its widths are at most the widest.
 #[inline(always)]
-fn known_header<const C: usize, const M: usize>(_text: &[u8], _version: u8)
+fn lemma_known_header<const C: usize, const M: usize>(_text: &[u8], _version: u8)
     requires { HasHeader _text.now _version C M }
     ensures { CanRead _version C M }
 {}
 
-/// Reads a text whose first line names this version and these widths, from its lines straight into the lists of a script,
-/// with no trace between them. The script is that of the trace that the text tells; a fault is what `read` says it is.
+/// Reads a text whose first line names this version and these widths, from its lines directly into
+/// the lists of a script, without a trace. Returns the script of the text's trace. Errors: as
+/// `read`.
 pub fn read_script<const C: usize, const M: usize>(
     alloc: Global,
     text: &[u8],
@@ -370,7 +390,7 @@ pub fn read_script<const C: usize, const M: usize>(
             kind: TraceKind::NoEnd,
         });
     }
-    known_header::<C, M>(text, version);
+    lemma_known_header::<C, M>(text, version);
     let later = &text[end + 1..];
     let mut reader = ScriptReader::<C, M>::new(alloc, version);
     let used = match reader.read(later) {

@@ -1,4 +1,4 @@
-//! Digits, fields and words, put into a line or a piece of text.
+//! Functions that write digits, fields and words to a line or a piece of text.
 ghost use Rattle.std.specs.Prelude.{◌≡◌, ◌≤◌, ◌<◌, ◌+◌, ◌*◌, ◌%◌, ◌/◌, ◌++◌, ◌∷◌, [], take, length, decimal};
 ghost use Rattle.std.specs.Char.{digit_char};
 ghost use Rattle.tl_lanes.specs.declared.limits.TheConstants.{WIDEST};
@@ -12,11 +12,11 @@ use crate::places::LONGEST_LINE;
 use arrayvec::ArrayVec;
 use tl_lanes::Mask;
 
-/// Room for the longest line.
+/// A text with the capacity of the longest line.
 pub type Text = ArrayVec<u8, LONGEST_LINE>;
 
-/// Where a line is written: the places from the first up to one have its bytes so far.
-pub type Room = [u8; LONGEST_LINE];
+/// A buffer for one line, which is written from its start.
+pub type LineBuffer = [u8; LONGEST_LINE];
 
 /// The two digits of each byte, one after the other.
 static PAIRS: [u8; 512] = [
@@ -45,21 +45,21 @@ static PAIRS: [u8; 512] = [
     57, 102, 97, 102, 98, 102, 99, 102, 100, 102, 101, 102, 102,
 ];
 
-/// The digit of the lowest 4 bits.
+/// Returns the digit of the lowest 4 bits.
 pub fn low_digit(value: u8) -> u8
     ensures { result ≡ digit_char (value % 16) }
 {
     PAIRS[2 * value as usize + 1]
 }
 
-/// The digit of the 4 bits above the lowest.
+/// Returns the digit of the highest 4 bits.
 pub fn high_digit(value: u8) -> u8
     ensures { result ≡ digit_char (value / 16 % 16) }
 {
     PAIRS[2 * value as usize]
 }
 
-/// Writes the lowest digits of a number, two at a time from the last on.
+/// Writes the lowest `count` digits of a number, two at a time from the last one on.
 #[inline(always)]
 fn write_digits(digits: &mut [u8], value: u64, count: usize)
     requires { length digits.old ≡ count }
@@ -92,7 +92,7 @@ fn write_lanes(digits: &mut [u8], lanes: &[u8], w: usize)
     }
 }
 
-/// Writes bytes at a place of a line, and gives the place behind them.
+/// Writes bytes to a line at `at`. Returns the position after them.
 #[inline(always)]
 pub fn fill(line: &mut [u8], at: usize, bytes: &[u8]) -> usize
     requires { at + length bytes.now ≤ length line.old }
@@ -104,7 +104,8 @@ pub fn fill(line: &mut [u8], at: usize, bytes: &[u8]) -> usize
     end
 }
 
-/// Writes a space and so many digits of a number, and gives the place behind them.
+/// Writes a space and `count` digits of a number to a line at `at`. Returns the position after
+/// them.
 #[inline(always)]
 pub fn fill_field(line: &mut [u8], at: usize, value: u64, count: usize) -> usize
     requires { at + 1 + count ≤ length line.old }
@@ -117,7 +118,8 @@ pub fn fill_field(line: &mut [u8], at: usize, value: u64, count: usize) -> usize
     end
 }
 
-/// The same of a mask. Digits for which a `u64` has no room are written apart from the last for which it has.
+/// Writes a space and `count` digits of a mask to a line at `at`. Returns the position after them.
+/// If the mask has more than 16 digits, the last 16 are written separately.
 #[inline(always)]
 pub fn fill_mask_field(line: &mut [u8], at: usize, mask: Mask, count: usize) -> usize
     requires few { count ≤ WIDEST / 4 }
@@ -135,7 +137,8 @@ pub fn fill_mask_field(line: &mut [u8], at: usize, mask: Mask, count: usize) -> 
     end
 }
 
-/// Writes a space and two digits for each of the first `w` lanes, and gives the place behind them.
+/// Writes a space and two digits for each of the first `w` lanes, highest lane first. Returns the
+/// position after them.
 #[inline(always)]
 pub fn fill_lanes(line: &mut [u8], at: usize, lanes: &[u8], w: usize) -> usize
     requires width { w ≤ WIDEST }
@@ -151,7 +154,7 @@ pub fn fill_lanes(line: &mut [u8], at: usize, lanes: &[u8], w: usize) -> usize
     end
 }
 
-/// Appends bytes, for which there is room.
+/// Appends bytes. Requires enough capacity.
 #[inline(always)]
 pub fn put<const N: usize>(text: &mut ArrayVec<u8, N>, bytes: &[u8])
     requires { array_vec_len text.old + length bytes.now ≤ N }
@@ -161,7 +164,7 @@ pub fn put<const N: usize>(text: &mut ArrayVec<u8, N>, bytes: &[u8])
     let _ = text.try_extend_from_slice(bytes);
 }
 
-/// Appends a byte.
+/// Appends a byte. Requires enough capacity.
 pub fn put_byte(text: &mut Text, byte: u8)
     requires { array_vec_len text.old + 1 ≤ LONGEST_LINE }
     ensures items { text.new.items ≡ text.old.items ++ byte ∷ [] }
@@ -170,7 +173,7 @@ pub fn put_byte(text: &mut Text, byte: u8)
     text.push(byte);
 }
 
-/// Appends a number in decimal.
+/// Appends a number in decimal. Requires enough capacity.
 pub fn put_decimal(text: &mut Text, value: u64)
     requires { array_vec_len text.old + length (decimal value) ≤ LONGEST_LINE }
     ensures items { text.new.items ≡ text.old.items ++ decimal value }

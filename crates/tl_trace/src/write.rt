@@ -1,4 +1,4 @@
-//! Writing lines, reports and traces.
+//! Functions that write lines, reports and traces.
 ghost use Rattle.std.specs.Prelude.{◌≡◌, ◌≤◌, ◌<◌, ◌+◌, ◌*◌, ◌++◌, ◌∷◌, [], take, length, decimal, OnOk, OnErr, IfOk};
 ghost use Rattle.tl_lanes.specs.declared.limits.TheConstants.{WIDEST};
 ghost use Rattle.arrayvec.specs.ArrayVec.{array_vec_len};
@@ -14,7 +14,7 @@ use crate::header::header_text;
 use crate::line::Line;
 use crate::places::{LONGEST_LINE, mask_digits, rest_len};
 use crate::text::{
-    Room, Text, fill, fill_field, fill_lanes, fill_mask_field, put, put_byte, put_decimal,
+    LineBuffer, Text, fill, fill_field, fill_lanes, fill_mask_field, put, put_byte, put_decimal,
 };
 use crate::trace::Trace;
 use arrayvec::ArrayVec;
@@ -22,7 +22,7 @@ use std::alloc::Global;
 use tl_lanes::{Mask, WIDEST};
 use tl_msg::{Beat, BeatOf, ChA, ChB, ChC, ChD, ChE, OutOfMemory, Verdict};
 
-/// Writes the mask of a channel that has one, and gives the place behind it.
+/// Writes the mask, if the channel has one. Returns the position after it.
 #[inline(always)]
 fn fill_mask(line: &mut [u8], at: usize, masked: bool, mask: Mask, w: usize) -> usize
     requires width { w ≤ WIDEST }
@@ -36,8 +36,9 @@ fn fill_mask(line: &mut [u8], at: usize, masked: bool, mask: Mask, w: usize) -> 
     fill_mask_field(line, at, mask, mask_digits(w))
 }
 
-/// Writes what stands behind the head in the line of a beat on the first `w` of its lanes, with its LF, and gives the
-/// line's length. Whether its channel has a mask, and data, is told here, so that this stands once for all channels.
+/// Writes the part of a beat's line after its head, on the first `w` of its lanes, with its LF.
+/// Returns the length of the line. `masked` and `has_data` are arguments so that one function
+/// serves all channels.
 #[inline(always)]
 fn fill_rest<H, const N: usize>(
     line: &mut [u8],
@@ -63,10 +64,10 @@ fn fill_rest<H, const N: usize>(
     fill(line, data, b"\n")
 }
 
-/// Writes the line of a beat on the first `w` of its lanes, with its LF, and gives its length.
+/// Writes the line of a beat on the first `w` of its lanes, with its LF. Returns its length.
 #[inline(always)]
 fn fill_line<K: HeadText, const N: usize>(
-    line: &mut Room,
+    line: &mut LineBuffer,
     beat: &Beat<K, N>,
     w: usize,
     version: u8,
@@ -80,9 +81,10 @@ fn fill_line<K: HeadText, const N: usize>(
     fill_rest(line, head, beat, K::MASKED, K::HAS_DATA, w)
 }
 
-/// The line of a beat on `W` lanes in a trace of this version, with its LF: at most [`LONGEST_LINE`] bytes, those of A and
-/// B on the widest bus in version 2. Ids have two digits in version 1 and four in every other. A field is written by its lowest digits, so the
-/// text of a beat that is writable in this version is its line.
+/// Returns the line of a beat on `W` lanes in a trace of this version, with its LF. It has at most
+/// [`LONGEST_LINE`] bytes, the length of A and B on the widest bus in version 2. Ids have two
+/// digits in version 1, otherwise four. Each field is written by its lowest digits, so a beat that
+/// is writable in this version is written as its line. Requires: `W` is a width.
 pub fn line_of<K: HeadText, const W: usize>(
     beat: &Beat<K, W>,
     version: u8,
@@ -97,19 +99,19 @@ pub fn line_of<K: HeadText, const W: usize>(
     text
 }
 
-/// Writes another head over that of a line.
+/// Writes another head over the head of a line.
 #[inline(never)]
-fn fill_other_head<K: HeadText>(line: &mut Room, head: &K::Head, version: u8) -> usize
+fn fill_other_head<K: HeadText>(line: &mut LineBuffer, head: &K::Head, version: u8) -> usize
     ensures items { take result line.new ≡ head_text (K.form version) head.now }
     ensures end { result ≤ LONGEST_HEAD }
 {
     K::fill_head(line, head, version)
 }
 
-/// Has the line, whose head ends at this place, begin with the next head.
+/// Makes the line, whose head ends at `at`, begin with the head `next`.
 #[inline(always)]
 fn change_head<K: HeadText>(
-    line: &mut Room,
+    line: &mut LineBuffer,
     at: usize,
     head: &mut K::Head,
     next: &K::Head,
@@ -125,12 +127,13 @@ fn change_head<K: HeadText>(
     }
 }
 
-/// Appends the line of a beat, by way of another line of its channel with the same head, which ends at this place. What
-/// is written here in small pieces is not read back: the other line is read alone, and stays as it is.
+/// Appends the line of a beat. `other` is a line of its channel with the same head, which ends at
+/// `at`; it is copied and stays as it is. The parts that are written in small pieces are not read
+/// back, which would be slow.
 #[inline(always)]
 fn append_line<H, const W: usize>(
     out: &mut Vec<u8>,
-    other: &Room,
+    other: &LineBuffer,
     at: usize,
     beat: &BeatOf<H, W>,
     masked: bool,
@@ -157,7 +160,7 @@ fn append_line<H, const W: usize>(
     Ok(())
 }
 
-/// The same as `write_far`, where the version may be known when the program is compiled.
+/// Appends lines like `write_far`. The version may be a constant that the compiler knows.
 #[inline(always)]
 fn write_lines<K: HeadText, const W: usize>(
     out: &mut Vec<u8>,
@@ -192,8 +195,8 @@ fn write_lines<K: HeadText, const W: usize>(
     Ok(())
 }
 
-/// Appends the lines of beats as `line_of` gives them, in order. Where a growth is refused the
-/// contents stay as they were.
+/// Appends the lines of beats in order, each as `line_of` returns it. Errors: `OutOfMemory`; the
+/// contents stay as they were. Requires: `W` is a width.
 pub fn write_far<K: HeadText, const W: usize>(
     out: &mut Vec<u8>,
     beats: &[Beat<K, W>],
@@ -204,15 +207,15 @@ pub fn write_far<K: HeadText, const W: usize>(
         (out.new.items ≡ out.old.items ++ beats_text (K.form version) W beats.now) }
     ensures err { OnErr result (out.new.items ≡ out.old.items) }
 {
-    // Both branches do the same: in each the digits of an id are known, and so is the place of
-    // every field.
+    // Both branches do the same. In each, the compiler knows the number of digits of an id, and so
+    // the position of every field.
     if version == 1 {
         return write_lines::<K, W>(out, beats, 1);
     }
     write_lines::<K, W>(out, beats, version)
 }
 
-/// Appends a word, the number of near beats, and that of far beats.
+/// Appends a word, the number of near beats and the number of far beats.
 fn put_counts(text: &mut Text, word: &[u8], near: u64, far: u64)
     requires { array_vec_len text.old + length word.now ≤ 100 }
     ensures items { text.new.items ≡
@@ -225,7 +228,7 @@ fn put_counts(text: &mut Text, word: &[u8], near: u64, far: u64)
     put_decimal(text, far);
 }
 
-/// Appends a word, the number of near beats, and the name of a fault.
+/// Appends a word, the number of near beats and the name of a fault.
 fn put_fault(text: &mut Text, word: &[u8], at: u64, name: &str)
     requires room { array_vec_len text.old + length word.now ≤ 100 }
     requires short { length name.now ≤ 50 }
@@ -238,7 +241,7 @@ fn put_fault(text: &mut Text, word: &[u8], at: u64, name: &str)
     put(text, name.as_bytes());
 }
 
-/// Appends what a report says of a verdict.
+/// Appends the part of a report line that describes a verdict.
 fn put_verdict(text: &mut Text, verdict: &Verdict)
     requires { array_vec_len text.old ≤ 50 }
     ensures items { text.new.items ≡ text.old.items ++ verdict_text verdict.now }
@@ -252,8 +255,8 @@ fn put_verdict(text: &mut Text, verdict: &Verdict)
     }
 }
 
-/// Appends the report line of the channel with this letter, with its LF. Any byte is taken as the letter.
-/// Where a growth is refused the contents stay as they were.
+/// Appends the report line of the channel with this letter, with its LF. The letter may be any
+/// byte. Errors: `OutOfMemory`; the contents stay as they were.
 pub fn write_report(out: &mut Vec<u8>, letter: u8, verdict: &Verdict) -> Result<(), OutOfMemory>
     ensures ok { OnOk result (out.new.items ≡ out.old.items ++ report_line letter verdict.now) }
     ensures err { OnErr result (out.new.items ≡ out.old.items) }
@@ -270,8 +273,15 @@ pub fn write_report(out: &mut Vec<u8>, letter: u8, verdict: &Verdict) -> Result<
     }
 }
 
-/// Writes the line of a beat of a trace of this version and these widths, with its LF, and gives its length.
-fn fill_line_of(room: &mut Room, line: &Line, version: u8, client: usize, manager: usize) -> usize
+/// Writes the line of a beat of a trace of this version and these widths, with its LF. Returns its
+/// length.
+fn fill_line_of(
+    room: &mut LineBuffer,
+    line: &Line,
+    version: u8,
+    client: usize,
+    manager: usize,
+) -> usize
     requires client { client ≤ WIDEST }
     requires manager { manager ≤ WIDEST }
     ensures items { take result room.new ≡
@@ -287,7 +297,8 @@ fn fill_line_of(room: &mut Room, line: &Line, version: u8, client: usize, manage
     }
 }
 
-/// Appends the text of a trace to an empty list. Where a growth is refused, some of it may be there.
+/// Appends the text of a trace to an empty list. If an allocation fails, part of the text may have
+/// been appended.
 fn append_trace(out: &mut Vec<u8>, trace: &Trace) -> Result<(), OutOfMemory>
     requires { out.old.items ≡ [] }
     ensures { OnOk result (out.new.items ≡ trace_text trace.now.version trace.now.client
@@ -311,8 +322,8 @@ fn append_trace(out: &mut Vec<u8>, trace: &Trace) -> Result<(), OutOfMemory>
     Ok(())
 }
 
-/// The text of a trace, in its version: what is read of it is this trace again.
-/// `OutOfMemory` where a growth is refused.
+/// Returns the text of a trace, in its version. Reading this text returns the same trace, unless
+/// memory runs out. Errors: `OutOfMemory`.
 pub fn write_trace(alloc: Global, trace: &Trace) -> Result<Vec<u8>, OutOfMemory>
     ensures { IfOk result (λ text. text.items ≡
         trace_text trace.now.version trace.now.client trace.now.manager trace.now.lines.items) }

@@ -1,4 +1,4 @@
--- What clap finds of the options, by its rows.
+-- The options that clap finds, by its rows.
 use Rattle.std.proofs.Common.{◌≡◌, ◌∙◌, ap₂, false, true, ℕ, Bor, box_value, List, [], ◌∷◌, Option, Some, None, Err, IfOk}
 use Rattle.std.proofs.Common.{IsOkAnd, Ok, Result, ◌++◌, option_map, codes, refl, subst, sym, ap, arith}
 use Rattle.std.specs.Prelude.{◌||◌, OnOk, unwrap_or}
@@ -21,7 +21,7 @@ use Rattle.tl_order.specs.declared.Order.TheVariants.{Run, Check}
 use Rattle.tl_words.specs.CommandLines.{IsOrderOf, IsRunOf, check_shape, file_of, program, run_shape}
 use Rattle.tl_words.specs.Inner.Rules.{HasApp, HasRule, HasShape, bare}
 
--- clap says what comes of the words of this command
+-- clap's definitions apply to the words of this command
 pub program_is_simple : is_simple program ≡ true
 unfolding clap_on_literals
 program_is_simple = refl
@@ -36,26 +36,26 @@ pub none_found : {T : Type 0} (kinds : Kinds) (r : Result T Error) → FailsBy k
 none_found kinds (Ok x) none = none
 none_found kinds (Err e) some = tt
 
--- what follows `file` is found where the rows of the subcommand are
+-- the word of `file` is found in the rows of the subcommand
 pub file_by_rows : (called : Option (Text × List Row)) (rows : List Row) → Some rows ≡ option_map (λ c. c.1) called
     → first_of (codes "file") rows ≡ file_of called
 file_by_rows None rows e = cc
 file_by_rows (Some c) rows e = ap (λ o. first_of (codes "file") (unwrap_or o rows)) e
 
--- the name of the subcommand stands before its rows
+-- the name of the subcommand comes before its rows
 pub name_by_rows : (m : ArgMatches) → option_map (λ c. c.0) (subcommand_rows_of m) ≡ subcommand_name_of m
 name_by_rows m = elim (out-ArgMatches m).subcommand as
     (λ o. option_map (λ c. c.0) (subcommand_rows o) ≡ option_map (λ b. (out-SubCommand (box_value b)).name.now) o)
     [ None ↦ refl | Some b ↦ refl ]
 
--- where `run` was called, its rows say the order
+-- if `run` was called, its rows determine the order
 pub run_by_rows : (called : Option (Text × List Row)) (rows : List Row) (order : Order) → option_map (λ c. c.0) called ≡ Some (codes "run")
     → option_map (λ c. c.1) called ≡ Some rows → IsRunOf rows order → IsOrderOf called order
 run_by_rows None rows order name found said = cc
 run_by_rows (Some c) rows (Run ring turns sync) name found said = (rows, grind arith, said)
 run_by_rows (Some c) rows Check name found said = absurd said
 
--- where `check` was called, the order is a check
+-- if `check` was called, the order is a check
 pub check_by_rows : (called : Option (Text × List Row)) (rows : List Row) → option_map (λ c. c.0) called ≡ Some (codes "check")
     → option_map (λ c. c.1) called ≡ Some rows → IsOrderOf called Check
 check_by_rows None rows name found = cc
@@ -84,14 +84,14 @@ pub added : (old new : Command) (a : Arg) (app : App) (rule : Rule) → AddsArg 
     → HasApp (with_rule app rule) new
 added old new a app rule adds is has = (adds.shape has.1 ∙ ap₂ with_rule is.0 has.0, adds.globals ∙ ap₂ (λ x y. x || y) is.1 has.1)
 
--- arguments that have these rules, in their own command alone
+-- arguments that have these rules, only in their own command
 abbrev pub HaveRules : List Rule → List Arg → Type 0
 HaveRules [] [] = Unit {0}
 HaveRules (rule ∷ rules) (a ∷ args) = HasRule rule a × HaveRules rules args
 HaveRules [] (a ∷ args) = ⊥
 HaveRules (rule ∷ rules) [] = ⊥
 
--- what a command is with arguments of these rules, one after another
+-- a command with arguments of these rules, one after another
 abbrev pub with_rules : App → List Rule → App
 with_rules app [] = app
 with_rules app (rule ∷ rules) = with_rules (with_rule app rule) rules
@@ -123,13 +123,13 @@ program_of_parts top run check made is is_run is_check added =
     ap app_of (sym added.2.2) ∙ added.2.1.shape is_check.1
     ∙ ap₂ with_subcommand (added.1.shape is_run.1 ∙ ap₂ with_subcommand is is_run.0) is_check.0
 
--- what holds where each of two results is Ok, where both are
+-- properties of two results that are Ok, if both are Ok
 pub both_ok : {E : Type 0} (P Q : Type 0) (a b all : Result (Unit {0}) E) → all ≡ result_and a b → OnOk a P → OnOk b Q → OnOk all (P × Q)
 both_ok P Q (Ok x) (Ok y) all joined p q = subst (λ r. OnOk r (P × Q)) (sym joined) (p, q)
 both_ok P Q (Ok x) (Err e) all joined p q = subst (λ r. OnOk r (P × Q)) (sym joined) tt
 both_ok P Q (Err e) b all joined p q = subst (λ r. OnOk r (P × Q)) (sym joined) tt
 
--- what two puts leave in a list that was empty
+-- a list that was empty, after two puts
 pub both_put : {E : Type 0} (one two : Result Command E) (none first both : List Command) → none ≡ []
     → IsOkAnd one (λ x. first ≡ none ++ x ∷ []) → IsOkAnd two (λ x. both ≡ first ++ x ∷ [])
     → IfOk one (HasShape run_shape) → IfOk two (HasShape check_shape)

@@ -1,11 +1,11 @@
--- What whole command lines ask for, computed.
+-- The meaning of whole command lines, computed.
 use Rattle.std.proofs.Common.{◌≡◌, ◌∷◌, [], List, Some, None, true, false, codes, refl}
 use Rattle.clap.specs.Words.{Text, takes}
 use Rattle.clap.proofs.OnLiterals.{clap_on_literals}
 use Rattle.tl_order.specs.declared.Order.TheVariants.{Run, Check}
 use Rattle.tl_words.specs.CommandLines.{IsOrderOf, called_by, file_of, program}
 
--- the words, behind the program's name
+-- the words, after the program's name
 abbrev line : List Text → List Text
 line words = codes "tlbridge" ∷ words
 
@@ -26,7 +26,7 @@ check_reads_a_file : file_of (called_by (line (codes "check" ∷ codes "a.trace"
 unfolding called_by clap_on_literals
 check_reads_a_file = refl
 
--- options stand before and behind the file, with their word behind them or after `=`
+-- options before and after the file, with their word after them or after `=`
 abbrev whole : List Text
 whole = line (codes "run" ∷ codes "--sync" ∷ codes "--ring=4096" ∷ codes "a.trace" ∷ codes "--turns" ∷ codes "1000" ∷ [])
 

@@ -1,5 +1,6 @@
--- What the words of a command line ask for: `tlbridge run [--ring N] [--turns N] [--sync] [FILE]`, or `tlbridge check [FILE]`.
--- How words follow a command is clap's (`subcommand_of`); the command, its names and its defaults are this project's choice.
+-- The order and the file that a command line names: `tlbridge run [--ring N] [--turns N] [--sync] [FILE]`, or `tlbridge
+-- check [FILE]`. How words are matched to a command is clap's (`subcommand_of`). The command, its names and its
+-- defaults are this project's choice.
 use Rattle.std.specs.Prelude.{◌≡◌, ℕ, Bool, true, false, List, [], ◌∷◌, Option, Some, None, option_map, option_and_then, codes}
 use Rattle.std.specs.Str.Parse.{digits_value, without_leading_plus}
 use Rattle.clap.specs.Words.{App, Row, Rule, Shape, Text, fault_of, first_of, new_rule, one_of, subcommand_of}
@@ -9,7 +10,7 @@ use Rattle.clap.specs.declared.builder.action.ArgAction.TheVariants.{SetTrue}
 use Rattle.tl_order.specs.declared.Order.{Order}
 use Rattle.tl_order.specs.declared.Order.TheVariants.{Run, Check}
 
--- an option with one word, and the word where it is left out
+-- an option with one word, and the default for that word
 abbrev pub number_rule : (name default : Text) → Rule
 number_rule name default = record (new_rule name) {
   long = Some name;
@@ -21,7 +22,7 @@ number_rule name default = record (new_rule name) {
 abbrev pub sync_rule : Rule
 sync_rule = record (new_rule (codes "sync")) { long = Some (codes "sync"); action = Some SetTrue }
 
--- the file that holds the trace
+-- the file to read the trace from
 abbrev pub file_rule : Rule
 file_rule = record (new_rule (codes "file")) { value_names = 1 }
 
@@ -33,7 +34,7 @@ run_shape = record (new_shape (codes "run")) {
 abbrev pub check_shape : Shape
 check_shape = record (new_shape (codes "check")) { rules = file_rule ∷ [] }
 
--- the whole command, of which a subcommand has to be called
+-- the whole command, which requires a subcommand
 abbrev pub program : App
 program = record {
   top = record (new_shape (codes "tlbridge")) {
@@ -44,7 +45,7 @@ program = record {
   subs = run_shape ∷ check_shape ∷ [];
 }
 
--- the subcommand that the words call, with what they say of its options
+-- the subcommand that the words call, with its options
 unfoldable pub called_by : List Text → Option (Text × List Row)
 called_by words = subcommand_of program words
 
@@ -52,17 +53,17 @@ called_by words = subcommand_of program words
 unfoldable pub faults_in : List Text → Kinds
 faults_in words = fault_of program words
 
--- the number that an option's word says
+-- the number that an option's word is
 abbrev pub number_in : (name : Text) → List Row → Option ℕ
 number_in name rows = option_map (λ word. digits_value 10 (without_leading_plus word)) (first_of name rows)
 
--- whether `--sync` stands there
+-- whether `--sync` is one of the words
 pub record IsSync (rows : List Row) (sync : Bool) : Type 0 where
   pub none : one_of (codes "sync") rows ≡ None → sync ≡ false
   pub set : one_of (codes "sync") rows ≡ Some (codes "true") → sync ≡ true
   pub unset : one_of (codes "sync") rows ≡ Some (codes "false") → sync ≡ false
 
--- a run with the numbers and the flag that the options say
+-- a run with the numbers and the flag of the options
 abbrev pub IsRunOf : List Row → Order → Type 0
 IsRunOf rows (Run ring turns sync) = (number_in (codes "ring") rows ≡ Some ring) × (number_in (codes "turns") rows ≡ Some turns) × IsSync rows sync
 IsRunOf rows Check = ⊥
@@ -72,6 +73,6 @@ abbrev pub IsOrderOf : Option (Text × List Row) → Order → Type 0
 IsOrderOf called (Run ring turns sync) = (rows : List Row) × (called ≡ Some (codes "run", rows)) × IsRunOf rows (Run ring turns sync)
 IsOrderOf called Check = (rows : List Row) × (called ≡ Some (codes "check", rows))
 
--- the file that was named where this was called
+-- the file that the words of the called subcommand name
 abbrev pub file_of : Option (Text × List Row) → Option Text
 file_of called = option_and_then (λ c. first_of (codes "file") c.1) called

@@ -1,4 +1,5 @@
-//! The command line: what its words ask for, and what is said of words that ask for nothing.
+//! The command line: the order and the file that its words name, or the error for words that are
+//! refused.
 #![tactic(auto)]
 
 ghost use Rattle.std.specs.Prelude.{◌≡◌, ◌≤◌, ◌++◌, ◌∷◌, [], Some, IfOk, IsOkAnd, OnOk, codes, map, option_map};
@@ -14,18 +15,18 @@ use std::alloc::{AllocError, Global};
 use tl_order::{MAX_RING, MAX_TURNS, Order};
 
 /// The program's version.
-const VERSION: &str = "0.6.0";
+const VERSION: &str = "0.7.0";
 
-/// What a command line asks for.
+/// The contents of a valid command line.
 #[derive(Clone, Copy, Debug, PartialEq, Eq)]
 pub struct CommandLine<'a> {
-    /// What is to be done with the trace.
+    /// The command to execute on the trace.
     pub order: Order,
-    /// The file that holds the trace. Where none is named, standard input does.
+    /// The file to read the trace from; standard input if `None`.
     pub file: Option<&'a str>,
 }
 
-/// An option with a number. `number_of` says which numbers it takes.
+/// Returns an option with a number. `number_of` checks the range of the number.
 fn number_option<'a>(alloc: Global, name: &'a str, default: &'a str, help: &'a str) -> Arg<'a>
     ensures { HasRule (number_rule name.entry.now default.entry.now) result }
 {
@@ -42,7 +43,7 @@ fn sync_option<'a>(alloc: Global) -> Arg<'a>
     Arg::new(alloc, "sync")
         .long("sync")
         .help(
-            "Runs both sides in one thread, without --turns: for one core; the answer is the same",
+            "Runs both sides in one thread, for machines with one core; --turns has no effect, and the answer is the same",
         )
         .action(ArgAction::SetTrue)
 }
@@ -50,12 +51,13 @@ fn sync_option<'a>(alloc: Global) -> Arg<'a>
 fn file_argument<'a>(alloc: Global) -> Arg<'a>
     ensures { HasRule file_rule result }
 {
-    Arg::new(alloc, "file").value_name("FILE").help(
-        "The file that holds the trace; where none is named, standard input does",
-    )
+    Arg::new(alloc, "file")
+        .value_name("FILE")
+        .help("Trace file to read [default: standard input]")
 }
 
-/// Puts an item behind a list, where there is one. (Of any type: a function that itself takes a command from a result is dear to check.)
+/// Appends an item to a list, unless the item is an error. (The function is generic because one
+/// that takes a `Command` from a result is slow to check.)
 fn put<T: Drop>(list: &mut Vec<T>, item: Result<T, AllocError>) -> Result<(), AllocError>
     ensures { OnOk result (IsOkAnd item (λ x. list.new.items ≡ list.old.items ++ x ∷ [])) }
 {
@@ -67,11 +69,11 @@ fn run_command<'a>(alloc: Global) -> Result<Command<'a>, AllocError>
     ensures { IfOk result (HasShape run_shape) }
 {
     let ring =
-        "Beats that the ring of each channel holds, 1 to 4096; the answer is the same for each";
+        "Number of beats that the ring of each channel holds, 1 to 4096; does not change the answer";
     let turns =
-        "Turns of each side between two meetings of the two threads, 1 to 1000; the answer is the same for each";
+        "Number of turns of each side between two meetings of the threads, 1 to 1000; does not change the answer";
     let about =
-        "Prints the beats that arrive across the bridge, and a report line for each channel. Each side runs in a thread of its own. The defaults are slow on a long trace: --turns 1000 --ring 4096 is for those.";
+        "Prints the beats that arrive across the bridge, and a report line for each channel. Each side runs in its own thread. On a long trace, use --turns 1000 --ring 4096: the defaults are slow.";
     let arguments = vec![in alloc;
         number_option(alloc, "ring", "16", ring),
         number_option(alloc, "turns", "4", turns),
@@ -84,16 +86,16 @@ fn run_command<'a>(alloc: Global) -> Result<Command<'a>, AllocError>
 fn check_command<'a>(alloc: Global) -> Result<Command<'a>, AllocError>
     ensures { IfOk result (HasShape check_shape) }
 {
-    let bare = Command::new(alloc, "check").about("Prints the report lines alone.");
+    let bare = Command::new(alloc, "check").about("Prints only the report lines.");
     bare.arg(file_argument(alloc))
 }
 
-/// The command before its subcommands.
+/// Returns the command without its subcommands.
 fn bare_command<'a>(alloc: Global) -> Command<'a>
     ensures { app_of result ≡ bare }
 {
     let about =
-        "Sends a TileLink trace across a clock and width bridge. A file or standard input holds the trace, standard output gets the answer.";
+        "Sends a TileLink trace across a clock and width bridge. Reads the trace from a file or from standard input, and writes the answer to standard output.";
     Command::new(alloc, "tlbridge")
         .about(about)
         .version(VERSION)
@@ -112,7 +114,7 @@ fn command<'a>(alloc: Global) -> Result<Command<'a>, AllocError>
     }
 }
 
-/// What `command` takes from the words.
+/// Returns the matches of the words of a command line.
 fn matches_of<'a>(alloc: Global, words: &'a [&'a str]) -> Result<ArgMatches<'a>, Error>
     ensures called { IfOk result (λ m. subcommand_rows_of m ≡ called_by (map (λ w. w.now) words.entry.now)) }
     ensures taken { IfOk result (λ _. faults_in (map (λ w. w.now) words.entry.now) ≡ []) }
@@ -123,7 +125,7 @@ fn matches_of<'a>(alloc: Global, words: &'a [&'a str]) -> Result<ArgMatches<'a>,
     }
 }
 
-/// A refusal in these words, below which the usage stands.
+/// Returns an error with this message, followed by the usage.
 fn refusal(alloc: Global, message: &str) -> Result<Error, AllocError> {
     match command(alloc) {
         Ok(mut command) => {
@@ -135,7 +137,7 @@ fn refusal(alloc: Global, message: &str) -> Result<Error, AllocError> {
     }
 }
 
-/// The refusal of an option's word that is no number from 1 to `max`.
+/// Returns the error for an option whose word is not a number from 1 to `max`.
 fn out_of_range(alloc: Global, name: &str, word: &str, max: usize) -> Result<Error, AllocError> {
     let message = format!(in alloc;
         "invalid value '{word}' for '--{name} <N>': it has to be a number from 1 to {max}"
@@ -143,7 +145,7 @@ fn out_of_range(alloc: Global, name: &str, word: &str, max: usize) -> Result<Err
     refusal(alloc, &message)
 }
 
-/// The number of an option, which lies in 1 to `max`.
+/// Returns the number of an option. Errors: the word is not a number from 1 to `max`.
 fn number_of(
     alloc: Global,
     matches: &ArgMatches<'_>,
@@ -160,7 +162,7 @@ fn number_of(
     }
 }
 
-/// The order of the words of `run`.
+/// Returns the order of the words of `run`.
 fn run_order(alloc: Global, matches: &ArgMatches<'_>) -> Result<Order, Error>
     ensures range { IfOk result IsInRange }
     ensures said { IfOk result (IsRunOf (rows_of (found_of matches.now))) }
@@ -172,7 +174,8 @@ fn run_order(alloc: Global, matches: &ArgMatches<'_>) -> Result<Order, Error>
     })
 }
 
-/// The order of a command line that calls `check`. Any other is refused, as clap has done before.
+/// Returns the order of a command line that calls `check`. Errors: it calls another command, which
+/// clap has refused before.
 fn check_order(alloc: Global, matches: &ArgMatches<'_>) -> Result<Order, Error>
     ensures range { IfOk result IsInRange }
     ensures said { IfOk result (IsOrderOf (subcommand_rows_of matches.now)) }
@@ -183,7 +186,7 @@ fn check_order(alloc: Global, matches: &ArgMatches<'_>) -> Result<Order, Error>
     }
 }
 
-/// The order of a command line whose words `command` takes: that of `run`, or that of `check`.
+/// Returns the order of a command line that calls `run` or `check`.
 fn order_in(alloc: Global, matches: &ArgMatches<'_>) -> Result<Order, Error>
     ensures range { IfOk result IsInRange }
     ensures said { IfOk result (IsOrderOf (subcommand_rows_of matches.now)) }
@@ -194,7 +197,7 @@ fn order_in(alloc: Global, matches: &ArgMatches<'_>) -> Result<Order, Error>
     }
 }
 
-/// The file of a command line whose words `command` takes.
+/// Returns the file that the command line names, or `None`.
 fn file_in<'a>(matches: &ArgMatches<'a>) -> Option<&'a str>
     ensures { option_map (λ s. s.now) result ≡ file_of (subcommand_rows_of matches.now) }
 {
@@ -204,12 +207,13 @@ fn file_in<'a>(matches: &ArgMatches<'a>) -> Option<&'a str>
     }
 }
 
-/// What the words of a command line ask for. The first word is the program's name.
+/// Parses the words of a command line, the first of which is the program's name. Returns the order
+/// and the file that they name.
 ///
-/// Every other command line is refused by clap's error, and so is a want of memory. Help and the
-/// version, where they are asked for, come as errors, too: their `exit_code` is 0, and `print` writes
-/// them to standard output. The `exit_code` of every other error is 2, and `print` writes it to
-/// standard error.
+/// Errors: clap's error, for every other command line and if memory runs out. A request for help or
+/// the version is also returned as an error: its `exit_code` is 0, and `print` writes the text to
+/// standard output. For every other error the `exit_code` is 2, and `print` writes it to standard
+/// error.
 pub fn command_line_of<'a>(alloc: Global, words: &'a [&'a str]) -> Result<CommandLine<'a>, Error>
     ensures taken { IfOk result (λ _. faults_in (map (λ w. w.now) words.entry.now) ≡ []) }
     ensures range { IfOk result (λ line. IsInRange line.order) }
@@ -229,8 +233,8 @@ pub fn command_line_of<'a>(alloc: Global, words: &'a [&'a str]) -> Result<Comman
     }
 }
 
-/// The order that the words of a command line give, whichever file they name. Refused as
-/// `command_line_of` refuses.
+/// Parses the words of a command line and returns the order, whichever file they name. Errors: as
+/// `command_line_of`.
 pub fn order_of<'a>(alloc: Global, words: &'a [&'a str]) -> Result<Order, Error>
     ensures taken { IfOk result (λ _. faults_in (map (λ w. w.now) words.entry.now) ≡ []) }
     ensures range { IfOk result IsInRange }
@@ -242,7 +246,7 @@ pub fn order_of<'a>(alloc: Global, words: &'a [&'a str]) -> Result<Order, Error>
     }
 }
 
-/// The refusal of a command line with a word that is not UTF-8.
+/// Returns the error for a command line with a word that is not UTF-8.
 pub fn not_utf8(alloc: Global) -> Result<Error, AllocError> {
     refusal(alloc, "a word of the command line is not UTF-8")
 }

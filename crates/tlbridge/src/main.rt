@@ -1,6 +1,6 @@
-//! The program: a bridge for TileLink links, over a trace. It decides nothing by itself but where the
-//! trace comes from: what the words ask for, what the answer is, how it ends and what standard error
-//! gets is said by the libraries that it calls.
+//! The program: a bridge for TileLink links, applied to a trace. The program itself only opens the
+//! file that the command line names. The libraries that it calls parse the command line, make the
+//! answer, and choose the exit status and the line on standard error.
 #![tactic(auto)]
 
 ghost use Rattle.tl_order.specs.Orders.{IsInRange};
@@ -16,10 +16,11 @@ use std::thread::Threads;
 use tl_answer::{FaultLine, TextFault, exit_status, run_text};
 use tl_words::{CommandLine, command_line_of, not_utf8};
 
-/// The program's name, as its lines on standard error begin with it.
+/// The program's name, which begins its lines on standard error.
 const PROGRAM: &str = "tlbridge";
 
-/// The words of the command line, with the program's name.
+/// Returns the words of the command line, the first of which is the program's name. Errors: a word
+/// is not UTF-8, or memory ran out.
 fn words_of(rt: &HostRuntime) -> Result<Vec<String>, Error> {
     match std::env::args(rt) {
         Ok(words) => Ok(words.collect(rt.alloc())?),
@@ -28,8 +29,8 @@ fn words_of(rt: &HostRuntime) -> Result<Vec<String>, Error> {
     }
 }
 
-/// The file that the command line names, or else standard input. Refused with `Read` where the file
-/// can't be opened.
+/// Returns the file that the command line names, or standard input. Errors: `Read` if the file
+/// cannot be opened, or `OutOfMemory`.
 fn source_of(rt: &HostRuntime, file: Option<&str>) -> Result<Either<Stdin, File>, TextFault> {
     let Some(path) = file else {
         return Ok(Left(rt.stdin()));
@@ -41,7 +42,7 @@ fn source_of(rt: &HostRuntime, file: Option<&str>) -> Result<Either<Stdin, File>
     }
 }
 
-/// Reads the trace, and writes the answer to standard output: whether all channels are done.
+/// Reads the trace and writes the answer to standard output. Returns whether all channels are done.
 fn answer(
     rt: &HostRuntime,
     threads: &impl Threads,
@@ -59,8 +60,8 @@ fn answer(
     )
 }
 
-/// The exit status of an ending, after the line of its fault. The status says it where standard
-/// error can't be written.
+/// Writes the line of a fault, if any, to standard error. Returns the exit status, which also shows
+/// the fault if standard error cannot be written.
 fn status(rt: &HostRuntime, ending: Result<bool, TextFault>) -> ExitCode {
     if let Err(fault) = ending {
         let _ = eprint!(rt;
@@ -74,8 +75,8 @@ fn status(rt: &HostRuntime, ending: Result<bool, TextFault>) -> ExitCode {
     ExitCode::from(exit_status(&ending))
 }
 
-/// Prints what clap says of the command line: status 0 for help or the version, where they are asked
-/// for, else 2.
+/// Prints clap's message about the command line. Returns status 0 if help or the version was
+/// requested, otherwise 2.
 fn refuse(rt: &HostRuntime, error: &Error) -> ExitCode {
     if error.print(rt).is_err() && !error.use_stderr() {
         return status(rt, Err(TextFault::Write));
@@ -83,7 +84,7 @@ fn refuse(rt: &HostRuntime, error: &Error) -> ExitCode {
     ExitCode::from(error.exit_code() as u8)
 }
 
-/// Does what the command line asks for: the exit status. Refused with clap's error.
+/// Executes the command line. Returns the exit status. Errors: clap's error for the command line.
 fn exit_code(rt: &HostRuntime, threads: &impl Threads) -> Result<ExitCode, Error> {
     let words = words_of(rt)?;
     let words: Vec<&str> = words.iter().map(|word| word.as_str()).collect(rt.alloc())?;

@@ -1,5 +1,5 @@
-//! The program: what came of each line of a TileLink trace. It decides nothing by itself but which file
-//! to read and whether to use colours: what is said, and how the program ends, is in the libraries that it calls.
+//! The program that explains each line of a TileLink trace. It decides only which file to read and
+//! whether to use colours. The text and the result come from the libraries that it calls.
 #![tactic(auto)]
 
 mod words;
@@ -10,15 +10,15 @@ use std::alloc::AllocError;
 use std::fs::File;
 use std::io::{self, IsTerminal, Stdin};
 use std::process::ExitCode;
-use tl_answer::{FaultLine, TextFault, exit_status};
-use tl_explain::{FAULTS, Look, meaning};
-use tl_page::run_explain;
+use tl_answer::{FaultLine, TextFault, exit_status, read_all};
+use tl_explain::{FAULTS, Look, TimesFault, meaning};
+use tl_page::{ExplainFault, run_explain};
 use words::{Wish, not_utf8, wish_of};
 
-/// The program's name, as its lines on standard error begin with it.
+/// The program's name, with which its lines on standard error begin.
 const PROGRAM: &str = "tlexplain";
 
-/// The words of the command line.
+/// Returns the words of the command line.
 fn words_of(rt: &HostRuntime) -> Result<Vec<String>, Error> {
     match std::env::args(rt) {
         Ok(words) => words.collect(rt.alloc()).map_err(Error::from),
@@ -27,8 +27,8 @@ fn words_of(rt: &HostRuntime) -> Result<Vec<String>, Error> {
     }
 }
 
-/// The file that the command line names, or else standard input. Refused with `Read` where the file
-/// can't be opened.
+/// Returns the file that the command line names, or otherwise standard input. Errors: `Read` if the
+/// file cannot be opened.
 fn source_of(rt: &HostRuntime, file: Option<&str>) -> Result<Either<Stdin, File>, TextFault> {
     let Some(path) = file else {
         return Ok(Left(rt.stdin()));
@@ -40,7 +40,7 @@ fn source_of(rt: &HostRuntime, file: Option<&str>) -> Result<Either<Stdin, File>
     }
 }
 
-/// Prints the line of a fault, and what it means where no line of the trace shows it.
+/// Prints the line of a fault, and its meaning if no line of the trace shows it.
 fn report(rt: &HostRuntime, fault: TextFault) {
     let program = PROGRAM;
     let _ = eprint!(rt; "{}", FaultLine { program, fault });
@@ -49,7 +49,7 @@ fn report(rt: &HostRuntime, fault: TextFault) {
     }
 }
 
-/// The exit status of an ending, after the report of its fault.
+/// Reports the fault of a result, if there is one. Returns the exit status.
 fn status(rt: &HostRuntime, ending: Result<bool, TextFault>) -> ExitCode {
     if let Err(fault) = ending {
         report(rt, fault);
@@ -57,8 +57,8 @@ fn status(rt: &HostRuntime, ending: Result<bool, TextFault>) -> ExitCode {
     ExitCode::from(exit_status(&ending))
 }
 
-/// Prints what clap says of the command line: status 0 for help or the version, where they are asked
-/// for, else 2.
+/// Prints clap's message on the command line. Returns status 0 for help or the version, and
+/// otherwise 2.
 fn refuse(rt: &HostRuntime, error: &Error) -> ExitCode {
     if error.print(rt).is_err() && !error.use_stderr() {
         return status(rt, Err(TextFault::Write));
@@ -66,7 +66,7 @@ fn refuse(rt: &HostRuntime, error: &Error) -> ExitCode {
     ExitCode::from(error.exit_code() as u8)
 }
 
-/// Prints what each fault means.
+/// Prints the meaning of each fault.
 fn print_faults(rt: &HostRuntime) -> Result<bool, TextFault> {
     match print!(rt; "{FAULTS}") {
         Ok(()) => Ok(true),
@@ -74,7 +74,8 @@ fn print_faults(rt: &HostRuntime) -> Result<bool, TextFault> {
     }
 }
 
-/// Whether colours are shown: where standard output is a terminal, and NO_COLOR is not set or empty.
+/// Returns whether colours are shown: standard output is a terminal, and NO_COLOR is not set or is
+/// empty.
 fn has_colours(rt: &HostRuntime) -> bool {
     rt.stdout().is_terminal()
         && match std::env::var(rt, "NO_COLOR") {
@@ -83,28 +84,76 @@ fn has_colours(rt: &HostRuntime) -> bool {
         }
 }
 
-/// Explains the trace of a file, or that on standard input.
-fn explain(rt: &HostRuntime, file: Option<&str>, look: &Look) -> Result<bool, TextFault> {
+/// Explains the trace of a file, or that on standard input. `times` has the times of its beats, if
+/// these are known.
+fn explain(
+    rt: &HostRuntime,
+    file: Option<&str>,
+    times: Option<&[u8]>,
+    look: &Look,
+) -> Result<bool, ExplainFault> {
     let look = Look {
         colour: has_colours(rt),
         ..*look
     };
-    match source_of(rt, file) {
-        Ok(mut source) => run_explain(rt.alloc(), &mut source, &mut rt.stdout(), &look),
-        Err(fault) => Err(fault),
+    let mut source = source_of(rt, file)?;
+    run_explain(rt.alloc(), &mut source, &mut rt.stdout(), &look, times)
+}
+
+/// Prints the fault of the file of times and its line. Returns status 3.
+fn refuse_times(rt: &HostRuntime, path: &str, fault: TimesFault) -> ExitCode {
+    let (line, said) = (fault.line, fault.sentence());
+    let _ = eprintln!(rt; "{PROGRAM}: {path}, line {line}: {said}");
+    ExitCode::from(3)
+}
+
+/// Prints the reason why the file of times was not read. Returns the exit status, 4.
+fn refuse_file(rt: &HostRuntime, path: &str, fault: TextFault) -> ExitCode {
+    let said = match fault {
+        TextFault::Read => "the file of the times could not be read",
+        _ => meaning(&fault),
+    };
+    let _ = eprintln!(rt; "{PROGRAM}: {path}: {fault}\n    {said}");
+    ExitCode::from(exit_status(&Err(fault)))
+}
+
+/// Reports the fault of an explanation, if there is one. `times` is the path of the file of times.
+/// Returns the exit status.
+fn end(rt: &HostRuntime, times: &str, ending: Result<bool, ExplainFault>) -> ExitCode {
+    match ending {
+        Ok(all_done) => status(rt, Ok(all_done)),
+        Err(ExplainFault::Text(fault)) => status(rt, Err(fault)),
+        Err(ExplainFault::Times(fault)) => refuse_times(rt, times, fault),
     }
 }
 
-/// Does what the program is asked to do.
-fn obey(rt: &HostRuntime, wish: &Wish<'_>) -> ExitCode {
-    let ending = match wish {
-        Wish::Explain { file, look } => explain(rt, *file, look),
-        Wish::Faults => print_faults(rt),
-    };
-    status(rt, ending)
+/// Returns the bytes of the file at this path. Errors: as for `source_of` and `read_all`.
+fn bytes_of(rt: &HostRuntime, path: &str) -> Result<Vec<u8>, TextFault> {
+    let mut source = source_of(rt, Some(path))?;
+    read_all(rt.alloc(), &mut source)
 }
 
-/// Does what these words of a command line ask for.
+/// Executes a command. Returns the exit status.
+fn obey(rt: &HostRuntime, wish: &Wish<'_>) -> ExitCode {
+    match wish {
+        Wish::Explain {
+            file,
+            times: None,
+            look,
+        } => end(rt, "", explain(rt, *file, None, look)),
+        Wish::Explain {
+            file,
+            times: Some(path),
+            look,
+        } => match bytes_of(rt, path) {
+            Ok(times) => end(rt, path, explain(rt, *file, Some(&times), look)),
+            Err(fault) => refuse_file(rt, path, fault),
+        },
+        Wish::Faults => status(rt, print_faults(rt)),
+    }
+}
+
+/// Executes the command in these words of a command line. Returns the exit status.
 fn run(rt: &HostRuntime, words: &[String]) -> ExitCode {
     match wish_of(rt.alloc(), words) {
         Ok(wish) => obey(rt, &wish),

@@ -6,44 +6,50 @@ use std::alloc::{AllocError, Global};
 use tl_explain::{Choice, Look};
 
 /// The program's version.
-const VERSION: &str = "0.6.0";
+const VERSION: &str = "0.7.0";
 
-/// What the program does, as the help says it.
+/// The description of the program in the help.
 const ABOUT: &str =
-    "Says of each line of a TileLink trace what came of it on its way across a clock and width bridge.";
+    "Explains what happened to each beat of a TileLink trace on its way across a clock and width bridge.";
 
-/// What the program is asked to do.
+/// A command of the command line.
 #[derive(Clone, Copy)]
 pub enum Wish<'a> {
-    /// To explain the trace of this file, or that on standard input, and how that is to look.
-    Explain { file: Option<&'a str>, look: Look },
-    /// To print what each fault means.
+    /// Explain the trace of this file, or that on standard input, with the times in another file,
+    /// and with these options.
+    Explain {
+        file: Option<&'a str>,
+        times: Option<&'a str>,
+        look: Look,
+    },
+    /// Print the meaning of each fault.
     Faults,
 }
 
-/// How a word stands on the command line.
+/// The form of a word on the command line.
 enum Form {
-    /// By itself; the help calls it by its name.
+    /// A value by itself. Its name is the one in the help.
     Bare,
-    /// It is `--` and its name.
+    /// `--` and its name.
     Flag,
-    /// Behind `--` and its name. The help calls it so, and clap takes it where the parser does.
+    /// A value after `--` and its name. The help uses the name given here for the value, and clap
+    /// accepts a value if the parser does.
     Named(&'static str, ValueParser<'static>),
 }
 
-/// A word that the command line may have.
+/// A word that the command line can have.
 struct Word {
     name: &'static str,
     form: Form,
     help: &'static str,
 }
 
-/// All of them, in the order of the help.
-const WORDS: &[Word; 10] = &[
+/// All words, in the order of the help.
+const WORDS: &[Word; 13] = &[
     Word {
         name: "FILE",
         form: Form::Bare,
-        help: "Holds the trace, in place of standard input",
+        help: "Trace file to read [default: standard input]",
     },
     Word {
         name: "lanes",
@@ -51,39 +57,54 @@ const WORDS: &[Word; 10] = &[
         help: "Shows the lanes of each beat, highest first: '..' is not active, '--' masked out, '##' active without data, '!!' in the mask but not active",
     },
     Word {
+        name: "times",
+        form: Form::Named("TIMES", ValueParser::String),
+        help: "Shows the simulation time of each line, from this file, as tl_trace_monitor and tlbridge-trace write it; implies --in-order",
+    },
+    Word {
+        name: "in-order",
+        form: Form::Flag,
+        help: "Says that the lines are in the order of time",
+    },
+    Word {
         name: "only",
         form: Form::Named("WHAT", ValueParser::Names(&["problems"])),
-        help: "Says only what came of beats that were not accepted, or have remarks",
+        help: "Shows only beats that were not accepted or have remarks",
     },
     Word {
         name: "from",
         form: Form::Named("LINE", ValueParser::Unsigned(0, u64::MAX)),
-        help: "Says nothing of lines before this one",
+        help: "Shows only this line and later ones",
     },
     Word {
         name: "to",
         form: Form::Named("LINE", ValueParser::Unsigned(0, u64::MAX)),
-        help: "Says nothing of lines behind this one",
+        help: "Shows only this line and earlier ones",
     },
     Word {
         name: "source",
         form: Form::Named("ID", ValueParser::String),
-        help: "Says nothing of beats of another source, which has the digits that it has in the trace",
+        help: "Shows only beats of this source, with as many digits as in the trace",
     },
     Word {
         name: "channel",
         form: Form::Named("LETTER", ValueParser::Names(&["A", "B", "C", "D", "E"])),
-        help: "Says nothing of beats of another channel",
+        help: "Shows only beats of this channel",
     },
     Word {
         name: "no-remarks",
         form: Form::Flag,
-        help: "Leaves out what a protocol monitor would remark on accepted beats",
+        help: "Leaves out the remarks, which a protocol monitor would make on accepted beats",
     },
     Word {
         name: "html",
         form: Form::Flag,
-        help: "Writes a page for a browser, with the lanes of each beat, in place of text",
+        help: "Writes a page for a browser, with the lanes of each beat, instead of text",
+    },
+    Word {
+        name: "json",
+        form: Form::Flag,
+        help: "Writes JSON Lines instead of text: an object for each line, and one for the whole trace",
     },
     Word {
         name: "faults",
@@ -111,7 +132,7 @@ fn command<'a>(alloc: Global) -> Result<Command<'a>, AllocError> {
     Ok(command)
 }
 
-/// What `command` takes from these words.
+/// Returns the matches of `command` in these words.
 fn matches_of<'a>(alloc: Global, words: &'a [String]) -> Result<ArgMatches<'a>, Error> {
     match command(alloc) {
         Ok(command) => command.try_get_matches_from(words),
@@ -119,7 +140,7 @@ fn matches_of<'a>(alloc: Global, words: &'a [String]) -> Result<ArgMatches<'a>, 
     }
 }
 
-/// A refusal in these words, below which the usage stands.
+/// Returns an error with this message, followed by the usage.
 fn refusal(alloc: Global, message: &str) -> Result<Error, AllocError> {
     match command(alloc) {
         Ok(mut command) => {
@@ -131,7 +152,7 @@ fn refusal(alloc: Global, message: &str) -> Result<Error, AllocError> {
     }
 }
 
-/// The refusal of the word of `--source`.
+/// Returns the error for a wrong value of `--source`.
 fn wrong_source(alloc: Global, word: &str) -> Result<Error, AllocError> {
     let message = format!(in alloc;
         "invalid value '{word}' for '--source <ID>': it has to be up to 4 hexadecimal digits"
@@ -139,7 +160,7 @@ fn wrong_source(alloc: Global, word: &str) -> Result<Error, AllocError> {
     refusal(alloc, &message)
 }
 
-/// The source that `--source` has.
+/// Returns the source given by `--source`.
 fn source_of(alloc: Global, matches: &ArgMatches<'_>) -> Result<Option<u16>, Error> {
     let Some(word) = matches.get_str("source") else {
         return Ok(None);
@@ -150,17 +171,24 @@ fn source_of(alloc: Global, matches: &ArgMatches<'_>) -> Result<Option<u16>, Err
     }
 }
 
-/// The channel that `--channel` has.
+/// Returns the error for two forms of output.
+fn two_forms(alloc: Global) -> Result<Error, AllocError> {
+    refusal(alloc, "'--json' cannot be used with '--html'")
+}
+
+/// Returns the letter of the channel given by `--channel`, if there is one.
 fn channel_of(matches: &ArgMatches<'_>) -> Option<u8> {
     matches.get_str("channel")?.as_bytes().first().copied()
 }
 
-/// How the explanation is to look, with the lines of this source alone where there is one.
+/// Returns the options of the explanation, with only the lines of this source, if there is one.
 fn look_of(matches: &ArgMatches<'_>, source: Option<u16>) -> Look {
     Look {
         lanes: matches.get_flag("lanes"),
         page: matches.get_flag("html"),
+        json: matches.get_flag("json"),
         colour: false,
+        in_order: matches.get_flag("in-order") || matches.contains_id("times"),
         remarks: !matches.get_flag("no-remarks"),
         choice: Choice {
             only_problems: matches.contains_id("only"),
@@ -172,22 +200,26 @@ fn look_of(matches: &ArgMatches<'_>, source: Option<u16>) -> Look {
     }
 }
 
-/// What the words of a command line ask for that `command` takes.
+/// Returns the command in the words of a command line that `command` accepts.
 fn wish_in<'a>(alloc: Global, matches: &ArgMatches<'a>) -> Result<Wish<'a>, Error> {
     if matches.get_flag("faults") {
         return Ok(Wish::Faults);
     }
+    if matches.get_flag("json") && matches.get_flag("html") {
+        return Err(two_forms(alloc).unwrap_or_else(Error::from));
+    }
     match source_of(alloc, matches) {
         Ok(source) => Ok(Wish::Explain {
             file: matches.get_str("FILE"),
+            times: matches.get_str("times"),
             look: look_of(matches, source),
         }),
         Err(error) => Err(error),
     }
 }
 
-/// What the words of a command line ask for. The first word is the program's name. Every other
-/// command line is refused by clap's error; help and the version come as errors, too.
+/// Returns the command in the words of a command line. The first word is the program's name.
+/// Errors: clap's error for any other command line; also help and the version.
 pub fn wish_of<'a>(alloc: Global, words: &'a [String]) -> Result<Wish<'a>, Error> {
     match matches_of(alloc, words) {
         Ok(matches) => {
@@ -199,7 +231,7 @@ pub fn wish_of<'a>(alloc: Global, words: &'a [String]) -> Result<Wish<'a>, Error
     }
 }
 
-/// The refusal of a command line with a word that is not UTF-8.
+/// Returns the error for a command line with a word that is not UTF-8.
 pub fn not_utf8(alloc: Global) -> Error {
     refusal(alloc, "a word of the command line is not UTF-8").unwrap_or_else(Error::from)
 }

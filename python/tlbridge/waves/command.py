@@ -69,7 +69,7 @@ def command_line() -> argparse.ArgumentParser:
     links.add_argument("--struct", metavar="FIELDS", action="append", default=[], help="a packed struct of one direction, highest field first: a_valid:1,a_opcode:3,..")
     for side in ("", "client-", "manager-"):
         links.add_argument(f"--{side}clock", metavar="SIGNAL")
-        links.add_argument(f"--{side}reset", metavar="SIGNAL", help="active high; !SIGNAL is active low; none takes every beat")
+        links.add_argument(f"--{side}reset", metavar="SIGNAL", help="active high; !SIGNAL is active low. `none`: every beat is taken")
         links.add_argument(f"--{side}width", metavar="BYTES", type=a_width, help="for a link without data and mask")
     outputs = words.add_argument_group("outputs")
     outputs.add_argument("--trace", metavar="FILE", help="write the trace to FILE, and the later parts of the run to FILE.2, FILE.3, ..")
@@ -248,9 +248,9 @@ def remarks_of(watch: Watch, is_list: bool) -> List[str]:
                 out.append(f"{port.signals[name].name} is unknown at {level.count} clock edges, first at time {level.first[0]}: no beat is taken there")
     risen = [count.first for count in watch.at_rise if count.first]
     if risen and len(risen) == len(watch.at_rise):
-        out.append(f"{risen[0][1]}, an input that a C++ bench drives, changes as the clock rises, {watch.at_rise[0].count} times, first at time {risen[0][0]}: "
-                   "if the bench changes it before it evaluates the rise, the dump does not show what the edge saw, and the beats are wrong; "
-                   "change inputs at the falling edge, or dump before the rise")
+        out.append(f"{risen[0][1]}, an input that a C++ bench drives, changes as the clock rises, {watch.at_rise[0].count} times, first at time {risen[0][0]}. "
+                   "If the bench changes it before it evaluates the rise, the dump does not show what the edge saw, and the beats are wrong. "
+                   "Change inputs at the falling edge, or dump before the rise")
     if is_list and watch.resets_after.first:
         out.append(f"{link.name}: reset comes again at time {watch.resets_after.first[0]}, after beats")
     out += counted(link, watch.zeroed, "fields had unknown bits, which are written as 0")
@@ -275,13 +275,15 @@ def tell_links(links: Sequence[Link]) -> None:
 
 
 def driven_by(link: Link, near: str, tops: Set[bytes]) -> Dict[bytes, str]:
-    """What a bench in C++ may drive at this link, by code: the signals in Verilator's scope TOP that come from the side that sends `near`."""
+    """Returns the signals that a bench in C++ may drive at this link, by code: those in Verilator's scope TOP, from the side that sends `near`."""
     driven = [signal for letter, signals in link.channels.items() for name, signal in signals.items() if (name != "ready") == (letter in near)]
     return {part[0]: signal.name for signal in driven for part in signal.parts if part[0] in tops}
 
 
 def look_for_drivers(watch: Watch, variables: Sequence[Variable], is_one: bool) -> None:
-    """Of two links the outer sides are known. Of one link either side may be the design, whose outputs follow the clock as they should."""
+    """Watches the inputs that a bench in C++ may drive. With two links the outer sides are known. With one link either side may be the design,
+    whose outputs follow the clock as they should.
+    """
     tops = {variable.code for variable in variables if variable.scope == ("TOP",)}
     nears = (FROM_CLIENT, "BD") if is_one else (watch.near,)
     driven = [driven_by(watch.link, near, tops) for near in nears]

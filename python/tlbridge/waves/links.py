@@ -173,7 +173,7 @@ class Signals(Dict[Key, Signal]):
 
 
 def joined(variables: Iterable[Variable]) -> Signals:
-    """Returns the variables by (scope, name), each as a Signal, put together where the dump has split it by bit or range."""
+    """Returns the variables by (scope, name), each as a Signal. If the dump has split one by bit or range, its parts are put together."""
     groups: Dict[Key, List[Variable]] = {}
     for variable in variables:
         groups.setdefault((variable.scope, variable.name), []).append(variable)
@@ -356,8 +356,8 @@ def choose(links: Sequence[Link], name: str) -> Link:
     if len({link.key() for link in found}) == 1:
         return found[0]
     known = ", ".join(link.name for link in (list(found) or links)[:12]) or "none"
-    hint = "" if links else " that it knows; --link-pattern, --client-pattern and --manager-pattern say how the signals are named"
-    raise Failure(f"'{name}' names {len(found)} links; {'these are' if found else 'the dump has'}: {known}{hint}", 2)
+    hint = "" if links else " that it knows. Name the signals by --link-pattern, --client-pattern or --manager-pattern"
+    raise Failure(f"'{name}' fits {len(found)} links: {known}" if found else f"no link is named '{name}'. The dump has: {known}{hint}", 2)
 
 
 def _scope_of_pattern(names: Sequence[str], full: Mapping[str, Signal], pattern: str) -> str:
@@ -385,7 +385,7 @@ def find_clock(link: Link, signals: Signals, pattern: Pattern[str], what: str) -
     scope = link.scope
     while True:
         here = {name: signal for name, signal in signals.ticks.get(scope, {}).items() if pattern.search(name)}
-        # its own, by its prefix, as in_clock and clk_in_i; then one without any, as clock and rst_ni; then the only one
+        # first its own by its prefix (in_clock, clk_in_i), then one without a prefix (clock, rst_ni), then the only one
         for head in (*heads, []):
             own = [signal for name, signal in here.items() if words_of(name) == head]
             if len({signal.key() for signal in own}) == 1:

@@ -21,7 +21,7 @@ fn is_refused(tracker: &Tracker<ChA, 4>, head: HeadA, mask: Mask, fault: BeatFau
     tracker.check(&blank(head, mask)).err() == Some(fault)
 }
 
-/// Whether it goes on by a beat of [`PUT`] of this index, which is the last one or not.
+/// Returns whether it advances by a beat of [`PUT`] with this index, which is the last one or not.
 fn passes(tracker: &mut Tracker<ChA, 4>, index: u32, last: bool) -> bool {
     match tracker.check(&blank(PUT, 0xf)) {
         Ok(place) => {
@@ -33,7 +33,7 @@ fn passes(tracker: &mut Tracker<ChA, 4>, index: u32, last: bool) -> bool {
     }
 }
 
-/// Whether one beat of [`PUT`] was accepted.
+/// Returns whether one beat of [`PUT`] was accepted.
 fn is_inside(tracker: &Tracker<ChA, 4>) -> bool {
     match tracker.in_burst() {
         Some((head, count)) => (head == PUT) & (count == 1),
@@ -41,7 +41,8 @@ fn is_inside(tracker: &Tracker<ChA, 4>) -> bool {
     }
 }
 
-/// A mask with a bit past the bus, one that lacks a lane, and another head, which comes before that.
+/// Refuses a mask with a bit beyond the bus, a mask with a lane missing, and another head, which is
+/// the fault reported first.
 fn bring_a_put(tracker: &mut Tracker<ChA, 4>) -> bool {
     let is_held = is_refused(tracker, PUT, 0x1f, BeatFault::Mask);
     let is_begun = passes(tracker, 0, false) & is_inside(tracker);
@@ -51,7 +52,8 @@ fn bring_a_put(tracker: &mut Tracker<ChA, 4>) -> bool {
     is_held & is_begun & is_kept & is_ended
 }
 
-/// Whether the next beat is a first one before two beats of [`PUT`] and behind them, and none between.
+/// Returns whether the next beat is the first of a message before two beats of [`PUT`] and after
+/// them, and not between them.
 fn is_counted(counter: &mut BurstCounter<ChA, 4>) -> bool {
     if ChA::fault(&PUT).is_some() {
         return false;

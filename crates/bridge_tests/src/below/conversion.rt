@@ -5,7 +5,7 @@ use tl_convert::{Converter, far_count};
 use tl_lanes::is_width;
 use tl_msg::{Beat, ChA};
 
-/// Whether a near beat gives these far beats.
+/// Returns whether a near beat gives these far beats.
 fn gives(converter: &mut Converter<ChA, 4, 8>, near: Beat<ChA, 4>, far: &[Beat<ChA, 8>]) -> bool {
     match converter.feed(near, 0) {
         Ok(out) => out.as_slice() == far,
@@ -13,7 +13,7 @@ fn gives(converter: &mut Converter<ChA, 4, 8>, near: Beat<ChA, 4>, far: &[Beat<C
     }
 }
 
-/// Whether two beats of 4 bytes make one of 8.
+/// Returns whether two beats of 4 bytes make one of 8.
 fn are_joined(converter: &mut Converter<ChA, 4, 8>) -> bool {
     let is_begun = gives(converter, put(3, 16, 0xf, [0, 1, 2, 3]), &[]) & !converter.at_boundary();
     let far = [put(3, 16, 0xff, [0, 1, 2, 3, 4, 5, 6, 7])];
@@ -21,12 +21,13 @@ fn are_joined(converter: &mut Converter<ChA, 4, 8>) -> bool {
     is_begun & is_given & converter.at_boundary()
 }
 
-/// Whether a list of near beats of 4 bytes gives so many far beats.
+/// Returns whether a list of near beats of 4 bytes gives this number of far beats.
 fn has_count<const V: usize>(beats: &[Beat<ChA, 4>], far: usize) -> bool {
     is_width(V) && beats.len() <= 5 && far_count::<ChA, 4, V>(beats) == far
 }
 
-/// Also how many far beats three of the four beats of a message give, none, and a message whose head changes.
+/// Also the number of far beats of three of the four beats of a message, of no beat, and of a
+/// message whose head changes.
 #[test]
 fn a_widened_burst(rt: HostRuntime) {
     let next: Beat<ChA, 4> = put(4, 32, 0xf, [0; 4]);

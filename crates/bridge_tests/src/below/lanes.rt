@@ -2,7 +2,7 @@
 
 use tl_lanes::{WIDEST, active, beat_bytes, beats, is_width, lane, move_lanes, move_mask};
 
-/// Of a message of 2 bytes round the end of a bus of 4, and of one of 8 bytes.
+/// For a message of 2 bytes that wraps around the end of a bus of 4, and for one of 8 bytes.
 #[test]
 fn counts_and_lanes(rt: HostRuntime) {
     let is_counted = (beat_bytes(1, 4) == 2) & (beats(true, 3, 4) == 2) & (beats(false, 3, 4) == 1);
@@ -10,7 +10,7 @@ fn counts_and_lanes(rt: HostRuntime) {
     assert!(rt; is_counted & is_placed & is_width(WIDEST) & !is_width(3));
 }
 
-/// None of a bus of 4 into one of 8, and then the whole of it into the upper half.
+/// Moves no lane of a bus of 4 into one of 8, and then all of them into the upper half.
 #[test]
 fn moved_lanes(rt: HostRuntime) {
     let mut lanes = [9; 8];
@@ -20,7 +20,8 @@ fn moved_lanes(rt: HostRuntime) {
     assert!(rt; is_kept & (lanes == [9, 9, 9, 9, 0, 1, 2, 3]));
 }
 
-/// The upper half of a bus of 8 into one of 4, and a bus of 4 into the lower half of one of 8.
+/// Moves the upper half of a bus of 8 into one of 4, and a bus of 4 into the lower half of one of
+/// 8.
 #[test]
 fn moved_bits(rt: HostRuntime) {
     assert!(rt;

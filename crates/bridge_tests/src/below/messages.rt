@@ -4,7 +4,7 @@ use tl_msg::{
     Kind, SideFault, Verdict,
 };
 
-/// Whether each item is equal to itself, and to no other of the list.
+/// Returns whether each item is equal to itself, and to no other item of the list.
 fn are_told_apart<T: PartialEq>(items: &[T]) -> bool {
     for (i, x) in items.iter().enumerate() {
         for (j, y) in items.iter().enumerate() {
@@ -122,7 +122,7 @@ fn values_are_told_apart(rt: HostRuntime) {
     assert!(rt; are_faults & are_others);
 }
 
-/// A head of A or B that is zero in all fields, as the fields of C are named too.
+/// A head of A or B with zero in all fields. The fields of C have the same names.
 const ZERO_A: HeadA = HeadA {
     opcode: 0,
     param: 0,
@@ -158,7 +158,7 @@ const ZERO_D: HeadD = HeadD {
 
 const ZERO_E: HeadE = HeadE { sink: 0 };
 
-/// Whether a value is the default of its type.
+/// Returns whether a value is the default of its type.
 fn is_default<T: Default + PartialEq + Drop>(value: &T) -> bool {
     *value == T::default()
 }

@@ -10,14 +10,14 @@ use std::alloc::Global;
 use tl_lanes::Mask;
 use tl_sides::{ClientSide, ManagerSide, bridge, meet_sides};
 
-/// Whether a Get of source 11 from this address is offered, and answered so.
+/// Returns whether a Get of source 11 from this address is offered, with this result.
 fn asks(client: &mut ClientSide<4, 16>, address: u64, said: &Said) -> bool
     ensures { SameClient client.old client.new }
 {
     client.ready_a() && client.offer_a(get(0x11, address, 0xf)) == *said
 }
 
-/// Whether a response to source 11 is offered, and answered so.
+/// Returns whether a response to source 11 is offered, with this result.
 fn answers(
     manager: &mut ManagerSide<4, 16>,
     opcode: u8,
@@ -30,21 +30,21 @@ fn answers(
     manager.ready_d() && manager.offer_d(data(opcode, size, 0x11, *lanes)) == *said
 }
 
-/// Whether the Get from this address is taken, and has this mask.
+/// Returns whether the Get from this address is taken, and has this mask.
 fn takes_ask(manager: &mut ManagerSide<4, 16>, address: u64, mask: Mask) -> bool
     ensures { SameManager manager.old manager.new }
 {
     manager.take_a() == Some(get(0x11, address, mask))
 }
 
-/// Whether a response of 4 bytes with these lanes is taken.
+/// Returns whether a response of 4 bytes with these lanes is taken.
 fn takes_answer(client: &mut ClientSide<4, 16>, lanes: [u8; 4]) -> bool
     ensures { SameClient client.old client.new }
 {
     client.take_d() == Some(data(1, 2, 0x11, lanes))
 }
 
-/// Whether that comes of one call of one side.
+/// Returns whether one call of one side has its expected result.
 fn play(client: &mut ClientSide<4, 16>, manager: &mut ManagerSide<4, 16>, call: &Call) -> bool
     ensures client { SameClient client.old client.new }
     ensures manager { SameManager manager.old manager.new }
@@ -62,7 +62,7 @@ fn play(client: &mut ClientSide<4, 16>, manager: &mut ManagerSide<4, 16>, call: 
     }
 }
 
-/// The same, and the meeting after it.
+/// The same, followed by a meeting.
 fn play_and_meet(
     client: &mut ClientSide<4, 16>,
     manager: &mut ManagerSide<4, 16>,
@@ -76,7 +76,7 @@ fn play_and_meet(
     said
 }
 
-/// Whether that comes of these calls, one after another.
+/// Returns whether these calls, one after another, have their expected results.
 fn play_all(
     client: &mut ClientSide<4, 16>,
     manager: &mut ManagerSide<4, 16>,
@@ -91,7 +91,7 @@ fn play_all(
     are_so
 }
 
-/// Whether that comes of these calls over rings of so many beats.
+/// Returns whether these calls have their expected results over rings of `ring` beats.
 fn sides_come_of(alloc: Global, ring: usize, calls: &[Call]) -> bool {
     match bridge::<4, 16, _>(alloc, ring) {
         Ok((mut client, mut manager)) => {
@@ -103,27 +103,27 @@ fn sides_come_of(alloc: Global, ring: usize, calls: &[Call]) -> bool {
     }
 }
 
-/// Whether a Get of source 11 from this address is offered between buses of 4 bytes.
+/// Returns whether a Get of source 11 from this address is accepted between buses of 4 bytes.
 fn asks_across(client: &mut ClientSide<4, 4>, address: u64) -> bool {
     client.ready_a() && client.offer_a(get(0x11, address, 0xf)).is_ok()
 }
 
-/// Whether a response to it, of 4 bytes like this one, is offered.
+/// Returns whether a response to it, of 4 bytes like this one, is accepted.
 fn answers_across(manager: &mut ManagerSide<4, 4>, byte: u8) -> bool {
     manager.ready_d() && manager.offer_d(data(1, 2, 0x11, [byte; 4])).is_ok()
 }
 
-/// Whether that Get is taken.
+/// Returns whether that Get is taken.
 fn takes_ask_across(manager: &mut ManagerSide<4, 4>, address: u64) -> bool {
     manager.take_a() == Some(get(0x11, address, 0xf))
 }
 
-/// Whether that response is taken.
+/// Returns whether that response is taken.
 fn takes_answer_across(client: &mut ClientSide<4, 4>, byte: u8) -> bool {
     client.take_d() == Some(data(1, 2, 0x11, [byte; 4]))
 }
 
-/// Whether both cross.
+/// Returns whether the request and its response both cross.
 fn ask_and_answer(
     client: &mut ClientSide<4, 4>,
     manager: &mut ManagerSide<4, 4>,
@@ -139,7 +139,7 @@ fn ask_and_answer(
     is_asked & is_there & is_taken & is_answered & is_back & is_kept
 }
 
-/// Whether source 11 asks and is answered twice.
+/// Returns whether source 11 sends two requests and receives two responses.
 fn both_cross_twice(alloc: Global) -> bool {
     match bridge::<4, 4, _>(alloc, 1) {
         Ok((mut client, mut manager)) => {
@@ -152,7 +152,7 @@ fn both_cross_twice(alloc: Global) -> bool {
     }
 }
 
-/// Also of a source that is used twice, and of one between equal widths.
+/// Also for a source that is used twice, and between equal widths.
 #[test]
 fn a_request_and_its_response(rt: HostRuntime) {
     let come = sides_come_of(rt.alloc(), 4, &ANSWERED) & sides_come_of(rt.alloc(), 1, &TWICE);

@@ -7,7 +7,7 @@ use tl_stream::{Input, TextFault, read_all, write_all};
 const TEXT: &str =
     "tilelink-trace 1 client 8 manager 4\nA 4 0 2 07 0000000000001004 f0 1122334455667788 0\n";
 
-/// Gives a text, some bytes a call, and fails at one call.
+/// A reader that returns a text, some bytes per call, and fails at one call.
 #[derive(Drop)]
 struct Pieces<'a> {
     rest: &'a [u8],
@@ -30,7 +30,8 @@ impl<'a> Read for Pieces<'a> {
     }
 }
 
-/// Takes some bytes a call, and fails at one call and, if it is asked to, at a flush.
+/// A writer that takes some bytes per call, and fails at one call and, if configured so, at a
+/// flush.
 #[derive(Drop)]
 struct Slow {
     taken: Vec<u8>,
@@ -63,7 +64,8 @@ impl Write for Slow {
 
 const KINDS: [io::ErrorKind; 2] = [io::ErrorKind::Interrupted, io::ErrorKind::Other];
 
-/// Whether the text, which comes a byte a call, is read where no call fails (call 0), and else there is a fault of reading.
+/// Returns whether the text, one byte per call, is read if no call fails (call 0), and otherwise
+/// the result is a read fault.
 fn is_read_or_fault(alloc: Global, bad_call: usize, kind: io::ErrorKind) -> bool {
     let mut reader = Pieces {
         rest: TEXT.as_bytes(),
@@ -88,7 +90,7 @@ fn readers(rt: HostRuntime) {
     }
 }
 
-/// What comes of a text that is read piece by piece, as a run reads it, some bytes a call.
+/// Returns the result of reading a text incrementally, as a run reads it, some bytes per call.
 fn read_in_pieces(
     alloc: Global,
     text: &[u8],
@@ -111,7 +113,8 @@ fn read_in_pieces(
     }
 }
 
-/// Whether all 300,000 bytes are read where call 6 or a later one fails, and else there is a fault of reading.
+/// Returns whether all 300,000 bytes are read if call 6 or a later one fails, and otherwise the
+/// result is a read fault.
 fn comes_in_pieces(alloc: Global, text: &[u8], bad_call: usize, kind: io::ErrorKind) -> bool {
     let wanted = if bad_call > 5 {
         Ok(300_000)
@@ -137,7 +140,8 @@ fn read_in_pieces_that_fail(rt: HostRuntime) {
     }
 }
 
-/// How many bytes a call takes, which call fails, whether a flush is well, and whether the text is written.
+/// A row: the number of bytes that a call takes, the call that fails, whether a flush succeeds, and
+/// whether the text is written.
 type Taken = (usize, usize, bool, bool);
 
 const WRITERS: [Taken; 3] = [
@@ -146,7 +150,7 @@ const WRITERS: [Taken; 3] = [
     (1000, 0, false, false),
 ];
 
-/// Whether the text is written, or else that is a fault of writing.
+/// Returns whether the text is written, or the result is a write fault, as the row expects.
 fn is_written(alloc: Global, row: &Taken, kind: io::ErrorKind) -> bool {
     let &(most, bad_call, flushes, is_well) = row;
     let mut writer = Slow {
@@ -163,7 +167,7 @@ fn is_written(alloc: Global, row: &Taken, kind: io::ErrorKind) -> bool {
     }
 }
 
-/// Also where each write of one byte fails in turn, the Nth in row 100 + N.
+/// Also if each write of one byte fails in turn, the Nth in row 100 + N.
 #[test]
 fn writers(rt: HostRuntime) {
     for (number, row) in WRITERS.iter().enumerate() {

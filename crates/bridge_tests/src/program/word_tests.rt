@@ -3,7 +3,7 @@ use std::alloc::Global;
 use tl_order::Order;
 use tl_words::{command_line_of, order_of};
 
-/// Words, what they order, and the file that they name.
+/// A row: words, the command that they give, and the file that they name.
 type Line = (&'static [&'static str], Order, Option<&'static str>);
 
 const USUAL_RUN: Order = Order::Run {

@@ -9,12 +9,12 @@ use std::alloc::Global;
 use tl_msg::{ChA, ChE, SinkId};
 use tl_ring::{EndFault, Receipt, SendEnd, Standing, TakeEnd, meet, meet_closing, ring_pair};
 
-/// Offers a quarter of a message of 16 bytes, and answers whether it was accepted.
+/// Offers a quarter of a message of 16 bytes. Returns whether it was accepted.
 fn quarter_offered(send: &mut SendEnd<ChA, 4, 8>, lanes: [u8; 4]) -> bool {
     send.ready() && send.offer(put(4, 32, 0xf, lanes), 0).is_ok()
 }
 
-/// Offers a message of 8 bytes, which is two beats on 4 lanes, and answers whether it was accepted.
+/// Offers a message of 8 bytes, which is two beats on 4 lanes. Returns whether it was accepted.
 fn offered(send: &mut SendEnd<ChA, 8, 4>) -> bool
     ensures { send.new.producer ≡ send.old.producer }
 {
@@ -24,7 +24,8 @@ fn offered(send: &mut SendEnd<ChA, 8, 4>) -> bool
             .is_ok()
 }
 
-/// Whether pumping, or else fetching, moves one beat, and the beats stand so then.
+/// Returns whether pumping, or otherwise fetching, moves one beat, and the beats are then at these
+/// places.
 fn moves_one(
     send: &mut SendEnd<ChA, 8, 4>,
     take: &mut TakeEnd<ChA, 8, 4>,
@@ -38,7 +39,7 @@ fn moves_one(
     (count == 1) & (meet(send, take) == standing)
 }
 
-/// Whether each of three takes gave a beat.
+/// Returns for each of three takes whether it returned a beat.
 fn taken(take: &mut TakeEnd<ChA, 8, 4>) -> [bool; 3]
     ensures { take.new.consumer ≡ take.old.consumer }
 {
@@ -49,14 +50,15 @@ fn taken(take: &mut TakeEnd<ChA, 8, 4>) -> [bool; 3]
     ]
 }
 
-/// Whether one far beat goes into the ring after the second of three quarters of a message, and none after the others.
+/// Returns whether one far beat enters the ring after the second of three quarters of a message,
+/// and none after the others.
 fn bring_three_quarters(send: &mut SendEnd<ChA, 4, 8>) -> bool {
     let first = quarter_offered(send, [0, 1, 2, 3]) & (send.pump() == 0);
     let second = quarter_offered(send, [4, 5, 6, 7]) & (send.pump() == 1);
     first & second & quarter_offered(send, [8, 9, 10, 11]) & (send.pump() == 0)
 }
 
-/// Whether the end is open within the message, and closed after its last quarter.
+/// Returns whether the end stays open within the message, and is closed after its last quarter.
 fn closes_at_the_end(send: SendEnd<ChA, 4, 8>) -> bool {
     let Err((mut send, fault)) = send.close() else {
         return false;
@@ -80,7 +82,8 @@ fn a_half_brought_message_keeps_its_end_open(rt: HostRuntime) {
     assert!(rt; is_brought & is_closed);
 }
 
-/// Whether the sending end pumps, else the taking end fetches, and how many beats are staged, in the ring and in the inbox then.
+/// A row: whether the sending end pumps (otherwise the taking end fetches), and the number of beats
+/// in the stage, the ring and the inbox afterwards.
 const MOVES: [(bool, usize, usize, usize); 4] = [
     (true, 1, 1, 0),
     (false, 1, 0, 1),
@@ -88,7 +91,7 @@ const MOVES: [(bool, usize, usize, usize); 4] = [
     (false, 0, 0, 2),
 ];
 
-/// Whether two far beats pass a ring of one, and no third one.
+/// Returns whether two far beats pass a ring of one, and no third one.
 fn pass_a_ring_of_one(send: &mut SendEnd<ChA, 8, 4>, take: &mut TakeEnd<ChA, 8, 4>) -> bool
     requires { ArePair send.old take.old }
     ensures { ArePair send.new take.new }
@@ -100,7 +103,7 @@ fn pass_a_ring_of_one(send: &mut SendEnd<ChA, 8, 4>, take: &mut TakeEnd<ChA, 8, 
     is_so & (taken(take) == [true, true, false])
 }
 
-/// Whether the end is closed, and all that it has brought was taken.
+/// Returns whether the end is closed, and all its beats were taken.
 fn closes_with_nothing_left(send: SendEnd<ChA, 8, 4>, take: &mut TakeEnd<ChA, 8, 4>) -> bool
     requires { ArePair send take.old }
 {
@@ -120,7 +123,8 @@ fn two_far_beats_pass_a_ring_of_one_between_ends(rt: HostRuntime) {
     assert!(rt; have_passed & is_closed);
 }
 
-/// Offers a GrantAck, and answers whether it was accepted and staged, and so many beats went into the ring then.
+/// Offers a GrantAck. Returns whether it was accepted and staged, and this number of beats then
+/// entered the ring.
 fn sends(send: &mut SendEnd<ChE, 4, 8>, sink: SinkId, moved: usize) -> bool
     ensures { SameSend send.old send.new }
 {
@@ -128,8 +132,8 @@ fn sends(send: &mut SendEnd<ChE, 4, 8>, sink: SinkId, moved: usize) -> bool
     is_accepted & (send.staged() == 1) & (send.pump() == moved)
 }
 
-/// Whether a receipt says that a beat is in the ring, then that it is in the inbox, and then, when it
-/// was taken and is this GrantAck, that nothing is left.
+/// Returns whether a receipt shows that a beat is in the ring, then that it is in the inbox, and,
+/// after it was taken and is this GrantAck, that nothing is left.
 fn is_emptied(take: &mut TakeEnd<ChE, 4, 8>, receipt: &mut Receipt<ChE, 4, 8>, sink: SinkId) -> bool
     requires { IsReceiptOf receipt.old take.old }
 {
@@ -142,7 +146,8 @@ fn is_emptied(take: &mut TakeEnd<ChE, 4, 8>, receipt: &mut Receipt<ChE, 4, 8>, s
     }
 }
 
-/// Closes the end, meets the other one, and answers the receipt, if one beat is in the ring and nothing is staged.
+/// Closes the end and meets the other one. Returns the receipt, if one beat is in the ring and
+/// nothing is staged.
 fn receipt_for_one(
     send: SendEnd<ChE, 4, 8>,
     take: &mut TakeEnd<ChE, 4, 8>,
@@ -163,7 +168,7 @@ fn receipt_for_one(
     }
 }
 
-/// Whether the receipt of an end that has sent one GrantAck shows what is left.
+/// Returns whether the receipt of an end that has sent one GrantAck shows what is left.
 fn shows_what_is_left(mut send: SendEnd<ChE, 4, 8>, take: &mut TakeEnd<ChE, 4, 8>) -> bool
     requires { ArePair send take.old }
 {
@@ -185,7 +190,8 @@ fn a_receipt_shows_what_is_left(rt: HostRuntime) {
     assert!(rt; is_so);
 }
 
-/// Whether two beats go into the ring of two, and one more stays in the stage of the closed end, where the taking end is gone.
+/// Returns whether two beats enter the ring of two, and one more stays in the stage of the closed
+/// end, after the taking end was dropped.
 fn sends_in_vain(mut send: SendEnd<ChE, 4, 8>) -> bool {
     let are_sent = sends(&mut send, 7, 1) & sends(&mut send, 7, 1) & sends(&mut send, 7, 0);
     let is_full = !send.ready();
@@ -195,12 +201,13 @@ fn sends_in_vain(mut send: SendEnd<ChE, 4, 8>) -> bool {
     }
 }
 
-/// Offers a message of two beats, of which one goes into the ring, and lets the end go. Answers whether that was so.
+/// Offers a message of two beats, of which one enters the ring, and drops the end. Returns whether
+/// that succeeded.
 fn leaves_one(mut send: SendEnd<ChA, 8, 4>) -> bool {
     offered(&mut send) && send.pump() == 1
 }
 
-/// Whether the beat that is in the ring still comes, where the sending end is gone.
+/// Returns whether the beat in the ring still arrives after the sending end was dropped.
 fn take_what_is_left(take: &mut TakeEnd<ChA, 8, 4>) -> bool {
     let is_there = (take.fetch() == 1) & take.take().is_some();
     is_there & (take.fetch() == 0) & take.take().is_none()

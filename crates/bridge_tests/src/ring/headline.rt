@@ -1,5 +1,5 @@
-//! What was taken, and what is under way, is the far layout of what was accepted, said of real beats: of a
-//! crossing between two threads at a meeting, and of a closed one by its receipt.
+//! The beats taken and those under way are the far layout of the accepted beats, tested on real
+//! beats: of a crossing between two threads at a meeting, and of a closed one with its receipt.
 #![tactic(auto, using(tl_lanes::proofs::Widths::width_4, tl_lanes::proofs::Widths::width_8))]
 
 ghost use Rattle.std.specs.Prelude.{◌≡◌, ◌+◌, ◌++◌, ◌∷◌, [], List, ℕ, length, IfSome};
@@ -19,14 +19,14 @@ use std::thread::{Threads, join_mut};
 use tl_msg::{Beat, ChA};
 use tl_ring::{Receipt, SendEnd, Standing, TakeEnd, meet, ring_pair};
 
-/// The taker gives up after so many turns.
+/// The number of turns after which the receiver gives up.
 const TURNS: usize = 500_000_000;
 
-/// Offers a beat where nothing is staged, and sends what it makes due. Answers how many far beats
-/// went into the ring, or None where the beat was refused.
+/// Offers a beat if nothing is staged, and sends the far beats that it makes due. Returns the
+/// number of far beats that entered the ring, or `None` if the beat was refused.
 fn send_one(send: &mut SendEnd<ChA, 8, 4>, beat: Beat<ChA, 8>) -> Option<usize>
     ensures same { SameSend send.old send.new }
-    // for every crossing that the end stands for
+    // for every crossing that the end represents
     ensures sent { (x : World HeadA 8 4) → Sends rules_a send.old x →
         IfSome result (λ count. Sends rules_a send.new (passed count (offered rules_a beat 0 x))) }
 {
@@ -39,10 +39,10 @@ fn send_one(send: &mut SendEnd<ChA, 8, 4>, beat: Beat<ChA, 8>) -> Option<usize>
     }
 }
 
-/// Fetches what comes, and takes the first far beat, if there is one before the turns are over.
+/// Fetches beats, and returns the first far beat, if one arrives before the turns are over.
 fn take_one(take: &mut TakeEnd<ChA, 8, 4>) -> Option<Beat<ChA, 4>>
     ensures same { SameTake take.old take.new }
-    // for all that was taken before
+    // for all beats taken before
     ensures taken { (taken : List (BeatOf HeadA 4)) → Takes take.old taken →
         IfSome result (λ beat. Takes take.new (taken ++ beat ∷ [])) }
 {
@@ -84,7 +84,7 @@ fn send_and_take<R: Threads>(
 }
 
 /// One thread offers a beat, and another takes the first far beat of it; then both ends meet. That
-/// far beat, and the beats that are under way, are the far layout of the one that was offered.
+/// far beat, and the beats under way, are the far layout of the one that was offered.
 fn cross_in_two_threads<R: Threads>(
     rt: &R,
     send: &mut SendEnd<ChA, 8, 4>,
@@ -109,7 +109,8 @@ fn cross_in_two_threads<R: Threads>(
     }
 }
 
-/// Offers a beat and sends it, closes the end, and gives it up. Answers the receipt, if nothing is left in the stage.
+/// Offers a beat and sends it, closes the end, and gives it up. Returns the receipt, if nothing is
+/// left in the stage.
 fn send_whole(mut send: SendEnd<ChA, 8, 4>, beat: Beat<ChA, 8>) -> Option<Receipt<ChA, 8, 4>>
     requires { Sends rules_a send (empty {w = 8} 4) }
     ensures taker { IfSome result (λ receipt. IsReceiptFor send receipt) }
@@ -127,13 +128,13 @@ fn send_whole(mut send: SendEnd<ChA, 8, 4>, beat: Beat<ChA, 8>) -> Option<Receip
     }
 }
 
-/// Takes two far beats, and answers them, if the receipt says that nothing is left then.
+/// Takes two far beats. Returns them, if the receipt then shows that nothing is left.
 fn take_whole(
     take: &mut TakeEnd<ChA, 8, 4>,
     receipt: &mut Receipt<ChA, 8, 4>,
 ) -> Option<(Beat<ChA, 4>, Beat<ChA, 4>)>
     requires { IsReceiptOf receipt.old take.old }
-    // for every crossing that the receipt shows, of which nothing was taken before
+    // for every crossing that the receipt shows, if nothing of it was taken before
     ensures { (x : World HeadA 8 4) → Shows rules_a receipt.old x → Takes take.old [] →
         IfSome result (λ far. (messages : List (Message HeadA)) ×
         Handed rules_a 8 x.accepted x.homes messages [] × (far.0 ∷ far.1 ∷ [] ≡ layouts rules_a 4 messages)) }
@@ -147,8 +148,9 @@ fn take_whole(
     }
 }
 
-/// A beat is offered and sent, and its end is closed and given up; then two far beats are taken, and
-/// the receipt asked. Where it says that nothing is left, they are the far layout of whole messages.
+/// A beat is offered and sent, and its end is closed and given up; then two far beats are taken,
+/// and the receipt is asked. If it shows that nothing is left, they are the far layout of whole
+/// messages.
 fn cross_whole(
     send: SendEnd<ChA, 8, 4>,
     take: &mut TakeEnd<ChA, 8, 4>,
@@ -163,7 +165,7 @@ fn cross_whole(
     take_whole(take, &mut receipt)
 }
 
-/// Whether this is the first half of the beat, and the other one is under way.
+/// Returns whether this is the first half of the beat, and the other one is under way.
 fn is_half(shown: Option<(Beat<ChA, 4>, Standing)>) -> bool {
     match shown {
         Some((first, standing)) => {
@@ -186,7 +188,7 @@ fn a_meeting_shows_what_is_under_way(rt: HostRuntime) {
     assert!(rt; is_half(shown));
 }
 
-/// Whether these are both halves of the beat.
+/// Returns whether these are both halves of the beat.
 fn is_whole(shown: Option<(Beat<ChA, 4>, Beat<ChA, 4>)>) -> bool {
     match shown {
         Some((first, second)) => (first.lanes == [0, 1, 2, 3]) & (second.lanes == [4, 5, 6, 7]),

@@ -7,24 +7,24 @@ use std::alloc::Global;
 use tl_msg::{BeatOf, ChA, ChC, HeadC};
 use tl_ring::{EndFault, Standing, SyncPipe};
 
-/// What a pipe from 8 bytes to 4 does, and what comes of it.
+/// A step of a pipe from 8 bytes to 4, and its expected result.
 enum Step {
     /// It accepts a message of the bytes 0 to 7, which is two far beats.
     Offers,
-    /// So many beats are moved.
+    /// This number of beats is moved.
     Pumps(usize),
     Fetches(usize),
-    /// It gives the far beat with these bytes.
+    /// It returns the far beat with these bytes.
     Takes([u8; 4]),
     TakesNothing,
     Closes,
     IsReady(bool),
     IsDrained(bool),
-    /// So many beats are in the stage, and no others under way.
+    /// This number of beats is in the stage, and no others are under way.
     Stages(usize),
 }
 
-/// Whether it accepts a message of the bytes 0 to 7.
+/// Returns whether it accepts a message of the bytes 0 to 7.
 fn offers(pipe: &mut SyncPipe<ChA, 8, 4>) -> bool {
     pipe.ready()
         && pipe
@@ -32,12 +32,12 @@ fn offers(pipe: &mut SyncPipe<ChA, 8, 4>) -> bool {
             .is_ok()
 }
 
-/// Whether it gives the far beat with these bytes.
+/// Returns whether it returns the far beat with these bytes.
 fn takes(pipe: &mut SyncPipe<ChA, 8, 4>, lanes: [u8; 4]) -> bool {
     pipe.take() == Some(put(3, 16, 0xf, lanes))
 }
 
-/// Whether that comes of a step.
+/// Returns whether a step has its expected result.
 fn play(pipe: &mut SyncPipe<ChA, 8, 4>, step: &Step) -> bool {
     match step {
         Step::Offers => offers(pipe),
@@ -52,7 +52,7 @@ fn play(pipe: &mut SyncPipe<ChA, 8, 4>, step: &Step) -> bool {
     }
 }
 
-/// Whether that comes of these steps over a ring of one beat.
+/// Returns whether these steps have their expected results over a ring of one beat.
 fn steps_come_of(alloc: Global, steps: &[Step]) -> bool {
     come_of(SyncPipe::new(alloc, 1), play, steps)
 }
@@ -100,12 +100,13 @@ fn two_far_beats_pass_a_ring_of_one(rt: HostRuntime) {
     assert!(rt; steps_come_of(rt.alloc(), &CLOSED_LAST) & steps_come_of(rt.alloc(), &CLOSED_FIRST));
 }
 
-/// Offers half of a message of 8 bytes, and answers whether it was accepted.
+/// Offers half of a message of 8 bytes. Returns whether it was accepted.
 fn half_offered(pipe: &mut SyncPipe<ChA, 4, 8>, lanes: [u8; 4]) -> bool {
     pipe.ready() && pipe.offer(put(3, 16, 0xf, lanes), 0).is_ok()
 }
 
-/// Whether a close is refused after the first half, and the far beat is staged after the second one.
+/// Returns whether closing is refused after the first half, and the far beat is staged after the
+/// second one.
 fn close_after_each_half(pipe: &mut SyncPipe<ChA, 4, 8>) -> bool {
     let is_open = half_offered(pipe, [0, 1, 2, 3]) & (pipe.close() == Err(EndFault::MidBurst));
     let is_empty = pipe.standing() == at(0, 0, 0);
@@ -132,7 +133,8 @@ const RELEASE: BeatOf<HeadC, 64> = BeatOf {
     corrupt: false,
 };
 
-/// Offers beats of [`RELEASE`]. Whether of each so many far beats are pumped, and so many fetched.
+/// Offers beats of [`RELEASE`]. Returns whether these numbers of far beats are pumped and fetched
+/// for each.
 fn are_moved(pipe: &mut SyncPipe<ChC, 64, 1>, moved: &[[usize; 2]]) -> bool {
     let mut are_so = true;
     for count in moved {
@@ -143,7 +145,8 @@ fn are_moved(pipe: &mut SyncPipe<ChC, 64, 1>, moved: &[[usize; 2]]) -> bool {
     are_so
 }
 
-/// Whether 128 beats stand in the inbox and so many in the ring, and after a take so many are fetched, and the beats stand so.
+/// Returns whether 128 beats are in the inbox and this number in the ring, this number is fetched
+/// after a take, and the beats are then at these places.
 fn is_full(
     pipe: &mut SyncPipe<ChC, 64, 1>,
     in_ring: usize,
@@ -155,14 +158,15 @@ fn is_full(
     is_full & is_fetched & (pipe.standing() == then)
 }
 
-/// Whether two beats fill the inbox, and the far beats of two more stay in the ring, but for one after each take.
+/// Returns whether two beats fill the inbox, and the far beats of two more stay in the ring, except
+/// one after each take.
 fn two_fill_it(pipe: &mut SyncPipe<ChC, 64, 1>) -> bool {
     let two = are_moved(pipe, &[[64, 64], [64, 64]]) & is_full(pipe, 0, 0, at(0, 0, 127));
     let more = are_moved(pipe, &[[64, 1], [64, 0]]) & is_full(pipe, 127, 1, at(0, 126, 128));
     two & more
 }
 
-/// Over the largest ring.
+/// With the largest ring.
 #[test]
 fn an_inbox_holds_128_beats(rt: HostRuntime) {
     assert!(rt; lent(SyncPipe::new(rt.alloc(), 4096), two_fill_it));

@@ -12,11 +12,11 @@ use std::thread::{Threads, join, join_mut};
 use tl_msg::{ChE, SinkId};
 use tl_ring::{ClosingEnd, Receipt, SendEnd, TakeEnd, meet, ring_pair};
 
-/// How many beats go through the ring of two threads.
+/// The number of beats that go through the ring between two threads.
 const COUNT: SinkId = 200;
 
-/// Offers and sends the sinks from this one on, until all are sent or the turns are over, and answers the one after those that were
-/// offered.
+/// Offers and sends the sinks from this one on, until all are sent or the turns are over. Returns
+/// the sink after those that were offered.
 fn send_from(send: &mut SendEnd<ChE, 4, 8>, first: SinkId, turns: usize) -> SinkId
     ensures { SameSend send.old send.new }
 {
@@ -33,7 +33,7 @@ fn send_from(send: &mut SendEnd<ChE, 4, 8>, first: SinkId, turns: usize) -> Sink
     next
 }
 
-/// Fetches and takes beats, until all were taken or the turns are over, and notes their sinks.
+/// Fetches and takes beats, until all are taken or the turns are over, and records their sinks.
 fn take_all(take: &mut TakeEnd<ChE, 4, 8>, sinks: &mut ArrayVec<SinkId, 200>, turns: usize)
     ensures { SameTake take.old take.new }
 {
@@ -47,7 +47,7 @@ fn take_all(take: &mut TakeEnd<ChE, 4, 8>, sinks: &mut ArrayVec<SinkId, 200>, tu
     }
 }
 
-/// Sends what is staged, until nothing is or the turns are over.
+/// Sends staged beats, until none are left or the turns are over.
 fn pump_all(closing: &mut ClosingEnd<ChE, 4, 8>, turns: usize)
     ensures { SameSend closing.old closing.new }
 {
@@ -59,8 +59,8 @@ fn pump_all(closing: &mut ClosingEnd<ChE, 4, 8>, turns: usize)
     }
 }
 
-/// Offers and sends the sinks from 0 on, and then closes the end, sends what is staged and answers the receipt, if all of that was done
-/// before the turns were over.
+/// Offers and sends the sinks from 0 on, then closes the end and sends the staged beats. Returns
+/// the receipt, if all of that was done before the turns were over.
 fn send_and_finish(mut send: SendEnd<ChE, 4, 8>, turns: usize) -> Option<Receipt<ChE, 4, 8>>
     ensures { IfSome result (λ receipt. IsReceiptFor send receipt) }
 {
@@ -76,7 +76,7 @@ fn send_and_finish(mut send: SendEnd<ChE, 4, 8>, turns: usize) -> Option<Receipt
     }
 }
 
-/// Whether these are the sinks from 0 on, each once and in order.
+/// Returns whether these are the sinks from 0 on, each once and in order.
 fn in_order(sinks: &ArrayVec<SinkId, 200>) -> bool {
     let mut next = 0;
     for &sink in sinks.as_slice() {
@@ -88,8 +88,8 @@ fn in_order(sinks: &ArrayVec<SinkId, 200>) -> bool {
     next == COUNT
 }
 
-/// Sends what two threads did not, from this sink on, with a meeting after each step, until all were taken. Answers whether they came
-/// in order, and nothing is left.
+/// Sends the sinks that two threads did not, from this one on, with a meeting after each step,
+/// until all are taken. Returns whether they arrived in order, and nothing is left.
 fn bring_the_rest(
     send: &mut SendEnd<ChE, 4, 8>,
     take: &mut TakeEnd<ChE, 4, 8>,
@@ -111,7 +111,8 @@ fn bring_the_rest(
     false
 }
 
-/// Sends in one thread and takes in another, and notes what was taken. Answers the sink after those that were offered.
+/// Sends in one thread and takes in another, and records the beats taken. Returns the sink after
+/// those that were offered.
 fn send_and_take<R: Threads>(
     rt: &R,
     send: &mut SendEnd<ChE, 4, 8>,
@@ -133,7 +134,8 @@ fn send_and_take<R: Threads>(
     offered
 }
 
-/// Whether all sinks that two threads and then one bring come in order, and nothing is left.
+/// Returns whether all sinks that two threads and then one thread send arrive in order, and nothing
+/// is left.
 fn lose_nothing<R: Threads>(
     rt: &R,
     send: &mut SendEnd<ChE, 4, 8>,
@@ -156,7 +158,8 @@ fn two_threads_lose_nothing(rt: HostRuntime) {
     assert!(rt; is_so);
 }
 
-/// Takes what is left, and answers whether all came in order once the receipt says that nothing is.
+/// Takes the remaining beats. Returns whether all arrived in order, once the receipt shows that
+/// nothing is left.
 fn take_the_rest(
     take: &mut TakeEnd<ChE, 4, 8>,
     receipt: &mut Receipt<ChE, 4, 8>,

@@ -8,8 +8,8 @@ use std::thread::Threads;
 use tl_bridge::Gate;
 use tl_trace::Script;
 
-/// A gate that counts how often it is passed, and waits until the other one was passed as often. It
-/// waits no more once it has waited in vain.
+/// A gate that counts its calls, and waits until the other gate has been called as often. It never
+/// waits again after it has waited in vain.
 #[derive(Drop)]
 struct Spin<'a> {
     passed: &'a AtomicU64,
@@ -33,7 +33,8 @@ impl<'a> Gate for Spin<'a> {
     }
 }
 
-/// Whether there is memory for two requests by one source, and for two responses to it.
+/// Adds two requests by one source and two responses to it. Returns whether there was memory for
+/// them.
 fn use_twice(script: &mut Script<4, 4>) -> bool {
     let asks = script
         .a
@@ -42,7 +43,7 @@ fn use_twice(script: &mut Script<4, 4>) -> bool {
     asks.is_ok() & script.d.extend_from_slice(&answers).is_ok()
 }
 
-/// Whether neither side waits in vain, and each passes its gate once in each round.
+/// Returns whether neither side waits in vain, and each calls its gate once in each round.
 fn meet_in_each_round<R: Threads>(rt: &R, alloc: Global, script: &Script<4, 4>) -> bool {
     let there = AtomicU64::new(0);
     let back = AtomicU64::new(0);
@@ -62,7 +63,7 @@ fn meet_in_each_round<R: Threads>(rt: &R, alloc: Global, script: &Script<4, 4>) 
     !has_missed & matches!(ended, Some(rounds) if passed == (rounds, rounds))
 }
 
-/// Two sides that one thread did in turn would each wait in vain.
+/// If one thread ran both sides in turn, each would wait in vain.
 #[test]
 fn both_sides_work_at_the_same_time(rt: HostRuntime) {
     let mut script = empty::<4, 4>(rt.alloc());

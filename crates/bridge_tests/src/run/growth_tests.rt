@@ -1,6 +1,6 @@
-//! What both runs answer where a growth or the start of a thread is refused: want of memory, which is then the answer of the
-//! test too, or the whole outcome; and the script is as it was. `bench/refusals` refuses each in turn. Where none is refused,
-//! the tests pass.
+//! The result of both runs if an allocation or the start of a thread fails. It is `OutOfMemory`,
+//! which is then also the result of the test, or the whole outcome. The script is unchanged.
+//! `bench/refusals` makes each fail in turn. If none fails, the tests pass.
 #![tactic(auto, using(tl_lanes::proofs::Widths::width_4, tl_lanes::proofs::Widths::width_8))]
 
 ghost use Rattle.tl_run.specs.Scripts.{HasShortLists};
@@ -13,7 +13,7 @@ use tl_bridge::{NoGate, Outcome, RunFault, run_sync, run_threads};
 use tl_msg::Verdict;
 use tl_trace::Script;
 
-/// Whether each beat of the script arrives.
+/// Returns whether each beat of the script arrives.
 fn has_all_five(outcome: &Outcome<4, 8>) -> bool {
     (outcome.a.len() == 1)
         & (outcome.b.len() == 1)
@@ -23,10 +23,10 @@ fn has_all_five(outcome: &Outcome<4, 8>) -> bool {
         & (outcome.verdicts == [Verdict::Done { near: 1, far: 1 }; 5])
 }
 
-/// Whether each beat of a script arrived in its run, or else the fault of the run.
+/// Whether each beat of a script arrived in its run, or the fault of the run.
 type Ended = Result<bool, RunFault>;
 
-/// How a run is to end over a ring of no such size.
+/// The expected result of a run with an invalid ring size.
 const NO_RING: Ended = Err(RunFault::RingSize);
 
 fn ended_so(ended: &Result<Outcome<4, 8>, RunFault>) -> Ended {
@@ -36,7 +36,7 @@ fn ended_so(ended: &Result<Outcome<4, 8>, RunFault>) -> Ended {
     }
 }
 
-/// The run in one thread.
+/// Returns the result of the run in one thread.
 fn ended_in_one(alloc: Global, script: &Script<4, 8>, ring: usize) -> Ended
     requires short { HasShortLists script.now }
 {
@@ -44,7 +44,7 @@ fn ended_in_one(alloc: Global, script: &Script<4, 8>, ring: usize) -> Ended
     ended_so(&ended)
 }
 
-/// The run in two threads.
+/// Returns the result of the run in two threads.
 fn ended_in_two<R: Threads>(rt: &R, alloc: Global, script: &Script<4, 8>, ring: usize) -> Ended
     requires short { HasShortLists script.now }
 {
@@ -61,7 +61,7 @@ fn ended_in_two<R: Threads>(rt: &R, alloc: Global, script: &Script<4, 8>, ring: 
     ended_so(&ended)
 }
 
-/// The run in one thread, or in two.
+/// Returns the result of the run in one thread, or in two.
 fn ended_in<R: Threads>(
     rt: &R,
     alloc: Global,
@@ -78,7 +78,7 @@ fn ended_in<R: Threads>(
     }
 }
 
-/// What a test answers whose run ended so.
+/// Returns the result of a test whose run had this result.
 fn judged(ended: Ended) -> Result<(), Fail> {
     match ended {
         Ok(true) => Ok(()),
@@ -87,7 +87,7 @@ fn judged(ended: Ended) -> Result<(), Fail> {
     }
 }
 
-/// Runs the script over rings of 0 and of 4,097 beats, and of 1.
+/// Runs the script over rings of 0 and of 4,097 beats, and of 1. Returns the result of the test.
 fn judge<R: Threads>(
     rt: &R,
     alloc: Global,
@@ -108,7 +108,7 @@ fn judge<R: Threads>(
     judged(ended)
 }
 
-/// Reads the script, and runs it.
+/// Reads the script and runs it. Returns the result of the test.
 fn read_and_judge<R: Threads>(rt: &R, alloc: Global, threads: bool) -> Result<(), Fail> {
     match script_of_five(alloc) {
         Ok(script) => {

@@ -1,4 +1,4 @@
-//! How many rounds a run takes.
+//! Tests of the number of rounds of a run.
 #![tactic(auto, using(tl_lanes::proofs::Widths::width_64, tl_lanes::proofs::Widths::width_128))]
 
 ghost use Rattle.tl_lanes.specs.Lanes.{IsWidth};
@@ -12,7 +12,7 @@ use tl_lanes::{Mask, is_width};
 use tl_msg::{Beat, ChA, ChE};
 use tl_trace::Script;
 
-/// The rounds of a run, if it did not end in a fault.
+/// Returns the number of rounds of a run, or `None` if it ended in a fault.
 fn rounds_in<const C: usize, const M: usize>(
     ended: &Result<Outcome<C, M>, RunFault>,
 ) -> Option<u64> {
@@ -22,7 +22,7 @@ fn rounds_in<const C: usize, const M: usize>(
     }
 }
 
-/// The rounds of the run in two threads, over the largest rings.
+/// Returns the number of rounds of the run in two threads, over the largest rings.
 fn rounds<const C: usize, const M: usize, R: Threads>(
     rt: &R,
     alloc: Global,
@@ -45,7 +45,7 @@ fn rounds<const C: usize, const M: usize, R: Threads>(
     rounds_in(&ended)
 }
 
-/// The rounds of the run in one thread.
+/// Returns the number of rounds of the run in one thread.
 fn sync_rounds<const C: usize, const M: usize>(
     alloc: Global,
     script: &Script<C, M>,
@@ -58,7 +58,7 @@ fn sync_rounds<const C: usize, const M: usize>(
     rounds_in(&ended)
 }
 
-/// Whether a run ended, in so many rounds at least, and at most.
+/// Returns whether a run ended in at least `least` and at most `most` rounds.
 fn are_from(rounds: Option<u64>, least: u64, most: u64) -> bool {
     match rounds {
         Some(rounds) => (least <= rounds) & (rounds <= most),
@@ -75,7 +75,7 @@ fn no_beat_takes_one_round(rt: HostRuntime) {
     assert!(rt; (in_two == Some(1)) & (in_one == Some(1)));
 }
 
-/// GrantAck of each sink from 00 to c7.
+/// Appends a GrantAck of each sink from 00 to c7. Returns whether there was memory.
 fn acknowledge(list: &mut Vec<Beat<ChE, 4>>) -> bool {
     let mut has_room = true;
     for sink in 0..200 {
@@ -84,7 +84,7 @@ fn acknowledge(list: &mut Vec<Beat<ChE, 4>>) -> bool {
     has_room
 }
 
-/// The rounds of 200 beats of E in two threads.
+/// Returns the number of rounds of 200 beats of E in two threads.
 fn rounds_of_acks<R: Threads>(rt: &R, alloc: Global, turns: usize) -> Option<u64> {
     let mut script = empty::<4, 8>(alloc);
     let is_made = acknowledge(&mut script.e);
@@ -93,7 +93,7 @@ fn rounds_of_acks<R: Threads>(rt: &R, alloc: Global, turns: usize) -> Option<u64
     if is_made { taken } else { None }
 }
 
-/// 200 beats go through rings of 4,096 in few rounds of many turns, and in many of one turn.
+/// 200 beats go through rings of 4,096 in few rounds of many turns, and in many rounds of one turn.
 #[test]
 fn a_run_heeds_its_turns(rt: HostRuntime) {
     let few = rounds_of_acks(&rt, rt.alloc(), 1000);
@@ -101,7 +101,7 @@ fn a_run_heeds_its_turns(rt: HostRuntime) {
     assert!(rt; are_from(few, 1, 6) & are_from(many, 201, u64::MAX));
 }
 
-/// PutFullData of 4,096 bytes, in so many beats.
+/// Appends a PutFullData of 4,096 bytes, in `count` beats. Returns whether there was memory.
 fn put_all<const W: usize>(list: &mut Vec<Beat<ChA, W>>, count: usize, mask: Mask) -> bool {
     let mut has_room = true;
     for _ in 0..count {
@@ -110,7 +110,7 @@ fn put_all<const W: usize>(list: &mut Vec<Beat<ChA, W>>, count: usize, mask: Mas
     has_room
 }
 
-/// The rounds of these in one thread, to the narrowest bus.
+/// Returns the number of rounds of these beats in one thread, to the narrowest bus.
 fn rounds_of_puts<const C: usize>(
     alloc: Global,
     count: usize,
@@ -134,7 +134,7 @@ fn a_run_heeds_its_rings(rt: HostRuntime) {
     assert!(rt; are_from(many, 4097, u64::MAX) & are_from(few, 1, 65));
 }
 
-/// And 128 from the widest bus through one of 128.
+/// Each round moves 128 far beats from the widest bus through a ring of 128.
 #[test]
 fn a_run_from_the_widest_bus_heeds_its_rings(rt: HostRuntime) {
     let few = rounds_of_puts::<128>(rt.alloc(), 32, Mask::MAX, 128);

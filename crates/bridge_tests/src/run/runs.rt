@@ -1,4 +1,4 @@
-//! The run of a script in two threads, beside its run in one.
+//! Tests that the run of a script in two threads agrees with its run in one.
 #![tactic(auto, using(tl_lanes::proofs::Widths::width_4))]
 
 ghost use Rattle.tl_run.specs.Scripts.{HasShortLists};
@@ -9,12 +9,12 @@ use std::thread::Threads;
 use tl_bridge::{Gate, Outcome, RunFault, run_sync, run_threads};
 use tl_trace::Script;
 
-/// Whether two lists are the same.
+/// Returns whether two lists are the same.
 fn are_equal<T: PartialEq>(one: &Vec<T>, other: &Vec<T>) -> bool {
     one.as_slice() == other.as_slice()
 }
 
-/// Whether both runs have the same lists and verdicts.
+/// Returns whether both runs have the same lists and verdicts.
 fn are_same(one: &Outcome<4, 4>, other: &Outcome<4, 4>) -> bool {
     are_equal(&one.a, &other.a)
         & are_equal(&one.b, &other.b)
@@ -24,7 +24,8 @@ fn are_same(one: &Outcome<4, 4>, other: &Outcome<4, 4>) -> bool {
         & (one.verdicts == other.verdicts)
 }
 
-/// The rounds in two threads of two runs of one script, if both have the same lists and verdicts.
+/// Returns the number of rounds in two threads of two runs of one script, if both have the same
+/// lists and verdicts.
 fn rounds_of(
     threads: &Result<Outcome<4, 4>, RunFault>,
     sync: &Result<Outcome<4, 4>, RunFault>,
@@ -35,7 +36,8 @@ fn rounds_of(
     }
 }
 
-/// Both runs of a script, in turns of one, over rings of the same size: the rounds in two threads, if both end alike.
+/// Runs a script both ways, with one turn in each round, over rings of the same size. Returns the
+/// number of rounds in two threads, if both have the same lists and verdicts.
 fn run_both<R: Threads, G: Gate + Send, H: Gate + Send>(
     rt: &R,
     alloc: Global,
@@ -59,7 +61,7 @@ fn run_both<R: Threads, G: Gate + Send, H: Gate + Send>(
     rounds_of(&threads, &sync)
 }
 
-/// The same of a script with no list of more than 4,096 beats.
+/// The same for a script in which no list has more than 4,096 beats.
 pub fn run_short<R: Threads, G: Gate + Send, H: Gate + Send>(
     rt: &R,
     alloc: Global,

@@ -1,4 +1,4 @@
--- A text that was read to its end and answered, before anything is written. Only private contracts cite these words.
+-- A text that was read to its end and answered, before anything is written. Only private contracts use these words.
 use Rattle.std.specs.Prelude.{◌≢◌, ◌≤◌, ◌<◌, ℕ, List, length, Option, Result, Ok, Err, IfSome, Bool}
 use Rattle.std.specs.Io.KnownBytes.{IsAtEnd}
 use Rattle.tl_order.specs.Orders.{is_check}
@@ -20,12 +20,12 @@ pub record IsAnswerRead (unread left : Option (List ℕ)) (check : Bool) (made :
   pub few : IfSome unread (λ text. length text ≤ most_bytes)
   pub answer : IfSome unread (λ text. IsAnswer text check (spelled made) made.all_done)
 
--- what comes of the reading of a text and of its run
+-- the result of reading a text and running its script
 abbrev pub ReadsAnswer : (unread left : Option (List ℕ)) (check : Bool) → Input → Result AnswerParts TextFault → Type 0
 ReadsAnswer unread left check input (Ok made) = IsAnswerRead unread left check made
 ReadsAnswer unread left check input (Err fault) = IsRefused unread left input fault
 
--- what the reader had and has left, the order, and what came of it
+-- what the reader had and has left, the order, and the result
 abbrev pub AnswersRead : (unread left : Option (List ℕ)) → Order → Result AnswerParts TextFault → Type 0
 AnswersRead unread left order (Ok made) = WasReadWhole unread left ×
     IfSome unread (λ text. IsAnswer text (is_check order) (spelled made) made.all_done)

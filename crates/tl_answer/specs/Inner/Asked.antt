@@ -1,4 +1,4 @@
--- What is asked of a text or of its script. Only private contracts cite these words.
+-- The preconditions on a text or on its script. Only private contracts use these words.
 use Rattle.std.specs.Prelude.{ℕ, List, Option}
 use Rattle.tl_lanes.specs.Lanes.{IsWidth}
 use Rattle.tl_order.specs.Orders.{IsRunnable}
@@ -9,13 +9,13 @@ use Rattle.tl_run.specs.Scripts.{HasShortLists}
 use Rattle.tl_stream.specs.Inputs.{IsFresh, IsScriptRead, held}
 use Rattle.tl_stream.specs.declared.input.Input.{Input}
 
--- a text of which the input holds the first piece, whose header names this version and these widths, and an order that can be run
+-- the input holds the first piece of a text whose header names this version and these widths, and the order can be run
 pub record IsAsked (left : Option (List ℕ)) (input : Input) (version client manager : ℕ) (order : Order) : Type 0 where
   pub fresh : IsFresh left input
   pub header : HasHeader (held input) version client manager
   pub runnable : IsRunnable order
 
--- a script that was read of a text to its end
+-- a script that was read from a text to its end
 abbrev pub WasRead : {C M : ℕ} → Script C M → Type 0
 WasRead s = (version : ℕ) × (unread left : Option (List ℕ)) × IsScriptRead unread left version s
 

@@ -1,7 +1,7 @@
--- What a run into texts is to the beats of a trace of a version. Only private contracts cite these words.
+-- How a run that writes texts relates to the beats of a trace of a version. Only private contracts use these words.
 use Rattle.std.specs.Prelude.{◌≡◌, ℕ}
 use Rattle.tl_settle.specs.Outcomes.{Beats}
-use Rattle.tl_trace.specs.Scripts.{Gone, HasLetGo}
+use Rattle.tl_trace.specs.Scripts.{Discarded, HasRemoved}
 use Rattle.tl_trace.specs.declared.script.Script.{Script}
 use Rattle.tl_trace.specs.declared.script.Counts.{Counts}
 use Rattle.tl_run.specs.Parts.{AreGoing, ArePart, AreWaiting}
@@ -11,14 +11,14 @@ use Rattle.tl_answer.specs.Inner.FarTexts.{HasLines}
 use Rattle.tl_answer.specs.Inner.Listening.{GoesWith}
 use Rattle.tl_answer.specs.declared.crossing.Crossing.{Crossing}
 
--- it writes the lines of this version
-pub record Crosses {C M : ℕ} (version : ℕ) (x : Crossing C M) (gone : Gone C M) (s : Script C M) : Type 0 where
+-- it writes the lines in this version
+pub record Crosses {C M : ℕ} (version : ℕ) (x : Crossing C M) (discarded : Discarded C M) (s : Script C M) : Type 0 where
   pub version_is : x.far.version ≡ version
-  pub goes : GoesWith x.run.gone (CanRun x.run) (λ beats. HasRun HasLines beats x.far x.run) gone s
+  pub goes : GoesWith x.run.discarded (CanRun x.run) (λ beats. HasRun HasLines beats x.far x.run) discarded s
 
--- it goes on as far as these beats lead, and so many of them go that fewer done beats stay than waiting ones
+-- it advances as far as these beats allow. Enough of them are removed that fewer done beats are kept than waiting ones
 pub record CrossesOn {C M : ℕ} (before after : Crossing C M) (s : Script C M) (counts : Counts) : Type 0 where
-  pub stuck : (near : Beats C M) → ArePart before.run.gone s near → HasRun HasLines near before.far before.run →
-      AreStuck near before.run.gone after.run.at s
-  pub going : AreGoing before.run.gone after.run.at s counts
-  pub waiting : (rest : Script C M) → HasLetGo counts s rest → AreWaiting after.run.gone after.run.at rest
+  pub stuck : (near : Beats C M) → ArePart before.run.discarded s near → HasRun HasLines near before.far before.run →
+      AreStuck near before.run.discarded after.run.at s
+  pub going : AreGoing before.run.discarded after.run.at s counts
+  pub waiting : (rest : Script C M) → HasRemoved counts s rest → AreWaiting after.run.discarded after.run.at rest

@@ -1,10 +1,10 @@
--- An answer in parts, and what it says. Only private contracts cite these words.
+-- An answer in parts, and its text. Only private contracts use these words.
 use Rattle.std.specs.Prelude.{◌++◌, ℕ, List, [], Bool, cond}
 use Rattle.tl_settle.specs.Outcomes.{Beats, far_beats, verdicts}
 use Rattle.tl_answer.specs.Answer.{far_header, far_lines, report}
 use Rattle.tl_answer.specs.declared.parts.AnswerParts.{AnswerParts}
 
--- the text that the parts are, one after the other
+-- the text of the parts, one after the other
 abbrev pub spelled : AnswerParts → List ℕ
 spelled answer = answer.a.items ++ answer.b.items ++ answer.c.items ++ answer.d.items ++ answer.e.items
 

@@ -1,4 +1,4 @@
--- How many bytes a run into texts takes, and what it holds. Only private contracts cite these words.
+-- The number of bytes of a run that writes texts, and of its run. Only private contracts use these words.
 use Rattle.std.specs.Prelude.{ℕ}
 use denote.Param.{layout, param, number}
 use prog.Memory.{size}

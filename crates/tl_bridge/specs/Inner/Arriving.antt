@@ -1,4 +1,5 @@
--- The lists of far beats of a run in two threads, and their room. Only contracts of private functions cite these words.
+-- The lists of far beats of a run in two threads, and their room. Only contracts of private functions use these
+-- definitions.
 use Rattle.std.specs.Prelude.{◌≡◌, ◌+◌, ◌≤◌, ℕ, length, vec_len, vec_capacity}
 use Rattle.tl_bridge.specs.Words.{Bridge, Taken}
 use Rattle.tl_bridge.specs.declared.client_turns.ClientRun.{ClientRun}
@@ -9,7 +10,7 @@ module _ {C M : ℕ} where
   abbrev pub taken_of : ClientRun C M → ManagerRun C M → Taken C M
   taken_of x y = record { a = y.far_a; b = x.far_b; c = y.far_c; d = x.far_d; e = y.far_e }
 
-  -- the lists have room for all that stands in the inboxes
+  -- the lists have room for all beats in the inboxes
   pub record HasRoomForInboxes (s : Bridge C M) (t : Taken C M) : Type 0 where
     pub a : vec_len t.a + length s.a.inbox ≤ vec_capacity t.a
     pub b : vec_len t.b + length s.b.inbox ≤ vec_capacity t.b
@@ -17,7 +18,7 @@ module _ {C M : ℕ} where
     pub d : vec_len t.d + length s.d.inbox ≤ vec_capacity t.d
     pub e : vec_len t.e + length s.e.inbox ≤ vec_capacity t.e
 
-  -- the lists have as much room as before
+  -- the lists have the same capacity as before
   pub record KeepsRoom (old new : Taken C M) : Type 0 where
     pub a : vec_capacity new.a ≡ vec_capacity old.a
     pub b : vec_capacity new.b ≡ vec_capacity old.b

@@ -1,4 +1,5 @@
--- What each side of a run does within a round, and what both have come to at a meeting. Only contracts of private functions cite these words.
+-- The behaviour of each side of a run within a round, and the state of both at a meeting. Only contracts of private
+-- functions use these definitions.
 use Rattle.std.proofs.Common.{◌≡◌, ◌≢◌, ◌+◌, ◌≤◌, ◌⊎◌, ◌++◌, ◌∙◌, ℕ, true, List, [], length, map, vec_len, vec_capacity}
 use mathlib.Core.List.{IsPrefix}
 use Rattle.tl_bridge.specs.Words.{rules_a, rules_b, rules_c, rules_d, rules_e, HeadA, HeadB, HeadC, HeadD, HeadE, BeatOf, Sending, Taking, seen_by}
@@ -17,7 +18,7 @@ abbrev pub none_ready : PerChannel Offered
 none_ready = record { a = NotReady; b = NotReady; c = NotReady; d = NotReady; e = NotReady }
 
 module _ {A : Type 0} {C M : ℕ} where
-  -- how far a side has come: the beats that it accepted, those that it sent, and those that it received
+  -- the progress of a side: the beats that it accepted, those that it sent, and those that it received
   abbrev pub client_progress : PerChannel ℕ → ClientState A C M → ℕ
   client_progress n s = n.a + n.c + n.e + length (sent s.a) + length (sent s.c) + length (sent s.e) + length (received s.b) + length (received s.d)
 
@@ -27,14 +28,14 @@ module _ {A : Type 0} {C M : ℕ} where
 -- ---- both
 
 module _ {A : Type 0} {C M : ℕ} where
-  -- they were sides of one bridge, and each went on by itself
+  -- they were sides of one bridge, and each advanced by itself
   abbrev pub WereSides : ClientState A C M → ManagerState A C M → Type 0
   WereSides s' t' = (s : ClientState A C M) × (t : ManagerState A C M) × AreSides s t × SameClient s s' × SameManager t t'
 
 -- ---- offers
 
 module _ {A : Type 0} {C M : ℕ} (near : Beats C M) (n : PerChannel ℕ) where
-  -- a side has offered the next beat of each of its channels, if it might
+  -- a side has offered the next beat of each of its channels that was ready
   pub record ClientHasOffered (x : ClientPast C M) (s : ClientState A C M) (o : PerChannel Offered) : Type 0 where
     pub past : ClientPast C M
     pub stands : ClientStandsFor s past
@@ -61,8 +62,9 @@ module _ {A : Type 0} {C M : ℕ} (near : Beats C M) (n : PerChannel ℕ) where
 -- ---- a side within a round
 
 module _ {A : Type 0} {C M : ℕ} (near : Beats C M) where
-  -- Where the client's side stands within a round that began with history es, where m beats of A and j of D were accepted: so many beats of each list
-  -- are accepted now, these far beats are taken, and this became of its last offers
+  -- The state of the client's side within a round that began with history es, when m beats of A and j of D were
+  -- accepted: now n beats of each list are accepted, these far beats are taken, and these are the outcomes of its last
+  -- offers
   pub record ClientIsAt (j m : ℕ) (es : List (Event C)) (n : PerChannel ℕ) (far_of_b : List (BeatOf HeadB C))
       (far_of_d : List (BeatOf HeadD C)) (s : ClientState A C M)
       (o : PerChannel Offered) : Type 0 where
@@ -81,7 +83,7 @@ module _ {A : Type 0} {C M : ℕ} (near : Beats C M) where
     pub stop_c : Stops rules_c near.c n.c (stops_alone rules_c past.c.accepted) past.c.accepted o.c
     pub stop_e : Stops rules_e near.e n.e (stops_alone rules_e past.e.accepted) past.e.accepted o.e
 
-  -- the same of the manager's side, in a round that began where i beats of A and m of D were accepted
+  -- the same for the manager's side, in a round that began when i beats of A and m of D were accepted
   pub record ManagerIsAt (i m : ℕ) (es : List (Event M)) (n : PerChannel ℕ) (far_of_a : List (BeatOf HeadA M)) (far_of_c : List (BeatOf HeadC M))
       (far_of_e : List (BeatOf HeadE M))
       (t : ManagerState A C M) (o : PerChannel Offered) : Type 0 where
@@ -100,13 +102,15 @@ module _ {A : Type 0} {C M : ℕ} (near : Beats C M) where
 -- ---- a side rests
 
 module _ {K A H : Type 0} {v : ℕ} where
-  -- a sending end sent nothing, since it has nothing staged or knew of no free place. Where nothing is staged, its channel offers no more
+  -- a sending end sent nothing, because it has nothing staged or knew of no free position. If nothing is staged, its
+  -- channel offers no more beats
   pub record SendRests (s s' : Sending K A H v) (o : Offered) : Type 0 where
     pub none_sent : sent s' ≡ sent s
     pub why : (s'.stage ≡ []) ⊎ (known_free s ≡ 0)
     pub stops : s'.stage ≡ [] → IsStopped o
 
-  -- a taking end received nothing, since it knew of no beat in the ring, and all that it received before is taken
+  -- a taking end received nothing, because it knew of no beat in the ring, and all beats that it received before are
+  -- taken
   pub record TakeRests (t t' : Taking K A H v) : Type 0 where
     pub none_received : received t' ≡ received t
     pub none_known : known_items t ≡ []
@@ -130,24 +134,24 @@ module _ {A : Type 0} {C M : ℕ} where
 
 -- ---- a side in its thread, whichever of the two it is
 
--- what a side S of a run is told by, with the lists of what it takes
+-- the description of a side S of a run, with the lists of the beats that it takes
 pub record Playing (S : Type 0) (C M : ℕ) : Type 1 where
-  -- it is the same side, and its lists have as much room
+  -- it is the same side, and its lists have the same capacity
   pub Same : S → S → Type 0
   pub same_then : (s t u : S) → Same s t → Same t u → Same s u
-  -- how far it has come, where so many beats of each list are accepted
+  -- its progress, when this number of beats of each list is accepted
   pub progress : PerChannel ℕ → S → ℕ
-  -- what a round began with, where the side stands in it, and that all that stands in its inboxes is due then
+  -- the beginning of a round, the state of the side in it, and that all beats in its inboxes are due then
   pub Round : Type 0
   pub IsAt : Beats C M → Round → PerChannel ℕ → S → PerChannel Offered → Type 0
   pub IsDue : Beats C M → Round → S → Type 0
-  -- nothing stands in its inboxes, or its lists have room for all that does
+  -- its inboxes are empty, or its lists have room for all beats in them
   pub IsEmpty : S → Type 0
   pub HasRoom : S → Type 0
   -- all of its ends rest
   pub Rests : S → S → PerChannel Offered → Type 0
 
--- what a side's history was when a round began, and how many beats of A and of D were accepted
+-- a side's history when a round began, and the number of accepted beats of A and of D
 pub record RoundOf (w : ℕ) : Type 0 where
   pub a : ℕ
   pub d : ℕ
@@ -184,17 +188,18 @@ module _ {C M : ℕ} where
   }
 
 module _ {S : Type 0} {C M : ℕ} (k : Playing S C M) where
-  -- a side has taken all that stood in its inboxes, into its lists
+  -- a side has taken all beats of its inboxes into its lists
   pub record HasTaken (s s' : S) : Type 0 where
     pub same : k.Same s s'
     pub stays : (n : PerChannel ℕ) → k.progress n s' ≡ k.progress n s
     pub is_at : (near : Beats C M) (r : k.Round) (n : PerChannel ℕ) (o : PerChannel Offered) → k.IsAt near r n s o → k.IsDue near r s →
         k.IsAt near r n s' none_ready × k.IsEmpty s'
-    -- if it rests from here on, it did so from before it took
+    -- if it rests from here on, it has rested since before it took them
     pub rests : (t : S) (o : PerChannel Offered) → k.Rests s' t o → k.Rests s t o
 
   module _ (near : Beats C M) (n : PerChannel ℕ) (s : S) where
-    -- a side may play a round: it stands at its beginning, and its lists have room for all that stands in its inboxes, all of which is due
+    -- a side may run a round: it is at its beginning, and its lists have room for all beats in its inboxes, all of
+    -- which are due
     pub record MayPlay : Type 0 where
       pub few : HaveRoomToCount n
       pub round : k.Round
@@ -202,18 +207,18 @@ module _ {S : Type 0} {C M : ℕ} (k : Playing S C M) where
       pub due : k.IsDue near round s
       pub room : k.HasRoom s
 
-    -- A side has played a part of a round: where it stands in every round that is as `May` says, and, if it is as `Rest` says, that it has moved a
-    -- beat, or has accepted none and rests
+    -- A side has run a part of a round: its state in every round that satisfies `May`, and, if the round satisfies
+    -- `Rest`, that it has moved a beat, or has accepted none and rests
     pub record HasPlayedPart (May Rest : k.Round → Type 0) (s' : S) (u : Turn) : Type 0 where
       pub same : k.Same s s'
-      -- it has come as far as before at least, and further where something moved
+      -- it has not gone back, and has advanced if something moved
       pub keeps : k.progress n s ≤ k.progress u.at s'
       pub goes : u.moved ≡ true → k.progress n s + 1 ≤ k.progress u.at s'
       pub is_at : (r : k.Round) (o : PerChannel Offered) → k.IsAt near r n s o → May r → HaveRoomToCount u.at × k.IsAt near r u.at s' u.offers
       pub rests : (r : k.Round) (o : PerChannel Offered) → k.IsAt near r n s o → Rest r →
           (u.moved ≡ true) ⊎ ((u.accepted ≢ true) × k.Rests s s' u.offers)
 
-    -- it has made one turn, or taken what stood in its inboxes and made turns
+    -- it has made one turn, or has taken the beats of its inboxes and made turns
     abbrev pub HasTurned : S → Turn → Type 0
     HasTurned = HasPlayedPart (λ _. Unit {0}) (λ _. k.IsEmpty s)
 
@@ -222,12 +227,12 @@ module _ {S : Type 0} {C M : ℕ} (k : Playing S C M) where
 
 -- ---- a meeting
 
--- the pipe that has all that stands between two ends of a ring, once they have met
+-- the pipe with all beats between two ends of a ring, once they have met
 abbrev pub pipe_of : {K A H : Type 0} {v : ℕ} → Sending K A H v → Taking K A H v → Pipe H v
 pipe_of s t = record { converter = s.converter; room = room s; stage = s.stage; ring = known_items t; inbox = t.inbox; closed = s.closed }
 
 module _ {A : Type 0} {C M : ℕ} where
-  -- the bridge in one thread that both sides are, once they have met
+  -- the bridge in one thread that both sides form, once they have met
   abbrev pub bridge_of : ClientState A C M → ManagerState A C M → Bridge C M
   bridge_of s t = record {
     a = pipe_of s.a t.a;
@@ -239,7 +244,7 @@ module _ {A : Type 0} {C M : ℕ} where
     manager = t.book;
   }
 
-  -- and what has happened at it
+  -- and its past
   abbrev pub past_of : ClientState A C M → ManagerState A C M → ClientPast C M → ManagerPast C M → Past C M
   past_of s t x y = record {
     client = x.history;
@@ -251,11 +256,11 @@ module _ {A : Type 0} {C M : ℕ} where
     e = seen_by rules_e t.e x.e y.e;
   }
 
-  -- how far a run has come at a meeting
+  -- the progress of a run at a meeting
   abbrev pub met_progress : PerChannel ℕ → ClientState A C M → ManagerState A C M → ℕ
   met_progress n s t = client_progress n s + manager_progress n t
 
-  -- both sides have met, where so many beats of each list were accepted and these far beats taken
+  -- both sides have met, after n accepted beats of each list and these far beats taken
   pub record HasMet (near : Beats C M) (n : PerChannel ℕ) (far : Beats M C) (s : ClientState A C M) (t : ManagerState A C M) : Type 0 where
     pub client : ClientPast C M
     pub manager : ManagerPast C M
@@ -267,7 +272,7 @@ module _ {A : Type 0} {C M : ℕ} where
     pub ring_c : received t.c ++ known_items t.c ≡ sent s.c
     pub ring_d : received s.d ++ known_items s.d ≡ sent t.d
     pub ring_e : received t.e ++ known_items t.e ≡ sent s.e
-    -- each sending end knows a free place, unless a beat is in the ring
+    -- each sending end knows a free position, unless a beat is in the ring
     pub free_a : 1 ≤ known_free s.a + length (known_items t.a)
     pub free_b : 1 ≤ known_free t.b + length (known_items s.b)
     pub free_c : 1 ≤ known_free s.c + length (known_items t.c)
@@ -275,8 +280,8 @@ module _ {A : Type 0} {C M : ℕ} where
     pub free_e : 1 ≤ known_free s.e + length (known_items t.e)
     pub is_at : IsAt near n far (past_of s t client manager)
 
-  -- a round: where both sides meet after it, why each channel stands still where it does, and that the run has come further in it, or has accepted
-  -- no beat, offers no more, and has nothing under way
+  -- a round: the meeting of both sides after it, the reason why each channel is stopped, if it is, and that the run has
+  -- advanced in it, or has accepted no beat, offers no more, and has nothing under way
   pub record HasPlayed (near : Beats C M) (n : PerChannel ℕ) (s : ClientState A C M) (t : ManagerState A C M) (u : Turn)
       (standings : PerChannel Standing) (far : Beats M C) (s' : ClientState A C M)
       (t' : ManagerState A C M) : Type 0 where

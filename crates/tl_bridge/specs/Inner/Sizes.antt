@@ -1,4 +1,5 @@
--- How many bytes a side takes, what its thread holds, and a beat. Only contracts of private functions cite these words.
+-- The number of bytes of a side, of the state of its thread, and of a beat. Only contracts of private functions use
+-- these definitions.
 use Rattle.std.specs.Prelude.{ℕ, ◌+◌, ◌*◌}
 use denote.Param.{layout, param, number}
 use prog.Memory.{size, up}
@@ -12,6 +13,6 @@ client_run_size C M = size (layout (client_run.the_row (param 0 (number C)) (par
 abbrev pub manager_run_size : (C M : ℕ) → ℕ
 manager_run_size C M = size (layout (manager_run.the_row (param 0 (number C)) (param 1 (number M))))
 
--- on a bus of so many bytes, on each channel
+-- on a bus of w bytes, on each channel
 abbrev pub beat_size : ℕ → ℕ
 beat_size w = up 16 (up 1 (32 + w * 1) + 1)

@@ -1,4 +1,4 @@
--- What one near beat gives: what the functions inside this crate promise each other.
+-- The far beats that one near beat completes: the facts that the functions inside this crate promise each other.
 use Rattle.std.specs.Prelude.{◌≡◌, ◌≢◌, ◌<◌, ◌≤◌, ◌*◌, ◌++◌, ℕ, true, Some, List, [], ◌∷◌, length, slice_index}
 use Rattle.tl_lanes.specs.declared.limits.TheConstants.{MAX_SIZE}
 use Rattle.tl_lanes.specs.Lanes.{IsWidth}
@@ -14,7 +14,7 @@ use Rattle.tl_convert.specs.Partial.{Filled}
 abbrev pub of_head : {H : Type 0} → H → (home : ℕ) → Message H
 of_head h home = record { head = h; home = home; cells = [] }
 
--- the beats of the message that came before this one, and the far beat that they have begun
+-- the beats of the message before this one, and the far beat that they have begun
 pub record Run {H : Type 0} {W V : ℕ} (r : Rules H) (index home : ℕ) (b : BeatOf H W) (partial : BeatOf H V) (bs : List (BeatOf H W)) : Type 0 where
   pub index_is : index ≡ length bs
   pub inside : index < beats_of r b.head W
@@ -24,7 +24,8 @@ pub record Run {H : Type 0} {W V : ℕ} (r : Rules H) (index home : ℕ) (b : Be
   pub filled : index ≢ 0 →
       Filled r (message_of r b.head W home bs) V (far_beats_of r b.head W V (length bs)) (length bs * per_beat r b.head W) partial
 
--- the far beats that a near beat with data gives after those of its message, and the far beat that is then begun
+-- the far beats that a near beat with data completes after the earlier beats of its message, and the far beat that is
+-- begun afterwards
 pub record GivenData {H : Type 0} {W V : ℕ} (r : Rules H) (home : ℕ) (b : BeatOf H W) (partial : BeatOf H V) (bs : List (BeatOf H W))
     (out : List (BeatOf H V)) : Type 0 where
   pub due_is : (homes : List ℕ) → slice_index homes 0 ≡ home → due_after r W V bs homes (b ∷ []) ≡ part r W V home bs ++ out
@@ -38,7 +39,8 @@ pub record Given {H : Type 0} {W V : ℕ} (r : Rules H) (home : ℕ) (b : BeatOf
   pub filled : r.carries b.head ≡ true → Filled r (message_of r b.head W home (bs ++ b ∷ [])) V
       (far_beats_of r b.head W V (length (bs ++ b ∷ []))) (length (bs ++ b ∷ []) * per_beat r b.head W) partial
 
--- what is asked of a call that gives the far beats of a near beat: one clause in place of four, since each is stated again at each call
+-- the preconditions of a call that writes the far beats of a near beat: one clause instead of four, since each is
+-- stated again at each call
 pub record CanGive {H : Type 0} {W V : ℕ} (r : Rules H) (b : BeatOf H W) (out : List (BeatOf H V)) : Type 0 where
   pub near : IsWidth W
   pub far : IsWidth V

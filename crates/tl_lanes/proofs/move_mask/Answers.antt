@@ -11,8 +11,8 @@ move_run_of_bits-requires-clause-near_inside c = omega (arith, width_bounds c.ar
 pub move_run_of_bits-requires-clause-far_inside : goal.move_run_of_bits-requires-clause-far_inside
 move_run_of_bits-requires-clause-far_inside c = omega (arith, width_bounds c.args.v c.requires.far)
 
-pub move_run_of_bits-requires-clause-far_room : goal.move_run_of_bits-requires-clause-far_room
-move_run_of_bits-requires-clause-far_room c = omega (arith, width_bounds c.args.v c.requires.far)
+pub move_run_of_bits-requires-clause-fits_destination : goal.move_run_of_bits-requires-clause-fits_destination
+move_run_of_bits-requires-clause-fits_destination c = omega (arith, width_bounds c.args.v c.requires.far)
 
 pub returns-then-far-count-clause-moved : goal.returns-then-far-count-clause-moved
 returns-then-far-count-clause-moved c =

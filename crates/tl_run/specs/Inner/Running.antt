@@ -1,5 +1,5 @@
--- What each channel of a run does within a round. Only contracts within the two runs cite these words.
-use Rattle.std.specs.Prelude.{◌≡◌, ◌≢◌, ◌+◌, ◌≤◌, ◌<◌, ◌^◌, ◌⊎◌, ◌++◌, ℕ, Option, None, Some, List, [], length, map, slice_get}
+-- The moves of each channel of a run within a round. Only contracts within the two runs cite these words.
+use Rattle.std.specs.Prelude.{◌≡◌, ◌≢◌, ◌+◌, ◌≤◌, ◌<◌, ◌^◌, ◌⊎◌, ◌++◌, ℕ, false, Option, None, Some, List, [], length, map, slice_get}
 use Rattle.tl_msg.specs.Rules.{Rules}
 use Rattle.tl_msg.specs.Tables.{rules_a, rules_b, rules_c, rules_d, rules_e}
 use Rattle.tl_msg.specs.declared.head.HeadA.{HeadA}
@@ -21,8 +21,10 @@ use Rattle.tl_sides.specs.declared.per_channel.PerChannel.{PerChannel}
 use Rattle.tl_sides.specs.Crossings.{stops_alone}
 use Rattle.tl_sides.specs.Bridges.{Bridge, Past, StandsFor}
 pub use Rattle.tl_sides.specs.ChannelCalls.{emptied, after_take_all}
+use Rattle.tl_run.specs.InRounds.{after_round}
+pub use Rattle.tl_run.specs.InRounds.{AreStopped, IsStopped, counted}
 pub use Rattle.tl_run.specs.Running.{IsAt, IsHomed, IsNew, IsRunning, IsSent, IsUnderWay, all_under_way, lengths, under_way}
-use Rattle.tl_offer.specs.Offering.{Does, steps}
+use Rattle.tl_offer.specs.Offering.{Does, IsOffered, steps}
 use Rattle.tl_offer.specs.declared.offered.Stop.{Stop}
 use Rattle.tl_offer.specs.declared.offered.Stop.TheVariants.{Done, Cut, Refused}
 use Rattle.tl_offer.specs.declared.offered.Offered.{Offered}
@@ -31,24 +33,22 @@ use Rattle.tl_offer.specs.declared.offered.Offered.TheVariants.{Accepted, NotRea
 -- ---- one channel
 
 module _ {H : Type 0} {w v : ℕ} where
+  -- nothing is staged, and the channel isn't closed
+  abbrev pub MayOffer : World H w v → Type 0
+  MayOffer x = (x.stage ≡ []) × (x.closed ≡ false)
+
   -- how far a channel has come: the beats that were accepted, those that went into its ring, and those that came out of it
   abbrev pub progress : (n : ℕ) → World H w v → ℕ
   progress n x = n + (length x.taken + length x.inbox + length x.ring) + (length x.taken + length x.inbox)
 
 module _ {H : Type 0} (r : Rules H) {w : ℕ} (bs : List (BeatOf H w)) (n : ℕ) where
-  -- why no beat was accepted in the round that led here, where none was
+  -- the reason why no beat was accepted in the last round, if none was
   abbrev pub Stops : (answer : BeatOf H w → Option SideFault) → (accepted : List (BeatOf H w)) → Offered → Type 0
   Stops answer accepted Accepted = Unit {0}
   Stops answer accepted NotReady = Unit {0}
   Stops answer accepted (Stopped (Refused fault)) = (b : BeatOf H w) × (slice_get bs n ≡ Some b) × (answer b ≡ Some fault)
   Stops answer accepted (Stopped Done) = (slice_get bs n ≡ None) × (rest_of r w accepted ≡ [])
   Stops answer accepted (Stopped Cut) = (slice_get bs n ≡ None) × (rest_of r w accepted ≢ [])
-
--- a channel that nothing stopped, or on which beats are under way after a round, has come further in it
-abbrev pub IsStopped : Offered → Type 0
-IsStopped Accepted = ⊥
-IsStopped NotReady = ⊥
-IsStopped (Stopped stop) = Unit {0}
 
 -- the verdict of a channel that offers no more
 abbrev pub stop_verdict : Stop → (near far : ℕ) → Verdict
@@ -61,7 +61,7 @@ stop_verdict (Refused SizeMismatch) near far = ending.Refused near SizeMismatch
 
 -- ---- the five channels
 
--- how many beats stand at the places of all channels
+-- the number of beats at the places of all channels
 abbrev pub standing_count : Standing → ℕ
 standing_count s = s.staged + s.in_ring + s.inbox
 
@@ -69,27 +69,24 @@ abbrev pub all_standing : PerChannel Standing → ℕ
 all_standing s = standing_count s.a + standing_count s.b + standing_count s.c + standing_count s.d + standing_count s.e
 
 module _ {C M : ℕ} where
-  -- what stands in the inboxes of a bridge, and of what it stands for
+  -- the beats in the inboxes of a bridge, and of the past that it represents
   abbrev pub inboxes : Bridge C M → Beats M C
   inboxes s = record { a = s.a.inbox; b = s.b.inbox; c = s.c.inbox; d = s.d.inbox; e = s.e.inbox }
 
   abbrev pub arriving : Past C M → Beats M C
   arriving x = record { a = x.a.inbox; b = x.b.inbox; c = x.c.inbox; d = x.d.inbox; e = x.e.inbox }
 
-  -- how far a run has come
+  -- the progress of a run
   abbrev pub all_progress : PerChannel ℕ → Past C M → ℕ
   all_progress n x = progress n.a x.a + progress n.b x.b + progress n.c x.c + progress n.d x.d + progress n.e x.e
 
--- how many beats were accepted on all channels
+-- the number of beats accepted on all channels
 abbrev pub all_steps : PerChannel Offered → ℕ
 all_steps o = steps o.a + steps o.b + steps o.c + steps o.d + steps o.e
 
--- what both sides say, each of the channels that it sends on
+-- the values of both sides, each for the channels that it sends
 abbrev pub of_both : {A : Type 0} → PerChannel A → PerChannel A → PerChannel A
 of_both client manager = record { a = client.a; b = manager.b; c = client.c; d = manager.d; e = client.e }
-
-abbrev pub AreStopped : PerChannel Offered → Type 0
-AreStopped o = IsStopped o.a × IsStopped o.b × IsStopped o.c × IsStopped o.d × IsStopped o.e
 
 -- every channel offers no more
 abbrev pub all_stopped : PerChannel Stop → PerChannel Offered
@@ -103,11 +100,11 @@ pub record HaveRoomToCount (n : PerChannel ℕ) : Type 0 where
   pub d : n.d < 2 ^ 41
   pub e : n.e < 2 ^ 41
 
--- so many beats of each channel, and so many more
+-- the sum of two counts on each channel
 abbrev pub added : PerChannel ℕ → PerChannel ℕ → PerChannel ℕ
 added n m = record { a = n.a + m.a; b = n.b + m.b; c = n.c + m.c; d = n.d + m.d; e = n.e + m.e }
 
--- these can be counted
+-- the sums do not overflow
 pub record CanAdd (n m : PerChannel ℕ) : Type 0 where
   pub a : n.a + m.a < 2 ^ 60
   pub b : n.b + m.b < 2 ^ 60
@@ -115,13 +112,9 @@ pub record CanAdd (n m : PerChannel ℕ) : Type 0 where
   pub d : n.d + m.d < 2 ^ 60
   pub e : n.e + m.e < 2 ^ 60
 
--- so many beats of each list were accepted after a round
-abbrev pub counted : PerChannel ℕ → PerChannel Offered → PerChannel ℕ
-counted n o = record { a = n.a + steps o.a; b = n.b + steps o.b; c = n.c + steps o.c; d = n.d + steps o.d; e = n.e + steps o.e }
-
 -- the near beats of the five channels
 module _ {C M : ℕ} (near : Beats C M) where
-  -- each channel offers its next beat, if it may
+  -- each channel has offered its next beat, if it was ready
   pub record HasOffered (n : PerChannel ℕ) (x : Past C M) (s : Bridge C M) (o : PerChannel Offered) : Type 0 where
     pub past : Past C M
     pub stands : StandsFor s past
@@ -137,8 +130,14 @@ module _ {C M : ℕ} (near : Beats C M) where
     pub does_c : Does rules_c near.c n.c (stops_alone rules_c x.c.accepted) (λ _. 0) x.c o.c beats_c past.c
     pub does_d : Does rules_d near.d n.d (manager_answer x.manager) (λ y. manager_home x.manager y.head) x.d o.d beats_d past.d
     pub does_e : Does rules_e near.e n.e (stops_alone rules_e x.e.accepted) (λ _. 0) x.e o.e beats_e past.e
+    -- a channel that offered a beat was ready
+    pub ready_a : IsOffered o.a → MayOffer x.a
+    pub ready_b : IsOffered o.b → MayOffer x.b
+    pub ready_c : IsOffered o.c → MayOffer x.c
+    pub ready_d : IsOffered o.d → MayOffer x.d
+    pub ready_e : IsOffered o.e → MayOffer x.e
 
-  -- why each channel stands still, where it does
+  -- the reason why each channel is stopped, if it is
   pub record AllStop (n : PerChannel ℕ) (past : Past C M) (o : PerChannel Offered) : Type 0 where
     pub stop_a : Stops rules_a near.a n.a (client_answer past.client) past.a.accepted o.a
     pub stop_b : Stops rules_b near.b n.b (stops_alone rules_b past.b.accepted) past.b.accepted o.b
@@ -146,17 +145,20 @@ module _ {C M : ℕ} (near : Beats C M) where
     pub stop_d : Stops rules_d near.d n.d (manager_answer past.manager) past.d.accepted o.d
     pub stop_e : Stops rules_e near.e n.e (stops_alone rules_e past.e.accepted) past.e.accepted o.e
 
-  -- a round: where the run stands after it, why it stands still there, and that it has come further if it doesn't
+  -- a round: the state of the run after it, the reasons why channels are stopped there, and that it has advanced if
+  -- they are not
   pub record HasRound (n : PerChannel ℕ) (far : Beats M C) (x : Past C M) (s : Bridge C M) (o : PerChannel Offered) : Type 0 where
     pub past : Past C M
     pub stands : StandsFor s past
     pub is_at : IsAt near (counted n o) far past
     pub stops : AllStop (counted n o) past o
     pub keeps : all_progress n x ≤ all_progress (counted n o) past
+    -- the same as a function says it
+    pub exact : after_round near n x ≡ record { at = counted n o; offers = o; past = past }
     pub goes : (all_progress n x + 1 ≤ all_progress (counted n o) past) ⊎ (AreStopped o × (all_under_way past ≡ 0))
 
-  -- a run has ended: every channel stands still, nothing is under way, and there was at most one round more than beats that were accepted, that
-  -- went into a ring or that came out of one
+  -- a run has ended: every channel is stopped, nothing is under way, and there was at most one round more than the
+  -- number of beats that were accepted, that entered a ring or that came out of one
   pub record HasEnded (n : PerChannel ℕ) (far : Beats M C) (s : Bridge C M) (stops : PerChannel Stop) (rounds : ℕ) : Type 0 where
     pub past : Past C M
     pub stands : StandsFor s past

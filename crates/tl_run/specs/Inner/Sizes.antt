@@ -1,4 +1,4 @@
--- What fits memory. Only contracts within the two runs cite this word.
+-- The sizes that fit in memory. Only contracts within the two runs use these definitions.
 use Rattle.std.specs.Prelude.{◌+◌, ◌*◌, ◌<◌, ℕ}
 use prog.Memory.{up}
 

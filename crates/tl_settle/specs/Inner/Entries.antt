@@ -1,4 +1,4 @@
--- What the place of a source in a table of requests holds.
+-- The contents of the entry of a source in a table of requests.
 use Rattle.std.specs.Prelude.{Option, None, Some, if◌then◌else◌}
 use Rattle.tl_settle.specs.declared.tables.Entry.{Entry}
 use Rattle.tl_settle.specs.declared.tables.Request.{Request}

@@ -1,4 +1,4 @@
--- Heads that were read before. Only contracts of private functions cite these words.
+-- Heads that were read before. Only contracts of private functions use these words.
 use Rattle.std.specs.Prelude.{◌≡◌, ◌≤◌, ◌+◌, ℕ, List, length, IfSome}
 use Rattle.std.specs.List.{slice_range}
 use Rattle.tl_trace.specs.Fields.{Form, id_digits, length_of, form_a, form_b, form_c, form_d, form_e}
@@ -7,18 +7,18 @@ use Rattle.tl_trace.specs.declared.head_reader.HeadFields.{HeadFields}
 use Rattle.tl_trace.specs.declared.known_head.KnownHead.{KnownHead}
 use Rattle.tl_trace.specs.declared.known_head.LastHeads.{LastHeads}
 
--- the letter, and the fields of a head
+-- the number of bytes of the letter and the fields of a head
 abbrev pub head_length : {H : Type 0} → Form H → ℕ
 head_length f = 1 + length_of 0 f.head_fields
 
--- the text, from the letter up to the last field of a head, is that of this head
+-- the text, from the letter up to the last field of the head, is that of this head
 pub record HasHead {H : Type 0} (f : Form H) (version : ℕ) (text : List ℕ) (h : H) : Type 0 where
   pub fields : HeadFields
   pub read : IsHead (id_digits version) text f.head_fields fields
   pub good : fields.bad ≤ 15
   pub is : IsHeadOf f fields h
 
--- so many bytes of the text from one place on are there, and are those from another place on
+-- the text has n bytes from `at` on, and they are the same as those from `before` on
 pub record IsSameAt (text : List ℕ) (at before n : ℕ) : Type 0 where
   pub within : at + n ≤ length text
   pub same : slice_range text at (at + n) ≡ slice_range text before (before + n)
@@ -28,7 +28,7 @@ pub record IsKnown {H : Type 0} (f : Form H) (version : ℕ) (text : List ℕ) (
   pub within : known.at + head_length f ≤ length text
   pub has : HasHead f version (slice_range text known.at (known.at + head_length f)) known.head
 
--- the same of each channel that has one
+-- the same for each channel that has a known head
 pub record AreKnown (version : ℕ) (text : List ℕ) (heads : LastHeads) : Type 0 where
   pub a : IfSome heads.a (IsKnown (form_a version) version text)
   pub b : IfSome heads.b (IsKnown (form_b version) version text)

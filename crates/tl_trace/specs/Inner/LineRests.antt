@@ -1,4 +1,4 @@
--- What stands behind the head in a line. Only contracts of private functions cite these words.
+-- The part of a line after the head. Only contracts of private functions use these words.
 use Rattle.std.specs.Prelude.{◌+◌, ◌*◌, ◌/◌, ◌++◌, ◌∷◌, [], if◌then◌else◌, ℕ, Bool, List}
 use Rattle.tl_msg.specs.declared.beat.BeatOf.{BeatOf}
 use Rattle.tl_trace.specs.Fields.{bit, number_of_lanes}

@@ -1,4 +1,4 @@
--- What the parts of the reader give. Only contracts of private functions cite these words.
+-- The results of the parts of the reader. Only contracts of private functions use these words.
 use Rattle.std.specs.Prelude.{◌≡◌, ◌≢◌, ◌≤◌, ◌<◌, ◌+◌, ◌-◌, ◌*◌, ◌^◌, ◌==◌, ◌&&◌, ℕ, Bool, true, false, List, [], ◌∷◌, ◌++◌, drop, take, map, length}
 use Rattle.std.specs.Prelude.{IfErr, IfOk, IsOk, Result, Option, Some, None, MatchOption, is_none, nat_lt, if◌then◌else◌, slice_index, slice_range}
 use Rattle.std.specs.Prelude.{Vec}
@@ -16,28 +16,28 @@ use Rattle.tl_trace.specs.declared.line.Line.{Line}
 use Rattle.tl_trace.specs.declared.line_reader.Rest.{Rest}
 use Rattle.tl_trace.specs.Inner.LineRests.{mask_length, data_length}
 use Rattle.tl_trace.specs.declared.script.Script.{Script}
-use Rattle.tl_trace.specs.declared.script_reader.PushedLines.{PushedLines}
+use Rattle.tl_trace.specs.declared.script_reader.ParsedLines.{ParsedLines}
 use Rattle.tl_trace.specs.declared.fault.TraceFault.{TraceFault}
 use Rattle.tl_trace.specs.declared.fault.TraceKind.{TraceKind}
 use Rattle.tl_trace.specs.declared.fault.TraceKind.TheVariants.{OutOfMemory}
 use Rattle.tl_trace.specs.declared.places.TheConstants.{LONGEST_LINE}
-use Rattle.tl_trace.specs.Scripts.{Gone, HasGrown, HasReadPast, HasStopped, IsUnfinished, beat_of_a, beat_of_b, beat_of_c, beat_of_d, beat_of_e}
+use Rattle.tl_trace.specs.Scripts.{Discarded, HasGrown, HasReadPast, HasStopped, IsUnfinished, beat_of_a, beat_of_b, beat_of_c, beat_of_d, beat_of_e}
 use Rattle.tl_msg.specs.declared.beat.BeatOf.{BeatOf}
 use Rattle.tl_trace.specs.Lines.{is_hex, is_lanes, places_from, IsLine, is_kept}
 
--- the value of a lower-case digit, and 16 of every other byte
+-- the value of a lower-case digit, and 16 for every other byte
 abbrev pub digit_of : (byte : ℕ) → ℕ
 digit_of byte = if is_hex byte then digit_value byte else 16
 
--- the number that digits spell, if each is one
+-- the number that these bytes form, if each is a digit
 unfoldable pub number_of : List ℕ → Option ℕ
 number_of digits = if list_all is_hex digits then Some (digits_value 16 digits) else None
 
--- a space at a place, and after it a number of so many digits
+-- a space at a position, and then a number of `count` digits
 unfoldable pub field_at : List ℕ → (at count : ℕ) → Option ℕ
 field_at text at count = if slice_index text at == 32 then number_of (slice_range text (at + 1) (at + 1 + count)) else None
 
--- the fields that stand from a place on, where they have their shape
+-- the values of the fields that begin at a position, None for each that does not have its shape
 abbrev pub fields_from : (w : ℕ) → List ℕ → (at : ℕ) → List Field → List (Option ℕ)
 fields_from w text at fs = map (λ p. field_at text p.at p.count) (places_from at w fs)
 
@@ -48,11 +48,11 @@ is_head_field data_lanes = false
 is_head_field corrupt = false
 is_head_field _ = true
 
--- the fields of a head as they were read, 0 for each that it has not
+-- the fields of a head as they were read, 0 for each that it does not have
 abbrev pub read_value : HeadFields → Field → ℕ
 read_value r = head_value r.opcode r.param r.size r.source r.address r.sink r.denied
 
--- what their digits can spell, where ids have so many
+-- each field is in the range of its digits, for ids of this many digits
 pub record IsSmall (digits : ℕ) (r : HeadFields) : Type 0 where
   pub size : r.size < 16
   pub source : r.source < 16 ^ digits
@@ -67,29 +67,30 @@ pub record IsPair (first second value : ℕ) : Type 0 where
   pub low : digit_of second ≤ 15
   pub is : value ≡ digit_of first * 16 + digit_of second
 
--- where bad is at most 15, these digits spell the number; else one of them is none
+-- if bad is at most 15, these digits form the number; otherwise one of them is not a digit
 pub record IsSpelt (digits : List ℕ) (value bad : ℕ) : Type 0 where
   pub good : bad ≤ 15 → number_of digits ≡ Some value
   pub small : bad ≤ 15 → value < 16 ^ length digits
   pub none : 15 < bad → number_of digits ≡ None
 
--- where bad is at most 15, the number stands after a space at a place; else there is none of so many digits
+-- if bad is at most 15, the number comes after a space at a position; otherwise there is no number of `count` digits
+-- there
 pub record IsNumber (text : List ℕ) (at count value bad : ℕ) : Type 0 where
   pub good : bad ≤ 15 → field_at text at count ≡ Some value
   pub small : bad ≤ 15 → value < 16 ^ count
   pub none : 15 < bad → field_at text at count ≡ None
 
--- where bad is at most 15, fields with these values stand from a place on; else one of them has not its shape
+-- if bad is at most 15, fields with these values begin at a position; otherwise one of them does not have its shape
 pub record IsPart (w : ℕ) (text : List ℕ) (at : ℕ) (fs : List Field) (vs : List ℕ) (bad : ℕ) : Type 0 where
   pub good : bad ≤ 15 → fields_from w text at fs ≡ map Some vs
   pub none : 15 < bad → list_any is_none (fields_from w text at fs) ≡ true
 
--- the fields that a line begins with, behind its letter, where ids have so many digits
+-- the fields that a line begins with, after its letter, for ids of this many digits
 pub record IsHead (digits : ℕ) (text : List ℕ) (fs : List Field) (r : HeadFields) : Type 0 where
   pub part : IsPart 0 text 1 fs (map (read_value r) fs) r.bad
   pub small : r.bad ≤ 15 → IsSmall digits r
 
--- opcode and param are in range, and these are the fields
+-- opcode and param are in range, and m has the common fields
 pub record IsCommon (r : HeadFields) (params : ℕ) (m : CommonFields) : Type 0 where
   pub range : nat_lt r.opcode 8 && nat_lt r.param params ≡ true
   pub opcode : m.opcode ≡ r.opcode
@@ -98,11 +99,11 @@ pub record IsCommon (r : HeadFields) (params : ℕ) (m : CommonFields) : Type 0 
   pub source : m.source ≡ r.source
 
 module _ {H : Type 0} (f : Form H) where
-  -- each field of a head has one of its values
+  -- each field of a head is in range
   abbrev pub is_head_in_range : HeadFields → Bool
   is_head_in_range r = list_all (λ field. nat_lt (read_value r field) (values f 0 field)) f.head_fields
 
-  -- the head of these fields, where each has one of its values
+  -- the head of these fields, each of which is in range
   pub record IsHeadOf (r : HeadFields) (h : H) : Type 0 where
     pub range : is_head_in_range r ≡ true
     pub same : map (f.value h) f.head_fields ≡ map (read_value r) f.head_fields
@@ -110,7 +111,7 @@ module _ {H : Type 0} (f : Form H) where
   abbrev pub Takes : HeadFields → Option H → Type 0
   Takes r o = MatchOption o (is_head_in_range r ≡ false) (IsHeadOf r)
 
--- what stands behind the head in a line of a channel, as far as it has it: fields, and their values
+-- the fields after the head in a line of a channel, and their values: those that the channel has
 abbrev pub fields_of_mask : (masked : Bool) → List Field
 fields_of_mask masked = if masked then mask ∷ [] else []
 
@@ -123,7 +124,7 @@ mask_values masked m = if masked then m ∷ [] else []
 abbrev pub data_values : (has_data : Bool) (d c : ℕ) → List ℕ
 data_values has_data d c = if has_data then d ∷ c ∷ [] else []
 
--- what its reader has to know: of the n lanes, each of which is 0, the line says w
+-- the preconditions of their reader: a beat has n lanes, each of which is 0, and the line has w of them
 pub record CanReadRest (masked has_data : Bool) (n w : ℕ) (text : List ℕ) (at : ℕ) (lanes : List ℕ) : Type 0 where
   pub width : w ≤ n
   pub most : n ≤ WIDEST
@@ -131,7 +132,7 @@ pub record CanReadRest (masked has_data : Bool) (n w : ℕ) (text : List ℕ) (a
   pub bytes : is_lanes n lanes ≡ true
   pub zero : number_of_lanes lanes ≡ 0
 
--- and what it gives
+-- the result of their reader
 pub record IsRest (masked has_data : Bool) (n w : ℕ) (text : List ℕ) (at : ℕ) (before after : List ℕ) (r : Rest) : Type 0 where
   pub part : IsPart w text at (fields_of_mask masked ++ fields_of_data has_data)
       (mask_values masked r.mask ++ data_values has_data (number_of_lanes after) r.corrupt) r.bad
@@ -140,43 +141,44 @@ pub record IsRest (masked has_data : Bool) (n w : ℕ) (text : List ℕ) (at : �
   pub no_mask : masked ≡ false → r.mask ≡ 0
   pub no_data : has_data ≡ false → (after ≡ before) × (r.corrupt ≡ 0)
 
--- a beat that the line says, as a trace keeps it
+-- the beat of a line, as a trace keeps it
 pub record IsRead {H : Type 0} (f : Form H) (w : ℕ) (text : List ℕ) {n : ℕ} (b : BeatOf H n) : Type 0 where
   pub line : IsLine f w b text
   pub kept : is_kept f w b ≡ true
 
--- what the reader of a line of a known channel has to know: its letter, and that of the n lanes of a beat it says w
+-- the preconditions of the reader of a line of a known channel: the letter of the line, and that of the n lanes of a
+-- beat the line has w
 pub record CanReadBeat {H : Type 0} (f : Form H) (n w : ℕ) (text : List ℕ) : Type 0 where
   pub width : w ≤ n
   pub most : n ≤ WIDEST
   pub letter : slice_index text 0 ≡ f.rules.letter
 
--- the same of a line from a place on, with all lanes of a beat
+-- the same for a line from a position on, if the line has all lanes of a beat
 pub record CanPush {H : Type 0} (f : Form H) (w : ℕ) (text : List ℕ) (at : ℕ) : Type 0 where
   pub width : w ≤ WIDEST
   pub inside : at < length text
   pub letter : slice_index text at ≡ f.rules.letter
 
--- what a reader of later lines has to know: the version is one, and a line has room for both widths
+-- the preconditions of a reader of later lines: the version is 1 or 2, and both widths are at most the widest
 pub record CanRead (v c m : ℕ) : Type 0 where
   pub version : is_version v ≡ true
   pub client : c ≤ WIDEST
   pub manager : m ≤ WIDEST
 
--- the same of a later line of any channel
+-- the beat of a later line of any channel, as a trace keeps it
 pub record IsReadLine (version client manager : ℕ) (text : List ℕ) (line : Line) : Type 0 where
   pub says : SaysLine version client manager line text
   pub kept : is_kept_line version client manager line ≡ true
   pub faultless : body_fault version client manager text ≡ None
 
--- the line from one place to the next line end
+-- the line from `at` to the next line end, or to the end of the text
 pub record LineAt (text : List ℕ) (at end : ℕ) : Type 0 where
   pub from : at ≤ end
   pub to : end ≤ length text
   pub free : (k : ℕ) → at + k < end → slice_index text (at + k) ≢ 10
   pub stop : end < length text → slice_index text end ≡ 10
 
--- the beat of a line was put behind those of its channel
+-- the beat of a line was appended to those of its channel
 pub record IsPushed {client manager : ℕ} (line : Line) (before after : Script client manager) : Type 0 where
   pub a : after.a.items ≡ before.a.items ++ option_to_list (beat_of_a client line)
   pub b : after.b.items ≡ before.b.items ++ option_to_list (beat_of_b manager line)
@@ -184,7 +186,7 @@ pub record IsPushed {client manager : ℕ} (line : Line) (before after : Script 
   pub d : after.d.items ≡ before.d.items ++ option_to_list (beat_of_d manager line)
   pub e : after.e.items ≡ before.e.items ++ option_to_list (beat_of_e client line)
 
--- the beat of the line from a place on, where its LF stands at the end, was put behind those of its channel
+-- the beat of the line at `at`, whose LF is at `end`, was appended to those of its channel
 pub record IsLinePushed {H : Type 0} (f : Form H) (w : ℕ) (text : List ℕ) (at : ℕ) (before after : List (BeatOf H w)) (end : ℕ) : Type 0 where
   pub beat : BeatOf H w
   pub from : at < end
@@ -193,8 +195,8 @@ pub record IsLinePushed {H : Type 0} (f : Form H) (w : ℕ) (text : List ℕ) (a
   pub read : IsRead f w (slice_range text at end) beat
   pub put : after ≡ before ++ beat ∷ []
 
--- lines of a channel, one behind the other from a place on, end at these places, the last of them first: their beats were put behind those of the
--- channel, and this is the place behind them
+-- consecutive lines of a channel from `at` on have their LF at these positions, listed last one first. Their beats were
+-- appended to those of the channel. `place` is the position after them
 abbrev pub ArePushed : {H Z : Type 0} (f : Form H) (w : ℕ) (text : List ℕ) (at : ℕ) (before after : Vec (BeatOf H w) Z) → List ℕ →
     (place : ℕ) → Type 0
 ArePushed f w text at before after [] place = (after.items ≡ before.items) × (place ≡ at)
@@ -202,15 +204,15 @@ ArePushed {H} {Z} f w text at before after (end ∷ ends) place = (between : Vec
     ArePushed f w text at before between ends from
     × IsLinePushed f w text from between.items after.items end × (place ≡ end + 1)
 
--- so many lines of a channel were put behind its beats
+-- the beats of `lines.count` lines of a channel were appended to its list
 pub record AreLinesPushed {H Z : Type 0} (f : Form H) (w : ℕ) (text : List ℕ) (at : ℕ) (before after : Vec (BeatOf H w) Z)
-    (lines : PushedLines) : Type 0 where
+    (lines : ParsedLines) : Type 0 where
   pub ends : List ℕ
   pub count : lines.count ≡ length ends
   pub few : at + lines.count ≤ lines.place
   pub pushed : ArePushed f w text at before after ends lines.place
 
--- the same of a line of any channel
+-- the beat of the line at `at`, whose LF is at `end`, was appended to those of its channel, for any channel
 pub record IsNextPushed {client manager : ℕ} (version : ℕ) (text : List ℕ) (at : ℕ) (before after : Script client manager) (end : ℕ) : Type 0 where
   pub line : Line
   pub from : at ≤ end
@@ -219,7 +221,7 @@ pub record IsNextPushed {client manager : ℕ} (version : ℕ) (text : List ℕ)
   pub read : IsReadLine version client manager (slice_range text at end) line
   pub put : IsPushed line before after
 
--- two scripts of the same beats
+-- two scripts with the same beats
 pub record IsSameScript {client manager : ℕ} (before after : Script client manager) : Type 0 where
   pub a : after.a.items ≡ before.a.items
   pub b : after.b.items ≡ before.b.items
@@ -227,35 +229,35 @@ pub record IsSameScript {client manager : ℕ} (before after : Script client man
   pub d : after.d.items ≡ before.d.items
   pub e : after.e.items ≡ before.e.items
 
--- lines of one channel or another, one behind the other from a place on, end at these places, the last of them first: their beats were put behind
--- those of their channels, and this is the place behind them
+-- consecutive lines of any channels from `at` on have their LF at these positions, listed last one first. Their beats
+-- were appended to those of their channels. `place` is the position after them
 abbrev pub AreBehind : {client manager : ℕ} (version : ℕ) (text : List ℕ) (at : ℕ) (before after : Script client manager) → List ℕ →
     (place : ℕ) → Type 0
 AreBehind version text at before after [] place = IsSameScript before after × (place ≡ at)
 AreBehind {client} {manager} version text at before after (end ∷ ends) place = (between : Script client manager) × (from : ℕ)
     × AreBehind version text at before between ends from × IsNextPushed version text from between after end × (place ≡ end + 1)
 
--- so many lines were put behind the beats of their channels
+-- the beats of `lines.count` lines were appended to those of their channels
 pub record AreNextPushed {client manager : ℕ} (version : ℕ) (text : List ℕ) (at : ℕ) (before after : Script client manager)
-    (lines : PushedLines) : Type 0 where
+    (lines : ParsedLines) : Type 0 where
   pub ends : List ℕ
   pub count : lines.count ≡ length ends
   pub few : at + lines.count ≤ lines.place
   pub pushed : AreBehind version text at before after ends lines.place
 
--- the text ends within the line from a place on, which is no longer than a line can be, and the script stays
+-- the text ends within the line at `at`, which is shorter than the longest line, and the script stays as it was
 pub record IsLeft {client manager : ℕ} (text : List ℕ) (at : ℕ) (before after : Script client manager) : Type 0 where
   pub rest : IsUnfinished (drop at text)
   pub same : IsSameScript before after
 
--- the line from a place on has this fault, whether it ends there or is too long for a line
+-- the line at `at` has this fault; the line has its end, or is too long
 pub record IsFaultyAt (version client manager : ℕ) (text : List ℕ) (at : ℕ) (kind : TraceKind) : Type 0 where
   pub end : ℕ
   pub line : LineAt text at end
   pub long : end ≡ length text → LONGEST_LINE ≤ end - at
   pub fault : body_fault version client manager (slice_range text at end) ≡ Some kind
 
--- the line from a place on says a beat
+-- the line at `at` has its end and has a beat
 pub record IsReadableAt (version client manager : ℕ) (text : List ℕ) (at : ℕ) : Type 0 where
   pub end : ℕ
   pub line : LineAt text at end
@@ -263,32 +265,33 @@ pub record IsReadableAt (version client manager : ℕ) (text : List ℕ) (at : �
   pub inside : end < length text
   pub read : IsReadLine version client manager (slice_range text at end) beat
 
--- the line from a place on is refused with this: it has this fault, or its beat finds no memory
+-- the line at `at` is refused with this kind: it has this fault, or its beat could not be stored
 abbrev pub IsRefusedAt : (version client manager : ℕ) (text : List ℕ) (at : ℕ) (kind : TraceKind) → Type 0
 IsRefusedAt version client manager text at kind =
     (kind ≢ OutOfMemory → IsFaultyAt version client manager text at kind) × (kind ≡ OutOfMemory → IsReadableAt version client manager text at)
 
--- whole lines of a piece were read behind a text whose last line has this number: all up to one without its end, or those before one with a fault
+-- whole lines of a piece were read after a text whose last line has number `line`: all up to one without its end, or
+-- those before one with a fault
 pub record IsPieceRead {client manager : ℕ} (version : ℕ) (piece : List ℕ) (before : Script client manager) (line : ℕ) (after : Script client manager)
     (last : ℕ) (r : Result ℕ TraceFault) : Type 0 where
   pub used : IfOk r (λ used. used ≤ length piece)
   pub lines : IfOk r (λ used. last ≤ line + used)
   pub rest : IfOk r (λ used. IsUnfinished (drop used piece))
   pub grown : IsOk r → HasGrown before after
-  pub told : (done : List ℕ) (gone : Gone client manager) → HasReadPast version done gone before line
-      → IfOk r (λ used. HasReadPast version (done ++ take used piece) gone after last)
-  pub fault : (done more : List ℕ) (gone : Gone client manager) → HasReadPast version done gone before line
+  pub told : (done : List ℕ) (discarded : Discarded client manager) → HasReadPast version done discarded before line
+      → IfOk r (λ used. HasReadPast version (done ++ take used piece) discarded after last)
+  pub fault : (done more : List ℕ) (discarded : Discarded client manager) → HasReadPast version done discarded before line
       → IfErr r (λ e. e.kind ≢ OutOfMemory → IsFirstFault (done ++ piece ++ more) e.line e.kind)
-  pub memory : (done more : List ℕ) (gone : Gone client manager) → HasReadPast version done gone before line
+  pub memory : (done more : List ℕ) (discarded : Discarded client manager) → HasReadPast version done discarded before line
       → IfErr r (λ e. e.kind ≡ OutOfMemory → IsReadableTo (done ++ piece ++ more) e.line)
-  pub stopped : (done : List ℕ) (gone : Gone client manager) → HasReadPast version done gone before line
-      → IfErr r (λ e. HasStopped version done piece gone after last e.line)
+  pub stopped : (done : List ℕ) (discarded : Discarded client manager) → HasReadPast version done discarded before line
+      → IfErr r (λ e. HasStopped version done piece discarded after last e.line)
 
--- a fault of a text: the first one, or the want of memory behind lines without a fault
+-- a fault of a text: the first one, or out of memory after lines without a fault
 abbrev pub IsFaultOf : List ℕ → TraceFault → Type 0
 IsFaultOf text e = (e.kind ≢ OutOfMemory → IsFirstFault text e.line e.kind) × (e.kind ≡ OutOfMemory → IsReadableTo text e.line)
 
--- the lines that a text tells, as a trace keeps them
+-- these are the lines of a text, as a trace keeps them
 abbrev pub AreLines : (version client manager : ℕ) → List Line → List ℕ → Type 0
 AreLines version client manager lines text = TellsLines version client manager lines text ×
     (list_all (is_kept_line version client manager) lines ≡ true)

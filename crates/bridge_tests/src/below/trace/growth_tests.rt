@@ -1,6 +1,6 @@
-//! What each call answers where a growth is refused: its own want of memory, which is then the answer of the test too,
-//! and what was lent to it is as it was. `bench/refusals` refuses each growth in turn. Where none is refused, the tests
-//! pass.
+//! The result of each call if an allocation fails. It is the call's own memory error, which is then
+//! also the result of the test, and the arguments are unchanged. `bench/refusals` makes each
+//! allocation fail in turn. If none fails, the tests pass.
 #![tactic(auto, using(tl_lanes::proofs::Widths::width_4, tl_lanes::proofs::Widths::width_8))]
 
 use crate::five::{FIVE, has_one_each, script_of_five};
@@ -11,7 +11,7 @@ use std::test::Fail;
 use tl_msg::{ChE, SideFault, Verdict};
 use tl_trace::{OutOfMemory, Trace, read, script_of, write_far, write_report, write_trace};
 
-/// Whether the text was read, or else its want of memory.
+/// Returns whether the text was read, or its memory error.
 fn is_read(alloc: Global) -> Result<bool, Fail> {
     match script_of_five(alloc) {
         Ok(script) => Ok(has_one_each(&script)),
@@ -24,7 +24,7 @@ fn read_script_wants_memory(rt: HostRuntime) -> Result<(), Fail> {
     passes(is_read(rt.alloc()))
 }
 
-/// Whether a trace is made into its script.
+/// Returns whether a trace is converted to its script.
 fn is_made(alloc: Global, trace: &Trace) -> Result<bool, Fail> {
     if trace.client != 4 || trace.manager != 8 {
         return Ok(false);
@@ -35,7 +35,7 @@ fn is_made(alloc: Global, trace: &Trace) -> Result<bool, Fail> {
     }
 }
 
-/// Whether a trace is written as this text.
+/// Returns whether a trace is written as this text.
 fn is_written_as(alloc: Global, trace: &Trace, text: &[u8]) -> Result<bool, Fail> {
     match write_trace(alloc, trace) {
         Ok(written) => Ok(written.as_slice() == text),
@@ -43,7 +43,7 @@ fn is_written_as(alloc: Global, trace: &Trace, text: &[u8]) -> Result<bool, Fail
     }
 }
 
-/// Whether a trace is made into its script, and written as its text.
+/// Returns whether a trace is converted to its script, and written as its text.
 fn is_made_and_written(alloc: Global, trace: &Trace) -> Result<bool, Fail> {
     match is_made(alloc, trace) {
         Ok(true) => is_written_as(alloc, trace, FIVE.as_bytes()),
@@ -51,7 +51,7 @@ fn is_made_and_written(alloc: Global, trace: &Trace) -> Result<bool, Fail> {
     }
 }
 
-/// Whether it was read, and that.
+/// Returns whether the text was read, and its trace converted and written.
 fn is_read_made_and_written(alloc: Global) -> Result<bool, Fail> {
     match read(alloc, FIVE.as_bytes()) {
         Ok(trace) => {
@@ -63,14 +63,14 @@ fn is_read_made_and_written(alloc: Global) -> Result<bool, Fail> {
     }
 }
 
-/// Those of `read`, then those of `script_of`, and then those of `write_trace`.
+/// The allocations of `read`, then those of `script_of`, and then those of `write_trace`.
 #[test]
 fn a_trace_wants_memory(rt: HostRuntime) -> Result<(), Fail> {
     passes(is_read_made_and_written(rt.alloc()))
 }
 
-/// What a test answers of a call that writes behind what stood there: whether this text stands there then, or its want of
-/// memory, where all is as it was.
+/// Returns the result of a test of a call that appends to a text: whether `out` is then `text`, or
+/// its memory error, if `out` is unchanged.
 fn judged(ended: Result<(), OutOfMemory>, out: &[u8], text: &[u8]) -> Result<bool, Fail> {
     match ended {
         Ok(()) => Ok(out == text),
@@ -79,7 +79,7 @@ fn judged(ended: Result<(), OutOfMemory>, out: &[u8], text: &[u8]) -> Result<boo
     }
 }
 
-/// Writes three lines.
+/// Writes three lines. Returns whether the text is the expected one.
 fn three_are_written(out: &mut Vec<u8>) -> Result<bool, Fail> {
     let ended = write_far::<ChE, 4>(out, &[ack(7), ack(8), ack(9)], 1);
     judged(ended, out, b"before E 07\nE 08\nE 09\n")
@@ -99,7 +99,7 @@ const WAITING: Verdict = Verdict::Waiting {
     fault: SideFault::SourceBusy,
 };
 
-/// Writes a verdict.
+/// Writes a verdict. Returns whether the text is the expected one.
 fn is_reported(out: &mut Vec<u8>) -> Result<bool, Fail> {
     let ended = write_report(out, b'A', &WAITING);
     judged(ended, out, b"before = A waiting 3 SourceBusy\n")

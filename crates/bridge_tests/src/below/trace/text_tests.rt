@@ -9,10 +9,11 @@ use std::alloc::Global;
 use tl_msg::{ChD, ChE, HeadD};
 use tl_trace::{HeadText, ScriptReader, TraceFault, TraceKind, line_of, read, write_trace};
 
-/// How many bytes the header of [`FIVE`] has, with its LF.
+/// The number of bytes of the header of [`FIVE`], with its LF.
 const HEADER: usize = 36;
 
-/// Reads lines in two pieces, of which the second begins with what the first one left, and answers their first fault.
+/// Reads lines in two pieces; the second begins with the bytes that the first one left. Returns
+/// their first fault, if there is one.
 fn fault_in_pieces(
     reader: &mut ScriptReader<4, 8>,
     lines: &[u8],
@@ -32,13 +33,13 @@ fn fault_in_pieces(
     }
 }
 
-/// Whether the lines of [`FIVE`] that are read so have no fault, and are its script.
+/// Returns whether the lines of [`FIVE`], read in two pieces, have no fault and give its script.
 fn is_read_in_pieces(alloc: Global, lines: &[u8], first: usize) -> bool {
     let mut reader = ScriptReader::<4, 8>::new(alloc, 1);
     fault_in_pieces(&mut reader, lines, first).is_none() & has_one_each(&reader.script)
 }
 
-/// Two pieces that part the lines at each byte.
+/// The pieces are divided at each byte in turn.
 #[test]
 fn scripts_are_read_in_pieces(rt: HostRuntime) {
     let lines = FIVE.as_bytes().get(HEADER..).unwrap_or(&[]);
@@ -47,7 +48,7 @@ fn scripts_are_read_in_pieces(rt: HostRuntime) {
     }
 }
 
-/// The fault of a last line that is read so, and has no end.
+/// Returns the fault of a last line that is read in two pieces and has no LF.
 fn fault_of_last_line(alloc: Global) -> Option<TraceFault> {
     let mut reader = ScriptReader::<4, 8>::new(alloc, 1);
     fault_in_pieces(&mut reader, b"E 07", 2)
@@ -58,7 +59,7 @@ const NO_END: TraceFault = TraceFault {
     kind: TraceKind::NoEnd,
 };
 
-/// Whether a text is read as a trace that is written as the same text.
+/// Returns whether a text is read as a trace that is written as the same text.
 fn is_kept(alloc: Global, text: &[u8]) -> bool {
     match read(alloc, text) {
         Ok(trace) => {
@@ -70,7 +71,8 @@ fn is_kept(alloc: Global, text: &[u8]) -> bool {
     }
 }
 
-/// A request on lanes 4 to 7, two sinks that differ above the eighth bit alone, and mask bits on both halves of the widest bus.
+/// A request on lanes 4 to 7, two sinks that differ only above the eighth bit, and mask bits on
+/// both halves of the widest bus.
 const KEPT: [&str; 3] = [
     "tilelink-trace 1 client 8 manager 4\nA 4 0 2 07 0000000000001004 f0 1122334455667788 0\n",
     "tilelink-trace 2 client 8 manager 4\nE 0107\nE 0007\n",
@@ -92,7 +94,7 @@ const SHAPE: TraceFault = TraceFault {
     kind: TraceKind::Shape,
 };
 
-/// Also of a last line without its end.
+/// Also for a last line without an LF.
 #[test]
 fn refuses_the_first_fault(rt: HostRuntime) {
     let fault = read(rt.alloc(), UPPER_CASE).err();
@@ -109,12 +111,12 @@ const HEAD: HeadD = HeadD {
     denied: false,
 };
 
-/// Whether a GrantAck of sink 2a is this line in a trace of this version.
+/// Returns whether a GrantAck of sink 2a is written as this line in a trace of this version.
 fn is_line(version: u8, line: &[u8]) -> bool {
     line_of::<ChE, 4>(&ack(0x2a), version).as_slice() == line
 }
 
-/// Whether that head is this text in a trace of version 1.
+/// Returns whether [`HEAD`] is written as this text in a trace of version 1.
 fn is_head(text: &[u8]) -> bool {
     ChD::head_text(&HEAD, 1).as_slice() == text
 }

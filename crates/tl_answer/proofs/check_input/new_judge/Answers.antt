@@ -6,4 +6,4 @@ pub returns : goal.returns
 returns g c = λ s few.
     let judge = c.new.result in
     let new = c.new.ensures in
-    new-goes (CanJudge judge) (λ beats. HasJudged beats judge) judge.gone new.none s (new.begins s (short-lists s few)) new.judged
+    new-goes (CanJudge judge) (λ beats. HasJudged beats judge) judge.discarded new.none s (new.begins s (short-lists s few)) new.judged

@@ -7,13 +7,13 @@ use Rattle.tl_answer.proofs.crossing.cross.Goals as goal
 
 pub read_through-requires-room-L-Listener : goal.read_through-requires-room-L-Listener
 read_through-requires-room-L-Listener g c κs within =
-    crossing_small g.row.C g.row.M c.are_widths.ensures.client c.are_widths.ensures.manager
+    crossing_small g.row.C g.row.M c.lemma_are_widths.ensures.client c.lemma_are_widths.ensures.manager
 
 pub returns-in-Ok : goal.returns-in-Ok
 returns-in-Ok g c =
     let read = c.in-Ok.ensures.ok in
     reads_answer _ _ false c.read_through.new.input read.text read.took read.end read.few c.end.result
     (of-both _ _ _ (λ made text-is done-is. script-text c.args.version g.row.C g.row.M read.lines read.text read.told
-    (all_of read.gone c.in-Ok.last) (all-near read.lines read.gone c.in-Ok.last read.rest) false (spelled made) text-is made.all_done done-is)
-    c.end.result (c.end.ensures.text c.args.version read.gone read.listens) (c.end.ensures.done c.args.version read.gone read.listens))
+    (all_of read.discarded c.in-Ok.last) (all-near read.lines read.discarded c.in-Ok.last read.rest) false (spelled made) text-is made.all_done done-is)
+    c.end.result (c.end.ensures.text c.args.version read.discarded read.listens) (c.end.ensures.done c.args.version read.discarded read.listens))
     c.end.ensures.err

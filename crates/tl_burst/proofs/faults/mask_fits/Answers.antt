@@ -1,4 +1,4 @@
--- By name, so that a wrong test is refused at once.
+-- Written out so that an incorrect test is refused at once.
 use Rattle.tl_burst.proofs.faults.mask_fits.Goals as goal
 
 pub returns-then-held : goal.returns-then-held

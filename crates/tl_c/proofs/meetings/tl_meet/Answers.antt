@@ -2,7 +2,7 @@ use Rattle.std.proofs.Common.{refl, sym, ◌∙◌, subst}
 use Rattle.tl_c.specs.Calls.{HoldsClient, HoldsManager, HoldSides, HaveMet}
 use Rattle.tl_c.proofs.Counting.{counted}
 use Rattle.tl_c.proofs.Keeping.{held_at, kept, kept_none, client_same, manager_same}
-use Rattle.tl_c.proofs.Meeting.{no_side, other_bridge, untouched, for_both, answer_no_client, answer_no_manager, answer_others, answer_met}
+use Rattle.tl_c.proofs.Meeting.{not_open, bridge_mismatch, untouched, for_both, answer_no_client, answer_no_manager, answer_others, answer_met}
 use Rattle.tl_c.proofs.BothWidths.{widths}
 use Rattle.tl_c.proofs.meetings.tl_meet.Goals as goal
 
@@ -14,9 +14,9 @@ returns-in_default c =
     let client = c.in_default.ensures.none refl in
     record {
       answer = answer_no_client _ _ client;
-      met = λ x y h k zero. no_side zero;
-      counts = λ zero. no_side zero;
-      sides = λ zero. no_side zero;
+      met = λ x y h k zero. not_open zero;
+      counts = λ zero. not_open zero;
+      sides = λ zero. not_open zero;
       kept = (kept_none _ client c.take.ensures.after c.take.ensures.number, untouched _);
       same = λ not. (c.take.ensures.after ∙ sym client, refl, refl);
     }
@@ -27,9 +27,9 @@ returns-in_default-take c =
     let manager = c.in_default-take.ensures.none refl in
     record {
       answer = answer_no_manager _ _ manager;
-      met = λ x y h k zero. no_side zero;
-      counts = λ zero. no_side zero;
-      sides = λ zero. no_side zero;
+      met = λ x y h k zero. not_open zero;
+      counts = λ zero. not_open zero;
+      sides = λ zero. not_open zero;
       kept = (
         kept _ client c.put.ensures.held (client_same _) c.take.ensures.number c.put.ensures.number,
         kept_none _ manager c.take-2.ensures.after c.take-2.ensures.number,
@@ -45,9 +45,9 @@ returns-then-client-manager c =
     let put_2 = c.put-then-client-manager-2.ensures in
     record {
       answer = answer_others client manager c.take.ensures.number c.take-2.ensures.number c.if-client-manager.true;
-      met = λ x y h k zero. other_bridge zero;
-      counts = λ zero. other_bridge zero;
-      sides = λ zero. other_bridge zero;
+      met = λ x y h k zero. bridge_mismatch zero;
+      counts = λ zero. bridge_mismatch zero;
+      sides = λ zero. bridge_mismatch zero;
       kept = (
         kept _ client put.held (client_same _) c.take.ensures.number put.number,
         kept _ manager put_2.held (manager_same _) c.take-2.ensures.number put_2.number,

@@ -4,7 +4,7 @@ use Rattle.tl_c.specs.Calls.{HoldsClient, HoldsManager, HoldSides}
 use Rattle.tl_c.specs.Settling.{HaveSettled, AreStill}
 use Rattle.tl_c.proofs.Counting.{counted}
 use Rattle.tl_c.proofs.Keeping.{held_at, kept, kept_none, client_same, manager_same}
-use Rattle.tl_c.proofs.Meeting.{no_side, other_bridge, untouched, for_both, sides_held}
+use Rattle.tl_c.proofs.Meeting.{not_open, bridge_mismatch, untouched, for_both, sides_held}
 use Rattle.tl_c.proofs.Meeting.{answer_no_client, answer_no_manager, answer_others, answer_met}
 use Rattle.tl_c.proofs.meetings.tl_settle.Goals as goal
 
@@ -13,10 +13,10 @@ returns-in_default c =
     let client = c.in_default.ensures.none refl in
     record {
       answer = answer_no_client _ _ client;
-      settled = λ x y h k zero. no_side zero;
-      still = λ zero. no_side zero;
-      counts = λ zero. no_side zero;
-      sides = λ zero. no_side zero;
+      settled = λ x y h k zero. not_open zero;
+      still = λ zero. not_open zero;
+      counts = λ zero. not_open zero;
+      sides = λ zero. not_open zero;
       kept = (kept_none _ client c.take.ensures.after c.take.ensures.number, untouched _);
       same = λ not. (c.take.ensures.after ∙ sym client, refl, refl);
     }
@@ -27,10 +27,10 @@ returns-in_default-take c =
     let manager = c.in_default-take.ensures.none refl in
     record {
       answer = answer_no_manager _ _ manager;
-      settled = λ x y h k zero. no_side zero;
-      still = λ zero. no_side zero;
-      counts = λ zero. no_side zero;
-      sides = λ zero. no_side zero;
+      settled = λ x y h k zero. not_open zero;
+      still = λ zero. not_open zero;
+      counts = λ zero. not_open zero;
+      sides = λ zero. not_open zero;
       kept = (
         kept _ client c.put.ensures.held (client_same _) c.take.ensures.number c.put.ensures.number,
         kept_none _ manager c.take-2.ensures.after c.take-2.ensures.number,
@@ -46,10 +46,10 @@ returns-then-client-manager c =
     let put_2 = c.put-then-client-manager-2.ensures in
     record {
       answer = answer_others client manager c.take.ensures.number c.take-2.ensures.number c.if-client-manager.true;
-      settled = λ x y h k zero. other_bridge zero;
-      still = λ zero. other_bridge zero;
-      counts = λ zero. other_bridge zero;
-      sides = λ zero. other_bridge zero;
+      settled = λ x y h k zero. bridge_mismatch zero;
+      still = λ zero. bridge_mismatch zero;
+      counts = λ zero. bridge_mismatch zero;
+      sides = λ zero. bridge_mismatch zero;
       kept = (
         kept _ client put.held (client_same _) c.take.ensures.number put.number,
         kept _ manager put_2.held (manager_same _) c.take-2.ensures.number put_2.number,

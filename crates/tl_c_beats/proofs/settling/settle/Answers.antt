@@ -1,4 +1,3 @@
-use Rattle.std.proofs.Common.{arith}
 use Rattle.tl_sides.proofs.SameSides.{same_client_then, same_manager_then, still_sides}
 use Rattle.tl_c_beats.proofs.Rounds.{met_known, client_stays, manager_stays, settles_then}
 use Rattle.tl_c_beats.proofs.settling.settle.Goals as goal

@@ -50,8 +50,8 @@ returns-then-answers-before g c =
           (asked.ensures.accepted near back c.passes.answers.at part_a (here.come_a near part_a was_a)
           (here.both near back part_a part_d was_a was_d start));
       stopped = λ near back end_a end_d was_a was_d start.
-          let part_a = part-of c.args.gone.now.a asked.new.asks.at c.args.a.now near end_a in
-          let part_d = part-of c.args.gone.now.d answered.new.answers.at c.args.d.now back end_d in
+          let part_a = part-of c.args.discarded.now.a asked.new.asks.at c.args.a.now near end_a in
+          let part_d = part-of c.args.discarded.now.d answered.new.answers.at c.args.d.now back end_d in
           let before = here.both near back part_a part_d was_a was_d start in
           let a_was = here.come_a near part_a was_a in
           let d_was = here.come_d back part_d was_d in
@@ -61,12 +61,12 @@ returns-then-answers-before g c =
           asked.result answered.result
           (asked.ensures.stopped near back c.passes.answers.at part_a a_was before ∙
           ap (λ o. option_map_or (λ b. stops_a near back asked.new.asks.at c.passes.answers.at b) o None)
-          (sym (end-get c.args.gone.now.a asked.new.asks.at c.args.a.now near end_a asked.ensures.within.from)))
-          (λ none. end-past c.args.gone.now.a asked.new.asks.at c.args.a.now near end_a (asked.ensures.all none))
+          (sym (end-get c.args.discarded.now.a asked.new.asks.at c.args.a.now near end_a asked.ensures.within.from)))
+          (λ none. end-past c.args.discarded.now.a asked.new.asks.at c.args.a.now near end_a (asked.ensures.all none))
           (answered.ensures.stopped near back asked.new.asks.at part_d d_was between ∙
           ap (λ o. option_map_or (λ b. stops_d near back asked.new.asks.at answered.new.answers.at b) o None)
-          (sym (end-get c.args.gone.now.d answered.new.answers.at c.args.d.now back end_d answered.ensures.within.from)))
-          (λ none. end-past c.args.gone.now.d answered.new.answers.at c.args.d.now back end_d (answered.ensures.all none))
+          (sym (end-get c.args.discarded.now.d answered.new.answers.at c.args.d.now back end_d answered.ensures.within.from)))
+          (λ none. end-past c.args.discarded.now.d answered.new.answers.at c.args.d.now back end_d (answered.ensures.all none))
           asked.new.asks.tracker asked.new.asks.far (asked.ensures.come near part_a a_was)
           answered.new.answers.tracker answered.new.answers.far (answered.ensures.come back part_d d_was);
       stuck = λ near back part_a part_d was_a was_d start.
@@ -75,14 +75,14 @@ returns-then-answers-before g c =
           let d_was = here.come_d back part_d was_d in
           let between = asked.ensures.accepted near back c.passes.answers.at part_a a_was before in (
             stuck-by (stops_a near back asked.new.asks.at answered.new.answers.at)
-                (slice_get c.args.a.now (asked.new.asks.at - c.args.gone.now.a)) asked.result
+                (slice_get c.args.a.now (asked.new.asks.at - c.args.discarded.now.a)) asked.result
                 (asked.ensures.stopped near back c.passes.answers.at part_a a_was before ∙
                 ap (λ k. option_map_or (λ b. stops_a near back asked.new.asks.at k b)
-                (slice_get c.args.a.now (asked.new.asks.at - c.args.gone.now.a)) None) still)
-                (λ none. none-held c.args.gone.now.a asked.new.asks.at c.args.a.now (asked.ensures.all none)),
+                (slice_get c.args.a.now (asked.new.asks.at - c.args.discarded.now.a)) None) still)
+                (λ none. none-held c.args.discarded.now.a asked.new.asks.at c.args.a.now (asked.ensures.all none)),
             stuck-by (stops_d near back asked.new.asks.at answered.new.answers.at)
-                (slice_get c.args.d.now (answered.new.answers.at - c.args.gone.now.d)) answered.result
+                (slice_get c.args.d.now (answered.new.answers.at - c.args.discarded.now.d)) answered.result
                 (answered.ensures.stopped near back asked.new.asks.at part_d d_was between)
-                (λ none. none-held c.args.gone.now.d answered.new.answers.at c.args.d.now (answered.ensures.all none)),
+                (λ none. none-held c.args.discarded.now.d answered.new.answers.at c.args.d.now (answered.ensures.all none)),
           );
     }

@@ -10,8 +10,8 @@ use Rattle.tl_check.proofs.coupled.offer_responses.Goals as goal
 pub beats-init : goal.beats-init
 beats-init g c = record { within = c.requires.2; on = omega arith; come = λ d part was. was; accepted = λ a d i part was start. start }
 
-pub note_answers-requires : goal.note_answers-requires
-note_answers-requires g c =
+pub record_responses-requires : goal.record_responses-requires
+record_responses-requires g c =
     let place = subst (λ q. IfOk q (IsPlace rules_d g.row.M c.beats.answers.tracker)) c.in-Ok.ensures.place c.check.ensures.place in
     let head = subst (λ q. IfOk q (λ place. place.head ≡ c.in-Some.beat.now.head)) c.in-Ok.ensures.place c.check.ensures.head in
     (lit< tt, (c.requires.0, ap (λ h. rules_d.fault h) (sym head) ∙ place.lawful))
@@ -21,22 +21,22 @@ beats-preserved g c =
     let answers = c.beats.answers in
     let beat = c.in-Some.beat.now in
     let here = c.beats.invariant.within in
-    let held = read_some c.args.beats.now (answers.at - c.args.gone) beat c.in-Some.ensures.lookup.0 c.in-Some.ensures.lookup.1 in
+    let held = read_some c.args.beats.now (answers.at - c.args.discarded) beat c.in-Some.ensures.lookup.0 c.in-Some.ensures.lookup.1 in
     let ok = subst (λ q. IsOk q) (sym c.in-Ok.ensures.place) refl in
     let fine = c.check.ensures.accepts.0 ok in
     let head = subst (λ q. IfOk q (λ place. place.head ≡ beat.head)) c.in-Ok.ensures.place c.check.ensures.head in
     record {
-      within = steps c.args.gone answers.at answers.far (length c.args.beats.now) c.accept.new.self.at c.accept.new.self.far here
-          (slice_get_within c.args.beats.now (answers.at - c.args.gone) beat held) c.accept.ensures.at c.accept.ensures.few_far;
+      within = steps c.args.discarded answers.at answers.far (length c.args.beats.now) c.accept.new.self.at c.accept.new.self.far here
+          (slice_get_within c.args.beats.now (answers.at - c.args.discarded) beat held) c.accept.ensures.at c.accept.ensures.few_far;
       on = omega (arith, c.beats.invariant.on, c.accept.ensures.at);
       come = λ d part was.
           let come = c.beats.invariant.come d part was in
-          c.accept.ensures.come d beat come (part-get c.args.gone answers.at c.args.beats.now d part here.from beat held) head fine
+          c.accept.ensures.come d beat come (part-get c.args.discarded answers.at c.args.beats.now d part here.from beat held) head fine
           ((c.check.ensures.admitted (take answers.at d) come.handed come.burst_is).0 ok);
       accepted = λ a d i part was start.
           let come = c.beats.invariant.come d part was in
           let s = c.beats.invariant.accepted a d i part was start in
-          let next = part-get c.args.gone answers.at c.args.beats.now d part here.from beat held in
+          let next = part-get c.args.discarded answers.at c.args.beats.now d part here.from beat held in
           let after = c.accept.ensures.come d beat come next head fine
           ((c.check.ensures.admitted (take answers.at d) come.handed come.burst_is).0 ok) in
           let checked = answer-checked c.requires.0 c.requires.1 a d i answers.at c.beats.client c.beats.manager s beat answers.tracker answers.far
@@ -47,15 +47,15 @@ beats-preserved g c =
           (says-after rules_d d answers.tracker answers.at answers.far come beat next None fine)
           answers.tracker c.accept.new.self.tracker answers.far c.accept.new.self.at c.accept.new.self.far c.accept.result
           c.accept.ensures.at c.accept.ensures.far come after
-          c.admit.new.self (c.in-Ok.ensures.admits.noted s.manager_history beat s.manager_knows checked) c.note_answers.new.book
-          (λ bs count heads. c.note_answers.ensures s.client_history bs s.client_knows count heads);
+          c.admit.new.self (c.in-Ok.ensures.admits.noted s.manager_history beat s.manager_knows checked) c.record_responses.new.book
+          (λ bs count heads. c.record_responses.ensures s.client_history bs s.client_knows count heads);
     }
 
 pub beats-smaller : goal.beats-smaller
 beats-smaller g c =
     let answers = c.beats.answers in
-    let held = read_some c.args.beats.now (answers.at - c.args.gone) c.in-Some.beat.now c.in-Some.ensures.lookup.0 c.in-Some.ensures.lookup.1 in
-    let within = slice_get_within c.args.beats.now (answers.at - c.args.gone) c.in-Some.beat.now held in
+    let held = read_some c.args.beats.now (answers.at - c.args.discarded) c.in-Some.beat.now c.in-Some.ensures.lookup.0 c.in-Some.ensures.lookup.1 in
+    let within = slice_get_within c.args.beats.now (answers.at - c.args.discarded) c.in-Some.beat.now held in
     omega (arith, c.beats.invariant.within.from, within, c.accept.ensures.at)
 
 pub returns-in-Err : goal.returns-in-Err
@@ -69,12 +69,12 @@ returns-in-Err g c = record {
   stopped = λ a d i part was start.
       let answers = c.beats.answers in
       let beat = c.in-Some.beat.now in
-      let held = read_some c.args.beats.now (answers.at - c.args.gone) beat c.in-Some.ensures.lookup.0 c.in-Some.ensures.lookup.1 in
+      let held = read_some c.args.beats.now (answers.at - c.args.discarded) beat c.in-Some.ensures.lookup.0 c.in-Some.ensures.lookup.1 in
       let s = c.beats.invariant.accepted a d i part was start in
       let checked = answer-checked c.requires.0 c.requires.1 a d i answers.at c.beats.client c.beats.manager s beat answers.tracker answers.far
       c.check.result
       (c.beats.invariant.come d part was) c.check.ensures.accepts c.check.ensures.fault c.check.ensures.head c.check.ensures.place in
-      stopped-at (λ b. stops_d a d i answers.at b) c.args.beats.now (answers.at - c.args.gone) beat c.in-Err.fault held
+      stopped-at (λ b. stops_d a d i answers.at b) c.args.beats.now (answers.at - c.args.discarded) beat c.in-Err.fault held
       (answer-stops c.requires.0 c.requires.1 a d i answers.at c.beats.client c.beats.manager s beat c.in-Err.fault
       (c.in-Err.ensures.admits.fault s.manager_history beat s.manager_knows checked));
   all = λ none. absurd (cc (none));
@@ -87,8 +87,8 @@ returns g c = record {
   come = c.beats.invariant.come;
   accepted = c.beats.invariant.accepted;
   stopped = λ a d i part was start.
-      let past = none-left c.args.gone c.beats.answers.at c.args.beats.now c.in_default.ensures.lookup.0 c.beats.invariant.within in
+      let past = none-left c.args.discarded c.beats.answers.at c.args.beats.now c.in_default.ensures.lookup.0 c.beats.invariant.within in
       sym (ap (λ o. option_map_or (λ b. stops_d a d i c.beats.answers.at b) o None)
-      (slice_get_past c.args.beats.now (c.beats.answers.at - c.args.gone) (omega (arith, past))));
-  all = λ _. none-left c.args.gone c.beats.answers.at c.args.beats.now c.in_default.ensures.lookup.0 c.beats.invariant.within;
+      (slice_get_past c.args.beats.now (c.beats.answers.at - c.args.discarded) (omega (arith, past))));
+  all = λ _. none-left c.args.discarded c.beats.answers.at c.args.beats.now c.in_default.ensures.lookup.0 c.beats.invariant.within;
 }

@@ -6,4 +6,4 @@ pub returns : goal.returns
 returns g c =
     let script = c.args.script.now in
     let made = c.new-judge.ensures in
-    c.end.ensures (near_beats script) (all-held c.new-judge.result.gone script made.none) (made.judged (near_beats script))
+    c.end.ensures (near_beats script) (all-held c.new-judge.result.discarded script made.none) (made.judged (near_beats script))

@@ -88,7 +88,7 @@ returns-clause-gives g c =
       no_data = λ none. search (rules, none, c.if-not-carries_data.false, c.if-not-carries_data.ensures, c.carries_data.ensures);
     }
 
--- where a near beat has as many bytes as some far beats, each gives so many
+-- if a near beat has the bytes of c far beats, each near beat completes c of them
 times : (i p q c : ℕ) → p ≡ c * q → 0 < q → i * p / q ≡ i * c
 times i p q c e pos =
     let product : i * p ≡ (i * c) * q = rw e (grind arith) in

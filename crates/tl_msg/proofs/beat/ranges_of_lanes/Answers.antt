@@ -1,4 +1,4 @@
--- What memory says of an item of a slice, at any default.
+-- An item of a slice in memory is in the range of its type, for any default.
 use Rattle.std.proofs.Common.{arith}
 use Rattle.std.proofs.lemmas.Grind.{get_or_default_zero}
 use Rattle.tl_msg.proofs.beat.ranges_of_lanes.Goals as goal

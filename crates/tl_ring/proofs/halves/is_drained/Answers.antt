@@ -1,4 +1,4 @@
-use Rattle.tl_ring.proofs.Names.{◌≤◌, length, refl, arith, lit<, ROOM}
+use Rattle.tl_ring.proofs.Names.{◌≤◌, length, refl, arith, lit<, STAGE_CAPACITY}
 use Rattle.tl_ring.specs.Ends.{LookedAfter, taking_of}
 use Rattle.tl_ring.proofs.EndSteps.{shown_of}
 use denote.Param.{layout, param, number, copied}
@@ -41,6 +41,6 @@ returns-clause-drained g c = none_in_two c.args.inbox.now _ c.len-waiting.result
 
 pub returns-clause-shown : goal.returns-clause-shown
 returns-clause-shown g c =
-    let held : length c.args.inbox.now ≤ ROOM = omega (arith, c.len-waiting.ensures.count, c.len-waiting.ensures.most) in
+    let held : length c.args.inbox.now ≤ STAGE_CAPACITY = omega (arith, c.len-waiting.ensures.count, c.len-waiting.ensures.most) in
     rw (← c.receipt.view_is) (λ x taken shows takes.
     shown_of g.K.Channel.rules _ _ _ _ x taken (rw (← c.receipt.view_is) at c.requires) (looked g c) held shows takes)

@@ -1,4 +1,4 @@
-use Rattle.tl_ring.proofs.Names.{◌≤◌, length, ap, arith, ROOM}
+use Rattle.tl_ring.proofs.Names.{◌≤◌, length, ap, arith, STAGE_CAPACITY}
 use Rattle.tl_ring.proofs.Fronts.{front_pushed, most_pushed, least_pushed}
 use Rattle.tl_ring.proofs.halves.push_queue.Goals as goal
 
@@ -19,7 +19,7 @@ returns g c =
     let p = c.push_partial_slice in
     let parts = rw c.as_slice.ensures.value at p.ensures.parts in
     let most = most_pushed p.result.0.now p.result.1.now c.args.queue.now parts in
-    let fits : length p.result.0.now ≤ ROOM = omega (arith, most, ap length c.as_slice.ensures.value, c.as_slice.ensures.within) in
+    let fits : length p.result.0.now ≤ STAGE_CAPACITY = omega (arith, most, ap length c.as_slice.ensures.value, c.as_slice.ensures.within) in
     record {
       least = least_pushed p.result.0.now p.result.1.now c.args.queue.now _ _ parts p.ensures.known p.ensures.most;
       most = (most, fits);

@@ -1,4 +1,4 @@
-use Rattle.tl_ring.proofs.Names.{◌≤◌, ◌≡◌, ◌++◌, ◌-◌, ℕ, length, take, rules, ap, sym, ◌∙◌, arith, length-take, All-append, IsLawfulBeat, ROOM}
+use Rattle.tl_ring.proofs.Names.{◌≤◌, ◌≡◌, ◌++◌, ◌-◌, ℕ, length, take, ap, sym, ◌∙◌, arith, length-take, All-append, IsLawfulBeat, STAGE_CAPACITY}
 use Rattle.std.proofs.lemmas.List.{length-take-le}
 use Rattle.tl_ring.specs.Ends.{taking_of}
 use Rattle.tl_ring.proofs.EndSteps.{fetched_of, takes_fetched, least_moved}
@@ -6,7 +6,7 @@ use Rattle.tl_ring.proofs.Fronts.{all_allowed, all_front, front_of, front_size}
 use denote.Memory.{lone}
 use denote.Param.{layout, param, number, copied}
 use Rattle.tl_ring.specs.contracts.inbox.Inbox as inbox
-use Rattle.tl_ring.specs.contracts.halves.Intake as intake
+use Rattle.tl_ring.specs.contracts.halves.RingReader as intake
 use Rattle.tl_ring.proofs.FieldSizes.{part_small, beat_in_queue}
 use Rattle.tl_ring.proofs.halves.receive.Goals as goal
 
@@ -20,18 +20,11 @@ whole_as_front-pop_partial_slice g c = (
       g.K.Head.Clone g.K.Head.Eq g.K.Head.PartialEq g.K.Head.Default g.A.Allocator)) 1 9223372036854775808 c.requires-raw.1.1.1.1.0),
 )
 
-pub pop_partial_slice-count-requires : goal.pop_partial_slice-count-requires
-pop_partial_slice-count-requires g c =
-    let beat = beat_in_queue (lone g.row.K-Head.mir) (layout g.row.K-Head) g.row.V 9223372036854775808
-    (part_small (layout (inbox.the_row (param 0 g.row.K) (param 1 (number g.row.V)) (copied 2 g.row.K-Head) g.K.Channel g.K.Head.PartialEq
-    g.K.Head.Default)) 0 9223372036854775808 c.requires-raw.1.1.1.1.1) in
-    λ κs within. ((beat, (omega arith, (beat, tt))), (search rules, (search rules, search rules)))
-
 pub shared_whole_as_front-append : goal.shared_whole_as_front-append
 shared_whole_as_front-append g c =
     let p = c.pop_partial_slice-count in
     let inside : p.result ≤ length p.new.slice = omega (arith, p.auto.slice, p.ensures.received.0) in
-    let size = p.auto.slice ∙ length-take-le (ROOM - c.len-room.result) _ (omega arith) in (
+    let size = p.auto.slice ∙ length-take-le (STAGE_CAPACITY - c.len-room.result) _ (omega arith) in (
       omega (arith, inside, size),
       (part_small (layout (intake.the_row (param 0 g.row.K) (param 1 (number g.row.V)) (param 2 g.row.A) (copied 3 g.row.K-Head) g.K.Channel
           g.K.Head.Clone g.K.Head.Eq g.K.Head.PartialEq g.K.Head.Default g.A.Allocator)) 1 9223372036854775808 c.requires-raw.1.1.1.1.0),
@@ -51,7 +44,7 @@ append-requires g c =
     let p = c.pop_partial_slice-count in
     let held : c.len-room.result ≡ length c.inbox.inside.queue = c.len-room.ensures.count ∙ ap length (sym c.inbox.view_is) in
     let inside : p.result ≤ length p.new.slice = omega (arith, p.auto.slice, p.ensures.received.0) in
-    let size = p.auto.slice ∙ length-take-le (ROOM - c.len-room.result) _ (omega arith) in (
+    let size = p.auto.slice ∙ length-take-le (STAGE_CAPACITY - c.len-room.result) _ (omega arith) in (
       part_small (layout (inbox.the_row (param 0 g.row.K) (param 1 (number g.row.V)) (copied 2 g.row.K-Head) g.K.Channel g.K.Head.PartialEq
           g.K.Head.Default)) 0 9223372036854775808 c.requires-raw.1.1.1.1.1,
       simp length-take (omega (arith, inside, size, held, c.len-room.ensures.most)),
@@ -69,7 +62,7 @@ invariant_of-inbox g c =
 pub returns : goal.returns
 returns g c =
     let p = c.pop_partial_slice-count in
-    let room : ℕ = ROOM - c.len-room.result in
+    let room : ℕ = STAGE_CAPACITY - c.len-room.result in
     let inside : p.result ≤ length p.new.slice = omega (arith, p.auto.slice, p.ensures.received.0) in
     let whole = length-take-le room c.args.intake.now.passing (omega arith) in
     let size = p.auto.slice ∙ whole in

@@ -1,4 +1,4 @@
-use Rattle.tl_ring.proofs.Names.{◌≤◌, ◌∙◌, length, arith, ROOM}
+use Rattle.tl_ring.proofs.Names.{◌≤◌, ◌∙◌, length, arith, STAGE_CAPACITY}
 use Rattle.tl_ring.specs.Ends.{sending_of, taking_of}
 use Rattle.tl_ring.proofs.EndSteps.{meeting_of}
 use denote.Memory.{lone}
@@ -35,7 +35,7 @@ returns g c =
     let pair = rw (← c.send.view_is, ← c.take.view_is) at c.requires in
     let s = sending_of c.send.inside.outbox c.send.inside.producer in
     let t = taking_of c.take.inside.inbox c.take.inside.intake.half in
-    let held : length c.take.inside.inbox ≤ ROOM = omega (arith, stand.inbox, stand.most) in
+    let held : length c.take.inside.inbox ≤ STAGE_CAPACITY = omega (arith, stand.inbox, stand.most) in
     let meeting = meeting_of g.K.Channel.rules s t seen.new.producer seen.new.consumer seen.result pair seen.ensures.producer seen.ensures.consumer
     seen.ensures.count seen.ensures.fifo seen.ensures.places held in
     rw (← c.send.view_is, ← c.take.view_is) (record {

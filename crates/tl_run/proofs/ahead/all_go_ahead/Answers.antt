@@ -8,11 +8,11 @@ go_ahead-b-requires-room-S-Offers g c κs = bridge_small g.row.C g.row.M c.requi
 pub go_ahead-b-requires-room-S-Offers-2 : goal.go_ahead-b-requires-room-S-Offers-2
 go_ahead-b-requires-room-S-Offers-2 g c κs = beat_small g.row.M c.requires.0.manager
 
-pub go_ahead-b-requires-room-S-PassesOn : goal.go_ahead-b-requires-room-S-PassesOn
-go_ahead-b-requires-room-S-PassesOn g c κs = bridge_small g.row.C g.row.M c.requires.0.client c.requires.0.manager
+pub go_ahead-b-requires-room-S-Forward : goal.go_ahead-b-requires-room-S-Forward
+go_ahead-b-requires-room-S-Forward g c κs = bridge_small g.row.C g.row.M c.requires.0.client c.requires.0.manager
 
-pub go_ahead-b-requires-room-S-PassesOn-2 : goal.go_ahead-b-requires-room-S-PassesOn-2
-go_ahead-b-requires-room-S-PassesOn-2 g c κs = beat_small g.row.M c.requires.0.manager
+pub go_ahead-b-requires-room-S-Forward-2 : goal.go_ahead-b-requires-room-S-Forward-2
+go_ahead-b-requires-room-S-Forward-2 g c κs = beat_small g.row.M c.requires.0.manager
 
 pub go_ahead-c-requires-room-S-Offers : goal.go_ahead-c-requires-room-S-Offers
 go_ahead-c-requires-room-S-Offers g c κs = bridge_small g.row.C g.row.M c.requires.0.client c.requires.0.manager
@@ -20,11 +20,11 @@ go_ahead-c-requires-room-S-Offers g c κs = bridge_small g.row.C g.row.M c.requi
 pub go_ahead-c-requires-room-S-Offers-2 : goal.go_ahead-c-requires-room-S-Offers-2
 go_ahead-c-requires-room-S-Offers-2 g c κs = beat_small g.row.C c.requires.0.client
 
-pub go_ahead-c-requires-room-S-PassesOn : goal.go_ahead-c-requires-room-S-PassesOn
-go_ahead-c-requires-room-S-PassesOn g c κs = bridge_small g.row.C g.row.M c.requires.0.client c.requires.0.manager
+pub go_ahead-c-requires-room-S-Forward : goal.go_ahead-c-requires-room-S-Forward
+go_ahead-c-requires-room-S-Forward g c κs = bridge_small g.row.C g.row.M c.requires.0.client c.requires.0.manager
 
-pub go_ahead-c-requires-room-S-PassesOn-2 : goal.go_ahead-c-requires-room-S-PassesOn-2
-go_ahead-c-requires-room-S-PassesOn-2 g c κs = beat_small g.row.C c.requires.0.client
+pub go_ahead-c-requires-room-S-Forward-2 : goal.go_ahead-c-requires-room-S-Forward-2
+go_ahead-c-requires-room-S-Forward-2 g c κs = beat_small g.row.C c.requires.0.client
 
 pub go_ahead-e-requires-room-S-Offers : goal.go_ahead-e-requires-room-S-Offers
 go_ahead-e-requires-room-S-Offers g c κs = bridge_small g.row.C g.row.M c.requires.0.client c.requires.0.manager
@@ -32,11 +32,11 @@ go_ahead-e-requires-room-S-Offers g c κs = bridge_small g.row.C g.row.M c.requi
 pub go_ahead-e-requires-room-S-Offers-2 : goal.go_ahead-e-requires-room-S-Offers-2
 go_ahead-e-requires-room-S-Offers-2 g c κs = beat_small g.row.C c.requires.0.client
 
-pub go_ahead-e-requires-room-S-PassesOn : goal.go_ahead-e-requires-room-S-PassesOn
-go_ahead-e-requires-room-S-PassesOn g c κs = bridge_small g.row.C g.row.M c.requires.0.client c.requires.0.manager
+pub go_ahead-e-requires-room-S-Forward : goal.go_ahead-e-requires-room-S-Forward
+go_ahead-e-requires-room-S-Forward g c κs = bridge_small g.row.C g.row.M c.requires.0.client c.requires.0.manager
 
-pub go_ahead-e-requires-room-S-PassesOn-2 : goal.go_ahead-e-requires-room-S-PassesOn-2
-go_ahead-e-requires-room-S-PassesOn-2 g c κs = beat_small g.row.C c.requires.0.client
+pub go_ahead-e-requires-room-S-Forward-2 : goal.go_ahead-e-requires-room-S-Forward-2
+go_ahead-e-requires-room-S-Forward-2 g c κs = beat_small g.row.C c.requires.0.client
 
 pub go_ahead-a-requires-room-S-Offers : goal.go_ahead-a-requires-room-S-Offers
 go_ahead-a-requires-room-S-Offers g c κs = bridge_small g.row.C g.row.M c.requires.0.client c.requires.0.manager
@@ -44,11 +44,11 @@ go_ahead-a-requires-room-S-Offers g c κs = bridge_small g.row.C g.row.M c.requi
 pub go_ahead-a-requires-room-S-Offers-2 : goal.go_ahead-a-requires-room-S-Offers-2
 go_ahead-a-requires-room-S-Offers-2 g c κs = beat_small g.row.C c.requires.0.client
 
-pub go_ahead-a-requires-room-S-PassesOn : goal.go_ahead-a-requires-room-S-PassesOn
-go_ahead-a-requires-room-S-PassesOn g c κs = bridge_small g.row.C g.row.M c.requires.0.client c.requires.0.manager
+pub go_ahead-a-requires-room-S-Forward : goal.go_ahead-a-requires-room-S-Forward
+go_ahead-a-requires-room-S-Forward g c κs = bridge_small g.row.C g.row.M c.requires.0.client c.requires.0.manager
 
-pub go_ahead-a-requires-room-S-PassesOn-2 : goal.go_ahead-a-requires-room-S-PassesOn-2
-go_ahead-a-requires-room-S-PassesOn-2 g c κs = beat_small g.row.C c.requires.0.client
+pub go_ahead-a-requires-room-S-Forward-2 : goal.go_ahead-a-requires-room-S-Forward-2
+go_ahead-a-requires-room-S-Forward-2 g c κs = beat_small g.row.C c.requires.0.client
 
 pub go_ahead-d-requires-room-S-Offers : goal.go_ahead-d-requires-room-S-Offers
 go_ahead-d-requires-room-S-Offers g c κs = bridge_small g.row.C g.row.M c.requires.0.client c.requires.0.manager
@@ -56,19 +56,19 @@ go_ahead-d-requires-room-S-Offers g c κs = bridge_small g.row.C g.row.M c.requi
 pub go_ahead-d-requires-room-S-Offers-2 : goal.go_ahead-d-requires-room-S-Offers-2
 go_ahead-d-requires-room-S-Offers-2 g c κs = beat_small g.row.M c.requires.0.manager
 
-pub go_ahead-d-requires-room-S-PassesOn : goal.go_ahead-d-requires-room-S-PassesOn
-go_ahead-d-requires-room-S-PassesOn g c κs = bridge_small g.row.C g.row.M c.requires.0.client c.requires.0.manager
+pub go_ahead-d-requires-room-S-Forward : goal.go_ahead-d-requires-room-S-Forward
+go_ahead-d-requires-room-S-Forward g c κs = bridge_small g.row.C g.row.M c.requires.0.client c.requires.0.manager
 
-pub go_ahead-d-requires-room-S-PassesOn-2 : goal.go_ahead-d-requires-room-S-PassesOn-2
-go_ahead-d-requires-room-S-PassesOn-2 g c κs = beat_small g.row.M c.requires.0.manager
+pub go_ahead-d-requires-room-S-Forward-2 : goal.go_ahead-d-requires-room-S-Forward-2
+go_ahead-d-requires-room-S-Forward-2 g c κs = beat_small g.row.M c.requires.0.manager
 
 pub returns : goal.returns
 returns g c =
-    let b = gone-b c.args.gone.now.b c.args.held.now.b.items c.args.at.now.b _ _ _ _ c.go_ahead-b.ensures.ahead in
-    let c' = gone-c c.args.gone.now.c c.args.held.now.c.items c.args.at.now.c _ _ _ _ c.go_ahead-c.ensures.ahead in
-    let e = gone-e c.args.gone.now.e c.args.held.now.e.items c.args.at.now.e _ _ _ _ c.go_ahead-e.ensures.ahead in
-    let a = gone-a c.args.gone.now.a c.args.held.now.a.items c.args.at.now.a _ _ _ _ c.go_ahead-a.ensures.ahead in
-    let d = gone-d c.args.gone.now.d c.args.held.now.d.items c.args.at.now.d _ _ _ _ c.go_ahead-d.ensures.ahead in
+    let b = gone-b c.args.discarded.now.b c.args.held.now.b.items c.args.at.now.b _ _ _ _ c.go_ahead-b.ensures.ahead in
+    let c' = gone-c c.args.discarded.now.c c.args.held.now.c.items c.args.at.now.c _ _ _ _ c.go_ahead-c.ensures.ahead in
+    let e = gone-e c.args.discarded.now.e c.args.held.now.e.items c.args.at.now.e _ _ _ _ c.go_ahead-e.ensures.ahead in
+    let a = gone-a c.args.discarded.now.a c.args.held.now.a.items c.args.at.now.a _ _ _ _ c.go_ahead-a.ensures.ahead in
+    let d = gone-d c.args.discarded.now.d c.args.held.now.d.items c.args.at.now.d _ _ _ _ c.go_ahead-d.ensures.ahead in
     record {
       within = record {
         a = c.go_ahead-a.ensures.within;

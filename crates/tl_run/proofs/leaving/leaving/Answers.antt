@@ -12,6 +12,6 @@ returns-clause-past c = elim c.if-past-held.branch [
 
 pub returns-clause-all : goal.returns-clause-all
 returns-clause-all c = elim c.if-past-held.branch [
-  | then-past-held w ↦ going-all _ (c.args.at - c.args.gone.now) c.args.held w.count-is (omega (arith, w.if-past-held.true))
-  | else-past-held w ↦ going-none _ (c.args.at - c.args.gone.now) c.args.held w.count-is (omega (arith, w.if-past-held.false))
+  | then-past-held w ↦ going-all _ (c.args.at - c.args.discarded.now) c.args.held w.count-is (omega (arith, w.if-past-held.true))
+  | else-past-held w ↦ going-none _ (c.args.at - c.args.discarded.now) c.args.held w.count-is (omega (arith, w.if-past-held.false))
 ]

@@ -1,5 +1,7 @@
 use Rattle.tl_run.proofs.Names.{◌+◌, ◌^◌, ◌<◌, ◌≤◌, refl, sym, subst, arith, zero-le, near_beats, beats_of, HasEnded, IsUnderWay}
 use Rattle.tl_run.specs.Scripts.{AreBelow}
+use Rattle.tl_run.specs.InRounds.{TakesRounds}
+use Rattle.tl_run.proofs.TakesRounds.{HasGone, all-stopped, gone-none, gone-on, takes-rounds, suc-is}
 use Rattle.tl_run.proofs.Below.{counted-below, stopped-below}
 use Rattle.tl_run.proofs.Counting.{counts-on, nearer, one-round-more}
 use Rattle.tl_run.proofs.Ended.{progress_here, progress-ends, end-few, ended, further, starts}
@@ -11,6 +13,7 @@ rounds-init g c = record {
   under_way = starts (near_beats c.args.script.now) _ (beats_of c.args.far.now) c.args.bridge.now refl c.requires.3
       c.requires.2;
   room = c.requires.4;
+  exact = λ ring some stands. gone-none (near_beats c.args.script.now) ring _ _ _ refl c.requires.3 some stands;
   each = record { a = omega arith; b = omega arith; c = omega arith; d = omega arith; e = omega arith };
   few = zero-le;
 }
@@ -34,6 +37,14 @@ returns-in-Some-clause-ended g c =
     c.round-offers.new.bridge u.past c.round-offers.result u.stands u.is_at h
     c.rounds.rounds c.rounds.invariant.few c.in-Some.stops c.in-Some.ensures.stops (c.in-Some.ensures.rests h.past h.stands))
 
+pub returns-in-Some-clause-exact : goal.returns-in-Some-clause-exact
+returns-in-Some-clause-exact g c = λ ring some stands.
+    let e = c.rounds.invariant.exact ring some stands in
+    let h = c.round-offers.ensures.round _ e.stands e.is_at in
+    subst (λ k. TakesRounds (near_beats c.args.script.now) ring k) (suc-is c.rounds.rounds)
+    (takes-rounds (near_beats c.args.script.now) ring _ _ _ _ _ _ _ e h
+    (all-stopped c.round-offers.result c.in-Some.stops c.in-Some.ensures.stops) (c.in-Some.ensures.rests h.past h.stands))
+
 pub returns-in-Some-clause-each : goal.returns-in-Some-clause-each
 returns-in-Some-clause-each g c =
     stopped-below c.rounds.at c.round-offers.new.at (c.rounds.rounds + 1) c.round-offers.result c.in-Some.stops c.round-offers.ensures.counted
@@ -51,7 +62,7 @@ onward g c =
     c.round-offers.new.bridge u.past c.round-offers.result u.stands u.is_at h
     (λ stopped rest. c.in_default.ensures.goes h.past h.stands refl stopped rest))
 
--- where the run stands after it
+-- the state of the run after it
 after : (g : Over) (c : goal.In_default g) →
     IsUnderWay (near_beats c.args.script.now) c.round-offers.new.at (beats_of c.round-offers.new.far) c.round-offers.new.bridge
 after g c =
@@ -72,6 +83,12 @@ pub rounds-preserved : goal.rounds-preserved
 rounds-preserved g c = record {
   under_way = after g c;
   room = c.round-offers.ensures.room;
+  exact = λ ring some stands. subst (λ k. HasGone (near_beats c.args.script.now) ring k c.round-offers.new.at
+      (beats_of c.round-offers.new.far) c.round-offers.new.bridge) (suc-is c.rounds.rounds)
+      (let e = c.rounds.invariant.exact ring some stands in
+      let h = c.round-offers.ensures.round _ e.stands e.is_at in
+      gone-on (near_beats c.args.script.now) ring _ _ _ _ _ _ _ e h c.round-offers.new.at c.round-offers.ensures.counted
+      (λ stopped rest. c.in_default.ensures.goes h.past h.stands refl stopped rest));
   each = subst (λ n. AreBelow n (c.rounds.rounds + 1 + 1)) (sym c.round-offers.ensures.counted)
       (counted-below c.rounds.at (c.rounds.rounds + 1) c.round-offers.result c.rounds.invariant.each);
   few = one-round-more _ _ _ c.rounds.invariant.few (onward g c);

@@ -2,6 +2,8 @@ use Rattle.tl_run.proofs.Names.{◌≡◌, false, IsTrue, refl, sym, ap, subst, 
 use Rattle.tl_run.proofs.Names.{after_fetch, joined, CanAdd, added, arriving, inboxes, lengths}
 use Rattle.tl_run.proofs.Ended.{all-standing-is, can-add}
 use Rattle.tl_run.proofs.Round.{inboxes-are, joined-lengths}
+use Rattle.tl_run.proofs.Memory.{fetched-fits}
+use Rattle.tl_run.proofs.OnlyMemory.{not-ok}
 use Rattle.tl_run.proofs.Pieces.{all-nearer, fetched-at, some-way, taken-at}
 use Rattle.tl_run.proofs.streaming.empty.Goals as goal
 
@@ -15,7 +17,7 @@ pub pump-requires : goal.pump-requires
 pump-requires g c = bridge_small g.row.C g.row.M c.requires.0.client c.requires.0.manager
 
 pub moves-init : goal.moves-init
-moves-init g c = record { sound = c.requires.1; on = λ near n few r. r; same = refl }
+moves-init g c = record { sound = c.requires.1; on = λ near n few r. r; memory = λ near n few r has. has; same = refl }
 
 untrue : IsTrue false → ⊥
 untrue e = cc
@@ -60,12 +62,28 @@ moves-preserved g c =
               is_at = taken-at near n r.all c.requires.0.client c.requires.0.manager c.fetch.new.self c.take_from_each.new.bridge x fetched at;
             };
           };
+      memory = λ near n few was has.
+          let r = here.on near n few was in
+          let enough = here.memory near n few was has in
+          let fits = fetched-fits c.requires.0.client c.requires.0.manager g.F.FarSink.Holds near n _ _ c.moves.bridge c.fetch.new.self r
+          (c.fetch.ensures.moved r.under_way.past r.under_way.stands) enough.0 enough.1 in
+          (enough.0, enough.1, (c.in-Ok.ensures.room r.all enough.0 r.holds enough.2 fits).1);
       same = c.in-Ok.ensures.same ∙ here.same;
     }
 
 pub returns-in_default : goal.returns-in_default
 returns-in_default g c =
-    record { rests = tt; on = λ near n few run. tt; same = tt }
+    record {
+      rests = tt;
+      on = λ near n few run. tt;
+      memory = λ near n few was has.
+          let r = c.moves.invariant.on near n few was in
+          let enough = c.moves.invariant.memory near n few was has in
+          let fits = fetched-fits c.requires.0.client c.requires.0.manager g.F.FarSink.Holds near n _ _ c.moves.bridge c.fetch.new.self r
+          (c.fetch.ensures.moved r.under_way.past r.under_way.stands) enough.0 enough.1 in
+          not-ok (c.in_default.ensures.room r.all enough.0 r.holds enough.2 fits).0;
+      same = tt;
+    }
 
 pub returns : goal.returns
 returns g c =
@@ -80,5 +98,6 @@ returns g c =
             ∙ c.moves-test.ensures.0 refl;
       };
       on = here.on;
+      memory = λ near n few was has. (refl, here.memory near n few was has);
       same = here.same;
     }

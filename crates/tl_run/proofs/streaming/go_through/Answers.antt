@@ -1,16 +1,18 @@
 use Rattle.tl_run.proofs.Names.{lit<, refl, sym, subst, ◌∙◌, bridge_small, AreEnd, ArePart, AllRest, IsAt}
 use Rattle.tl_run.proofs.Counting.{nearer}
 use Rattle.tl_run.proofs.Parts.{are-part}
+use Rattle.tl_run.proofs.Memory.{passed-on}
+use Rattle.tl_run.proofs.OnlyMemory.{not-ok}
 use Rattle.tl_run.proofs.Pieces.{all-on, all-same, all-within, rests-too, room-to-count}
 use Rattle.tl_run.proofs.Stuck.{all-rest, all-stuck}
 use Rattle.tl_run.specs.Stopping.{AreStuck}
 use Rattle.tl_run.proofs.streaming.go_through.Goals as goal
 
 pub turns-init : goal.turns-init
-turns-init g c = record { can = c.requires.1; gone = refl; on = λ near part was. was; same = refl }
+turns-init g c = record { can = c.requires.1; discarded = refl; on = λ near part was. was; memory = λ near part was has. has; same = refl }
 
 pub total-before-requires : goal.total-before-requires
-total-before-requires g c = room-to-count c.turns.run.gone c.turns.run.at c.args.held.now c.turns.invariant.can.within
+total-before-requires g c = room-to-count c.turns.run.discarded c.turns.run.at c.args.held.now c.turns.invariant.can.within
 
 pub all_go_ahead-stopped_by-requires : goal.all_go_ahead-stopped_by-requires
 all_go_ahead-stopped_by-requires g c = (
@@ -38,20 +40,18 @@ turns-preserved g c =
     let turn = c.all_go_ahead-stopped_by.ensures in
     record {
       can = record { within = turn.within; rests = c.in-Ok.ensures.rests };
-      gone = here.gone;
+      discarded = here.discarded;
       on = λ near part was.
           let r = here.on near part was in
-          let passed = turn.passes r.under_way.past r.under_way.stands in
-          c.in-Ok.ensures.on near c.all_go_ahead-stopped_by.new.at (room-to-count _ _ c.args.held.now turn.within) (record {
-            all = r.all;
-            holds = r.holds;
-            counts = r.counts;
-            under_way = record {
-              past = passed.past;
-              stands = passed.stands;
-              is_at = passed.is_at near r.all (subst (λ q. ArePart q c.args.held.now near) (sym here.gone) part) r.under_way.is_at;
-            };
-          });
+          c.in-Ok.ensures.on near c.all_go_ahead-stopped_by.new.at (room-to-count _ _ c.args.held.now turn.within)
+          (passed-on _ near _ c.args.held.now _ _ _ _ _ _
+          (subst (λ q. ArePart q c.args.held.now near) (sym here.discarded) part) r (turn.passes r.under_way.past r.under_way.stands));
+      memory = λ near part was has.
+          let r = here.on near part was in
+          (c.in-Ok.ensures.memory near c.all_go_ahead-stopped_by.new.at (room-to-count _ _ c.args.held.now turn.within)
+          (passed-on _ near _ c.args.held.now _ _ _ _ _ _
+          (subst (λ q. ArePart q c.args.held.now near) (sym here.discarded) part) r (turn.passes r.under_way.past r.under_way.stands))
+          (here.memory near part was has)).1;
       same = c.in-Ok.ensures.same ∙ here.same;
     }
 
@@ -66,22 +66,14 @@ returns-then-total-before g c =
         within = turn.within;
         rests = record { past = rests.past; stands = turn.stays same rests.past rests.stands; rest = rests.rest };
       };
-      gone = here.gone;
+      discarded = here.discarded;
       on = λ near part was.
           let r = here.on near part was in
-          let passed = turn.passes r.under_way.past r.under_way.stands in
-          record {
-            all = r.all;
-            holds = r.holds;
-            counts = r.counts;
-            under_way = record {
-              past = passed.past;
-              stands = passed.stands;
-              is_at = passed.is_at near r.all (subst (λ q. ArePart q c.args.held.now near) (sym here.gone) part) r.under_way.is_at;
-            };
-          };
+          passed-on _ near _ c.args.held.now _ _ _ _ _ _
+          (subst (λ q. ArePart q c.args.held.now near) (sym here.discarded) part) r (turn.passes r.under_way.past r.under_way.stands);
+      memory = λ near part was has. (refl, here.memory near part was has);
       stopped = λ near end was.
-          let r = here.on near (are-part c.args.run.now.gone c.args.held.now near end) was in
+          let r = here.on near (are-part c.args.run.now.discarded c.args.held.now near end) was in
           let u = r.under_way in
           record {
             all = r.all;
@@ -93,15 +85,15 @@ returns-then-total-before g c =
             at_rest = rests-too c.turns.run.bridge rests.past u.past rests.stands u.stands rests.rest;
             rests = subst (λ n. AllRest near n u.past c.all_go_ahead-stopped_by.result) (sym same)
                 (all-rest _ _ c.args.held.now here.can.within near u.past _ (turn.rests same u.past u.stands)
-                (subst (λ q. AreEnd q c.args.held.now near) (sym here.gone) end));
+                (subst (λ q. AreEnd q c.args.held.now near) (sym here.discarded) end));
           };
       stuck = λ near part was.
           let r = here.on near part was in
           let u = r.under_way in
-          subst (λ q. AreStuck near q c.all_go_ahead-stopped_by.new.at c.args.held.now) here.gone
-          (subst (λ n. AreStuck near c.turns.run.gone n c.args.held.now) (sym same)
+          subst (λ q. AreStuck near q c.all_go_ahead-stopped_by.new.at c.args.held.now) here.discarded
+          (subst (λ n. AreStuck near c.turns.run.discarded n c.args.held.now) (sym same)
           (all-stuck _ _ c.args.held.now here.can.within near u.past _ (turn.rests same u.past u.stands) c.requires.0.client c.requires.0.manager
-          (subst (λ q. ArePart q c.args.held.now near) (sym here.gone) part) r.all c.turns.run.bridge u.stands u.is_at
+          (subst (λ q. ArePart q c.args.held.now near) (sym here.discarded) part) r.all c.turns.run.bridge u.stands u.is_at
           (rests-too c.turns.run.bridge rests.past u.past rests.stands u.stands rests.rest)));
       same = here.same;
     }
@@ -110,8 +102,16 @@ pub returns-in_default : goal.returns-in_default
 returns-in_default g c =
     record {
       can = tt;
-      gone = c.turns.invariant.gone;
+      discarded = c.turns.invariant.discarded;
       on = λ near part was. tt;
+      memory = λ near part was has.
+          let here = c.turns.invariant in
+          let turn = c.all_go_ahead-stopped_by.ensures in
+          let r = here.on near part was in
+          not-ok (c.in_default.ensures.memory near c.all_go_ahead-stopped_by.new.at (room-to-count _ _ c.args.held.now turn.within)
+          (passed-on _ near _ c.args.held.now _ _ _ _ _ _
+          (subst (λ q. ArePart q c.args.held.now near) (sym here.discarded) part) r (turn.passes r.under_way.past r.under_way.stands))
+          (here.memory near part was has)).0;
       stopped = λ near end was. tt;
       stuck = λ near part was. tt;
       same = tt;

@@ -22,8 +22,14 @@ run_rounds-end-requires g c = (
   ),
 )
 
-pub let_go-requires : goal.let_go-requires
-let_go-requires g c = bridge_small g.row.C g.row.M c.requires.0.client c.requires.0.manager
+pub discard-requires : goal.discard-requires
+discard-requires g c = bridge_small g.row.C g.row.M c.requires.0.client c.requires.0.manager
 
 pub returns : goal.returns
-returns g c = record { ended = (c.run_rounds-end.new.bridge, c.run_rounds-end.ensures.ended); each = c.run_rounds-end.ensures.each; size = λ _. c.in-Ok.ensures.size refl; memory = tt }
+returns g c = record {
+  ended = (c.run_rounds-end.new.bridge, c.run_rounds-end.ensures.ended);
+  each = c.run_rounds-end.ensures.each;
+  exact = c.run_rounds-end.ensures.exact c.args.ring (c.in-Ok.ensures.size refl).0 c.in-Ok.ensures.new;
+  size = λ _. c.in-Ok.ensures.size refl;
+  memory = tt;
+}

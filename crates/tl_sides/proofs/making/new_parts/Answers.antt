@@ -19,52 +19,52 @@ new_ring-requires-4 g c κs = λ within. within
 pub new_ring-requires-5 : goal.new_ring-requires-5
 new_ring-requires-5 g c κs = λ within. within
 
-pub let_go-requires : goal.let_go-requires
-let_go-requires g c κs within = within
+pub discard-requires : goal.discard-requires
+discard-requires g c κs within = within
 
-pub let_go-requires-in-Err-new_ring-2 : goal.let_go-requires-in-Err-new_ring-2
-let_go-requires-in-Err-new_ring-2 g c κs within = within
+pub discard-requires-in-Err-new_ring-2 : goal.discard-requires-in-Err-new_ring-2
+discard-requires-in-Err-new_ring-2 g c κs within = within
 
-pub let_go-requires-in-Err-new_ring-2-2 : goal.let_go-requires-in-Err-new_ring-2-2
-let_go-requires-in-Err-new_ring-2-2 g c κs within = within
+pub discard-requires-in-Err-new_ring-2-2 : goal.discard-requires-in-Err-new_ring-2-2
+discard-requires-in-Err-new_ring-2-2 g c κs within = within
 
-pub let_go-requires-in-Err-new_ring-3 : goal.let_go-requires-in-Err-new_ring-3
-let_go-requires-in-Err-new_ring-3 g c κs within = within
+pub discard-requires-in-Err-new_ring-3 : goal.discard-requires-in-Err-new_ring-3
+discard-requires-in-Err-new_ring-3 g c κs within = within
 
-pub let_go-requires-in-Err-new_ring-3-2 : goal.let_go-requires-in-Err-new_ring-3-2
-let_go-requires-in-Err-new_ring-3-2 g c κs within = within
+pub discard-requires-in-Err-new_ring-3-2 : goal.discard-requires-in-Err-new_ring-3-2
+discard-requires-in-Err-new_ring-3-2 g c κs within = within
 
-pub let_go-requires-in-Err-new_ring-3-3 : goal.let_go-requires-in-Err-new_ring-3-3
-let_go-requires-in-Err-new_ring-3-3 g c κs within = within
+pub discard-requires-in-Err-new_ring-3-3 : goal.discard-requires-in-Err-new_ring-3-3
+discard-requires-in-Err-new_ring-3-3 g c κs within = within
 
-pub let_go-requires-in-Err-new_ring-4 : goal.let_go-requires-in-Err-new_ring-4
-let_go-requires-in-Err-new_ring-4 g c κs within = within
+pub discard-requires-in-Err-new_ring-4 : goal.discard-requires-in-Err-new_ring-4
+discard-requires-in-Err-new_ring-4 g c κs within = within
 
-pub let_go-requires-in-Err-new_ring-4-2 : goal.let_go-requires-in-Err-new_ring-4-2
-let_go-requires-in-Err-new_ring-4-2 g c κs within = within
+pub discard-requires-in-Err-new_ring-4-2 : goal.discard-requires-in-Err-new_ring-4-2
+discard-requires-in-Err-new_ring-4-2 g c κs within = within
 
-pub let_go-requires-in-Err-new_ring-4-3 : goal.let_go-requires-in-Err-new_ring-4-3
-let_go-requires-in-Err-new_ring-4-3 g c κs within = within
+pub discard-requires-in-Err-new_ring-4-3 : goal.discard-requires-in-Err-new_ring-4-3
+discard-requires-in-Err-new_ring-4-3 g c κs within = within
 
-pub let_go-requires-in-Err-new_ring-4-4 : goal.let_go-requires-in-Err-new_ring-4-4
-let_go-requires-in-Err-new_ring-4-4 g c κs within = within
+pub discard-requires-in-Err-new_ring-4-4 : goal.discard-requires-in-Err-new_ring-4-4
+discard-requires-in-Err-new_ring-4-4 g c κs within = within
 
-pub let_go-requires-in_default : goal.let_go-requires-in_default
-let_go-requires-in_default g c κs within = within
+pub discard-requires-in_default : goal.discard-requires-in_default
+discard-requires-in_default g c κs within = within
 
-pub let_go-requires-in_default-2 : goal.let_go-requires-in_default-2
-let_go-requires-in_default-2 g c κs within = within
+pub discard-requires-in_default-2 : goal.discard-requires-in_default-2
+discard-requires-in_default-2 g c κs within = within
 
-pub let_go-requires-in_default-3 : goal.let_go-requires-in_default-3
-let_go-requires-in_default-3 g c κs within = within
+pub discard-requires-in_default-3 : goal.discard-requires-in_default-3
+discard-requires-in_default-3 g c κs within = within
 
-pub let_go-requires-in_default-4 : goal.let_go-requires-in_default-4
-let_go-requires-in_default-4 g c κs within = within
+pub discard-requires-in_default-4 : goal.discard-requires-in_default-4
+discard-requires-in_default-4 g c κs within = within
 
-pub let_go-requires-in_default-5 : goal.let_go-requires-in_default-5
-let_go-requires-in_default-5 g c κs within = within
+pub discard-requires-in_default-5 : goal.discard-requires-in_default-5
+discard-requires-in_default-5 g c κs within = within
 
--- where a ring is not made, only the fault says something
+-- if a ring is not made, only the fault has content
 pub returns-in-Err : goal.returns-in-Err
 returns-in-Err g c = record {
   new = tt;

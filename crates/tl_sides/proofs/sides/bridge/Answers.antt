@@ -10,7 +10,7 @@ new_parts-requires g c =
     let manager = manager_side_layout g.row.C g.row.M g.row.A g.A.Allocator in
     (inner_small client 0 5 9223372036854775808 c.requires-raw.1.1.1.0, inner_small manager 0 5 9223372036854775808 c.requires-raw.1.1.1.1.0)
 
--- rings are made, and let go, whose beats fit memory
+-- rings are made and discarded whose beats fit in memory
 pub new_parts-requires-room-RingA-NewRing : goal.new_parts-requires-room-RingA-NewRing
 new_parts-requires-room-RingA-NewRing g c κs within = beat_small g.row.M c.requires.manager
 
@@ -36,7 +36,7 @@ sides_over-requires g c =
     let manager_book = inner_small (manager_side_layout g.row.C g.row.M g.row.A g.A.Allocator) 0 5 9223372036854775808 manager in
     (far, (lit< tt, (near, (lit< tt, (far, (lit< tt, (near, (lit< tt, (far, (lit< tt, (client_book, (manager_book, (client, manager)))))))))))))
 
--- where nothing is made, only the fault says something
+-- if nothing is made, only the fault has content
 pub returns-in-Err : goal.returns-in-Err
 returns-in-Err g c = record {
   pair = tt;

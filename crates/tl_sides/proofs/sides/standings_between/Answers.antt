@@ -1,7 +1,7 @@
 use Rattle.std.proofs.Common.{◌≡◌, ◌≤◌, ℕ, List, length}
 use Rattle.tl_ring.specs.declared.standing.Standing.{Standing}
 use Rattle.tl_sides.specs.Inner.Meeting.{AreCounted}
-use Rattle.tl_sides.specs.Words.{BeatOf, Outgoing, ROOM}
+use Rattle.tl_sides.specs.Words.{BeatOf, Outgoing, STAGE_CAPACITY}
 use Rattle.tl_sides.proofs.Layouts.{client_layout, manager_layout, part_small}
 use Rattle.tl_sides.proofs.sides.standings_between.Goals as goal
 
@@ -37,7 +37,7 @@ between-requires-5 g c = (
 
 -- an outbox and an inbox that were counted, and what is known between them
 counts : {H : Type 0} {v : ℕ} {o : Outgoing H v} {come : List (BeatOf H v)} {known : ℕ} {s : Standing} → s.staged ≡ length o.stage →
-    s.in_ring ≡ known → s.inbox ≡ length come → (s.staged ≤ ROOM) × (s.inbox ≤ ROOM) → AreCounted o known come s
+    s.in_ring ≡ known → s.inbox ≡ length come → (s.staged ≤ STAGE_CAPACITY) × (s.inbox ≤ STAGE_CAPACITY) → AreCounted o known come s
 counts out between come most = record { staged = out; in_ring = between; inbox = come; most = most }
 
 pub returns : goal.returns

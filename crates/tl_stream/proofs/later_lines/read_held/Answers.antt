@@ -13,14 +13,14 @@ advance-requires g c =
     inside_held c.args.input.now c.held.result.now c.in-Ok.used c.held.ensures c.requires.from c.requires.to c.in-Ok.ensures.used
 
 pub returns-in-Err : goal.returns-in-Err
-returns-in-Err g c = λ unread left gone b.
+returns-in-Err g c = λ unread left discarded b.
     let input = c.args.input.now in
     let fault = c.in-Err.fault in
     subst (IsRefused unread left input) (sym c.from.ensures)
     (any_refused unread left b.used input fault b.taken (λ other.
     of_text (λ text. IsFirstFault text fault.line fault.kind) unread left (b.used ++ held input) b.taken.took (λ more.
     subst (λ bytes. IsFirstFault (b.used ++ bytes ++ more) fault.line fault.kind) c.held.ensures
-    (c.in-Err.ensures.fault b.used more gone b.read other))))
+    (c.in-Err.ensures.fault b.used more discarded b.read other))))
 
 pub returns-then-is_full : goal.returns-then-is_full
 returns-then-is_full g c =
@@ -32,7 +32,7 @@ returns-then-is_full g c =
     c.held.ensures r.version r.told true (r.grown refl) r.rest (sym c.if-is_full.true ∙ c.is_full.ensures) (λ e. absurd (false≢true (sym e)))
 
 pub returns-in-Some : goal.returns-in-Some
-returns-in-Some g c = λ unread left gone before.
+returns-in-Some g c = λ unread left discarded before.
     let input = c.args.input.now in
     let input' = c.advance.new.self in
     let e = c.advance.ensures in
@@ -40,9 +40,9 @@ returns-in-Some g c = λ unread left gone before.
     let fault = c.in-Some.fault in
     let inside = inside_held input c.held.result.now c.in-Ok.used c.held.ensures c.requires.from c.requires.to r.used in
     let b = between_read input input' c.in-Ok.used e.from e.to e.buffer e.total inside c.args.lines.now c.read.new.self c.held.result.now
-    c.held.ensures r.version r.told unread left gone before in
+    c.held.ensures r.version r.told unread left discarded before in
     let first : IsFirstFault (b.used ++ held input') fault.line fault.kind =
-    subst (λ bytes. IsFirstFault (b.used ++ bytes) fault.line fault.kind) c.held-2.ensures (c.in-Some.ensures.fault b.used gone b.read) in
+    subst (λ bytes. IsFirstFault (b.used ++ bytes) fault.line fault.kind) c.held-2.ensures (c.in-Some.ensures.fault b.used discarded b.read) in
     let not_full : input'.to ≢ length input'.buffer.items = unlike _ _ (sym c.is_full.ensures ∙ c.if-is_full.false) in
     subst (IsRefused unread left input') (sym c.from-in-Some.ensures)
     (any_refused unread left b.used input' fault b.taken (λ other.

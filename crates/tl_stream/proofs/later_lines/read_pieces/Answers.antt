@@ -19,7 +19,7 @@ returns-in-Ok-false g c =
     read-through (behind c.pieces.invariant.0 c.in-Ok-false.ensures.read) c.in-Ok-false.ensures.read c.in-Ok-false.field-0-test
 
 pub returns-in-Err-read_on : goal.returns-in-Err-read_on
-returns-in-Err-read_on g c = c.in-Err-read_on.ensures.read _ _ c.pieces.invariant.0.gone c.pieces.invariant.0.between
+returns-in-Err-read_on g c = c.in-Err-read_on.ensures.read _ _ c.pieces.invariant.0.discarded c.pieces.invariant.0.between
 
 pub returns-in-Err-hear : goal.returns-in-Err-hear
 returns-in-Err-hear g c = tt
@@ -43,10 +43,10 @@ pieces-smaller g c =
 pub pieces-preserved : goal.pieces-preserved
 pieces-preserved g c =
     let b = behind c.pieces.invariant.0 c.in-Ok-true.ensures.read in
-    let went = c.let_go.ensures in
-    goes-on g.L.Listener.Listens _ _ _ c.let_go.new.self c.refill.new.self c.hear.new.self (beginning_widths g.L.Listener.Listens c.requires)
-    (heard b c.let_go.new.self c.refill.new.self c.hear.new.self c.in-Ok.counts went.version went.told
-    (λ more grown few. c.in-Ok.ensures.on c.args.lines.now.version b.gone b.listens c.let_go.new.self.script more went.left grown few)
+    let went = c.remove_front.ensures in
+    goes-on g.L.Listener.Listens _ _ _ c.remove_front.new.self c.refill.new.self c.hear.new.self (beginning_widths g.L.Listener.Listens c.requires)
+    (heard b c.remove_front.new.self c.refill.new.self c.hear.new.self c.in-Ok.counts went.version went.told
+    (λ more grown few. c.in-Ok.ensures.on c.args.lines.now.version b.discarded b.listens c.remove_front.new.self.script more went.left grown few)
     (c.in_default-refill.ensures.ok _ b.between.used b.between.taken))
 
 pub refill-requires : goal.refill-requires

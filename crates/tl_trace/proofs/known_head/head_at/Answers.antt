@@ -2,19 +2,19 @@ use Rattle.tl_trace.proofs.Names.{arith}
 use Rattle.tl_trace.proofs.KnownHeads.{known_of, same_head, read_head}
 use Rattle.tl_trace.proofs.known_head.head_at.Goals as goal
 
-pub goes_on_as-requires : goal.goes_on_as-requires
-goes_on_as-requires g c =
+pub repeats_at-requires : goal.repeats_at-requires
+repeats_at-requires g c =
     let known =
     known_of (g.K.HeadText.form g.row.VERSION) g.row.VERSION c.args.text.now c.args.last.now c.in-Some.before c.in-Some.is c.requires.known in
     (omega (arith, c.requires.room), omega (arith, known.within, c.head_end-len.ensures.end))
 
-pub returns-then-goes_on_as : goal.returns-then-goes_on_as
-returns-then-goes_on_as g c =
+pub returns-then-repeats_at : goal.returns-then-repeats_at
+returns-then-repeats_at g c =
     let f = g.K.HeadText.form g.row.VERSION in
     let known = known_of f g.row.VERSION c.args.text.now c.args.last.now c.in-Some.before c.in-Some.is c.requires.known in
     record {
       head = same_head f g.row.VERSION c.args.text.now c.args.at c.head_end-len.result c.in-Some.before c.head_end-len.ensures.end
-          (c.goes_on_as.ensures c.if-goes_on_as.true).same known;
+          (c.repeats_at.ensures c.if-repeats_at.true).same known;
       known = known;
     }
 

@@ -34,7 +34,7 @@ returns-then-is_err c =
     let h = c.args.header in
     let line : LineAt c.args.text.now c.loop-at.at c.line_end-end.result = record { from = e.from; to = e.to; free = e.free; stop = e.end } in
     let lt : c.line_end-end.result < length c.args.text.now = omega (arith, e.to, c.if-end-text.false) in
-    -- a want of memory is no fault of the text
+    -- out of memory is not a fault of the text
     (
       λ other. absurd (other refl),
       λ _. unstored c.args.text.now c.args.start h.version h.client h.manager c.loop-at.lines.items c.loop-at.at

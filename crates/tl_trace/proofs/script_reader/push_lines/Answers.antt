@@ -15,8 +15,8 @@ returns-in_default-push_line g c = record {
   known = c.in-Some.ensures.known;
 }
 
-pub returns-then-not-goes_on_as : goal.returns-then-not-goes_on_as
-returns-then-not-goes_on_as g c = record {
+pub returns-then-not-repeats_at : goal.returns-then-not-repeats_at
+returns-then-not-repeats_at g c = record {
   pushed = one_more_line (g.K.HeadText.form g.row.VERSION) g.row.W c.args.text.now c.args.at c.args.list.now c.lines.list c.push_line.new.list
       c.lines.lines.count c.lines.lines.place c.in-Some-push_line.end c.lines.invariant.0 c.in-Some-push_line.ensures;
   known = c.in-Some.ensures.known;
@@ -27,7 +27,7 @@ lines-preserved g c = (
   one_more_line (g.K.HeadText.form g.row.VERSION) g.row.W c.args.text.now c.args.at c.args.list.now c.lines.list c.push_line.new.list
       c.lines.lines.count c.lines.lines.place c.in-Some-push_line.end c.lines.invariant.0 c.in-Some-push_line.ensures,
   next_line (g.K.HeadText.form g.row.VERSION) g.row.VERSION g.row.W c.args.text.now (c.in-Some-push_line.end + 1) c.args.at c.head_end-len.result
-      c.in-Some.head c.head_end-len.ensures.end (c.goes_on_as.ensures c.if-not-goes_on_as.false) c.requires.0 c.in-Some.ensures.head,
+      c.in-Some.head c.head_end-len.ensures.end (c.repeats_at.ensures c.if-not-repeats_at.false) c.requires.0 c.in-Some.ensures.head,
 )
 
 pub lines-smaller : goal.lines-smaller
@@ -42,8 +42,8 @@ returns-in_default g c = record {
   known = c.in_default.ensures.known;
 }
 
-pub returns-then-no_room : goal.returns-then-no_room
-returns-then-no_room g c = record {
+pub returns-then-out_of_memory : goal.returns-then-out_of_memory
+returns-then-out_of_memory g c = record {
   pushed = no_line_yet (g.K.HeadText.form g.row.VERSION) g.row.W c.args.text.now c.args.at c.args.list.now;
   known = c.requires.1;
 }

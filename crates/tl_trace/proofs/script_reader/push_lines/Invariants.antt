@@ -2,7 +2,7 @@ use Rattle.tl_trace.proofs.Names.{◌+◌, ◌-◌, length, slice_range, head_le
 use Rattle.tl_trace.specs.Inner.Reading.{CanPush}
 use Rattle.tl_trace.proofs.script_reader.push_lines.Given as goal
 
--- what the next line owes stands here as `push_line` asks for it
+-- the preconditions for the next line, in the form that `push_line` requires
 abbrev pub invariant-lines : goal.invariant-lines
 invariant-lines g l =
     AreLinesPushed (g.K.HeadText.form g.row.VERSION) g.row.W l.text l.at l.fn.list l.list l.lines

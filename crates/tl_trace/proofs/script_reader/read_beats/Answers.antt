@@ -37,7 +37,7 @@ loop-at-preserved g c =
     let put = rw c.in-Ok-Some.field-0-is at c.in-Ok-Some.ensures in (
       c.loop-at.invariant.0,
       walks_quick g.row.VERSION c.args.piece.now c.args.reader.now.script c.args.reader.now.line
-          c.push_next-lines.new.script c.push_slowly.new.script c.loop-at.at c.loop-at.reader.line c.in-Ok-Some.end far put,
+          c.push_next-lines.new.script c.push_with_diagnostics.new.script c.loop-at.at c.loop-at.reader.line c.in-Ok-Some.end far put,
       c.push_next-lines.ensures.known,
     )
 
@@ -60,9 +60,9 @@ returns-in-Ok-None g c =
     let left = rw c.in-Ok-None.field-0-is at c.in-Ok-None.ensures in
     record {
       version = c.loop-at.invariant.0;
-      read = ends g.row.VERSION c.args.piece.now c.args.reader.now.script c.args.reader.now.line c.push_slowly.new.script c.loop-at.at
+      read = ends g.row.VERSION c.args.piece.now c.args.reader.now.script c.args.reader.now.line c.push_with_diagnostics.new.script c.loop-at.at
           c.loop-at.reader.line (waits g.row.VERSION c.args.piece.now c.args.reader.now.script c.args.reader.now.line
-          c.push_next-lines.new.script c.push_slowly.new.script c.loop-at.at c.loop-at.reader.line far left.same) left.rest;
+          c.push_next-lines.new.script c.push_with_diagnostics.new.script c.loop-at.at c.loop-at.reader.line far left.same) left.rest;
     }
 
 pub returns-in-Err : goal.returns-in-Err
@@ -74,10 +74,10 @@ returns-in-Err g c =
     c.if-lines-gt0.false c.push_next-lines.ensures.pushed) in
     record {
       version = c.loop-at.invariant.0;
-      read = named_by g.row.VERSION c.args.piece.now c.args.reader.now.script c.args.reader.now.line c.push_slowly.new.script c.loop-at.reader.line
+      read = named_by g.row.VERSION c.args.piece.now c.args.reader.now.script c.args.reader.now.line c.push_with_diagnostics.new.script c.loop-at.reader.line
           c.in-Err.kind c.fault_behind.result c.fault_behind.ensures.line c.fault_behind.ensures.kind
           (stops g.row.VERSION c.args.piece.now c.args.reader.now.script c.args.reader.now.line
-          c.push_next-lines.new.script c.push_slowly.new.script c.loop-at.at c.loop-at.reader.line
+          c.push_next-lines.new.script c.push_with_diagnostics.new.script c.loop-at.at c.loop-at.reader.line
           c.in-Err.kind c.requires.0.client c.requires.0.manager far c.loop-at-test.true c.in-Err.ensures.0.0 c.in-Err.ensures.0.1
           c.in-Err.ensures.1);
     }

@@ -3,18 +3,18 @@ use Rattle.tl_answer.proofs.Listening.{can-judge, counted-on, goes-on}
 use Rattle.tl_answer.proofs.check_input.JudgeListenerCheck.hear.Goals as goal
 
 pub returns-clause-on : goal.returns-clause-on
-returns-clause-on g c = λ version gone h rest more went grown few.
+returns-clause-on g c = λ version discarded h rest more went grown few.
     let s = c.args.held.now in
     let was = c.args.self.now in
-    let judge = c.go_on.new.self in
-    let counts = c.go_on.result in
-    let judged = c.go_on.ensures in
-    goes-on (CanJudge was) (CanJudge judge) (λ beats. HasJudged beats judge) (λ beats. HasJudged beats was) gone s rest
-    more was.gone counts judge.gone
-    judged.counts judged.gone went grown
-    (can-judge judge _ rest more (counted-on gone s was.gone counts judge.gone judged.counts judged.gone h.counted) few grown (judged.held rest went))
+    let judge = c.advance.new.self in
+    let counts = c.advance.result in
+    let judged = c.advance.ensures in
+    goes-on (CanJudge was) (CanJudge judge) (λ beats. HasJudged beats judge) (λ beats. HasJudged beats was) discarded s rest
+    more was.discarded counts judge.discarded
+    judged.counts judged.discarded went grown
+    (can-judge judge _ rest more (counted-on discarded s was.discarded counts judge.discarded judged.counts judged.discarded h.counted) few grown (judged.held rest went))
     judged.judged h
 
 pub returns-clause-heard : goal.returns-clause-heard
 returns-clause-heard g c =
-    let judged = c.go_on.ensures in record { stuck = judged.stuck; going = judged.going; waiting = judged.waiting }
+    let judged = c.advance.ensures in record { stuck = judged.stuck; going = judged.going; waiting = judged.waiting }

@@ -11,16 +11,16 @@ returns-in-Ok g c =
     let ended = c.in-Ok.ensures in
     let made = c.into_answer.ensures in
     record {
-      text = λ version gone x.
-          let near = all_of gone c.args.last in
-          let end = are-end (CanRun run) Has run.gone gone c.args.last x.goes in
-          let has = has-all (CanRun run) Has run.gone gone c.args.last x.goes in
+      text = λ version discarded x.
+          let near = all_of discarded c.args.last in
+          let end = are-end (CanRun run) Has run.discarded discarded c.args.last x.goes in
+          let has = has-all (CanRun run) Has run.discarded discarded c.args.last x.goes in
           answer-is c.into_answer.result c.handed_over.result _ version near c.in-Ok.verdicts c.handed_over.ensures
           (ended.same ∙ x.version_is) (ended.verdicts near end has) (ended.far near end has) (made.text g.row.C g.row.M);
-      done = λ version gone x.
-          let near = all_of gone c.args.last in
-          let end = are-end (CanRun run) Has run.gone gone c.args.last x.goes in
-          let has = has-all (CanRun run) Has run.gone gone c.args.last x.goes in
+      done = λ version discarded x.
+          let near = all_of discarded c.args.last in
+          let end = are-end (CanRun run) Has run.discarded discarded c.args.last x.goes in
+          let has = has-all (CanRun run) Has run.discarded discarded c.args.last x.goes in
           subst (λ vs. IfOk c.into_answer.result (λ made. made.all_done ≡ list_all is_done vs)) (ended.verdicts near end has) made.done;
       err = made.err;
     }

@@ -2,7 +2,7 @@ use Rattle.tl_convert.proofs.Names.{rules, ◌≡◌, ◌↔◌, ◌∙◌, ℕ,
 use Rattle.tl_convert.proofs.Names.{burst_of, rest_of}
 use Rattle.tl_convert.proofs.converter.Converter.at_boundary.Goals as goal
 
--- no burst is open exactly where no beat is left over
+-- no burst is open if and only if the rest is empty
 between : {H : Type 0} (r : Rules H) {w : ℕ} (rest : List (BeatOf H w)) (burst : Option (H × ℕ)) (none : Bool) →
     burst ≡ burst_of r rest → is_some burst ≡ not none → IsTrue none ↔ (rest ≡ [])
 between r [] burst true e f = (λ _. refl, λ _. search rules)

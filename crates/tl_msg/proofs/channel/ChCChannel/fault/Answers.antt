@@ -1,4 +1,4 @@
--- Search finds it. It has a name here, so that a wrong body is refused at once.
+-- Search also finds this proof. It is written out so that an incorrect body is refused at once.
 use Rattle.std.proofs.Common.{rules}
 use Rattle.tl_msg.proofs.channel.ChCChannel.fault.Goals as goal
 

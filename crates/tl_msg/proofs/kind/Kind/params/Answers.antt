@@ -1,4 +1,4 @@
--- By name, so that a wrong number is refused at once.
+-- Written out so that an incorrect number is refused at once.
 use Rattle.tl_msg.proofs.kind.Kind.params.Goals as goal
 
 pub returns-in-Intent : goal.returns-in-Intent

@@ -27,6 +27,6 @@ pub returns : goal.returns
 returns g c =
     let said = c.offer_c.ensures in
     rw c.from_offer.ensures (answers on_side_c _ _ _ _
-    (slice_get_read c.args.beats.now _ c.args.at c.index-beats-at.result refl c.if-at-beats.false c.index-beats-at.is) c.offer_c.result _
+    (slice_get_read c.args.beats.now _ c.args.at c.index-beats-at.result refl c.if-at-beats.false c.index-beats-at.is) _ (λ x h. h.c.pipe) c.in-Some.ensures c.offer_c.result _
     (subst (SameClientEnds c.args.self.now) (sym said.rest.1) (record { a = refl; b = refl; c = said.rest.0; d = refl; e = refl })) said.admitted
     said.accepted said.fault said.refused)

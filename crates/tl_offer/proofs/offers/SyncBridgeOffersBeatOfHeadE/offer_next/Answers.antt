@@ -25,5 +25,5 @@ pub returns : goal.returns
 returns g c =
     let said = c.offer_e.ensures in
     rw c.from_offer.ensures (answers on_bridge_e _ _ _ _
-    (slice_get_read c.args.beats.now _ c.args.at c.index-beats-at.result refl c.if-at-beats.false c.index-beats-at.is) c.offer_e.result _
+    (slice_get_read c.args.beats.now _ c.args.at c.index-beats-at.result refl c.if-at-beats.false c.index-beats-at.is) _ (λ x h. h.e) c.in-Some.ensures c.offer_e.result _
     tt said.admitted said.accepted said.fault said.refused)

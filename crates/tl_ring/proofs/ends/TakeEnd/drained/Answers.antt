@@ -1,6 +1,3 @@
-use denote.Param.{layout, param, number, copied}
-use Rattle.tl_ring.specs.contracts.ends.TakeEnd.{the_row}
-use Rattle.tl_ring.proofs.FieldSizes.{part_small}
 use Rattle.tl_ring.proofs.ends.TakeEnd.drained.Goals as goal
 
 pub returns : goal.returns

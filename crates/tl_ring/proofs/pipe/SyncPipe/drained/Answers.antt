@@ -2,7 +2,7 @@ use Rattle.tl_ring.proofs.Names.{◌≡◌, ◌+◌, ◌==◌, ℕ, length, ap, 
 use Rattle.tl_ring.proofs.Moves.{none_in_three, shut_and_none}
 use Rattle.tl_ring.proofs.pipe.SyncPipe.drained.Goals as goal
 
--- no beat is under way exactly where stage, ring and inbox are empty
+-- no beat is under way if and only if stage, ring and inbox are empty
 pub returns : goal.returns
 returns g c =
     let p = c.self.inside in

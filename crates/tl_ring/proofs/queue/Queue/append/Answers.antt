@@ -1,4 +1,4 @@
-use Rattle.tl_ring.proofs.Names.{◌≡◌, ◌≤◌, ◌+◌, ◌++◌, ◌∷◌, [], length, drop, arith, ap, ◌∙◌, drop-append-le, ROOM}
+use Rattle.tl_ring.proofs.Names.{◌≡◌, ◌≤◌, ◌+◌, ◌++◌, ◌∷◌, [], length, drop, arith, ap, ◌∙◌, drop-append-le, STAGE_CAPACITY}
 use denote.Param.{layout, copied}
 use Rattle.tl_ring.proofs.Answered.{only_item}
 use Rattle.tl_ring.proofs.FieldSizes.{part_small}
@@ -27,7 +27,7 @@ overflow_sub-len g c = c.len.ensures.fits
 pub unreachable-requires : goal.unreachable-requires
 unreachable-requires g c =
     let s = c.if-more-len.self-inside in
-    let room : length s.items.items + length c.args.more.now ≤ ROOM = elim c.if-more-len.branch [
+    let room : length s.items.items + length c.args.more.now ≤ STAGE_CAPACITY = elim c.if-more-len.branch [
       | then-more-len w ↦ (let size = ap (λ q. length q.items.items) w.self-inside-is in let cut = ap length (w.cut_front.ensures ∙ c.self.view_is) in
           omega (arith, size, cut, c.requires))
       | else-more-len w ↦ (let size = ap (λ q. length q.items.items) w.self-inside-is in

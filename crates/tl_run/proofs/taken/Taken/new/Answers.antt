@@ -1,39 +1,6 @@
-use Rattle.tl_run.proofs.Names.{◌≡◌, ◌∙◌, ◌+◌, ◌≤◌, ℕ, arith, refl, sym, subst, IsOk}
-use Rattle.tl_run.proofs.AllOk.{five_ok, of-ok}
 use Rattle.tl_run.proofs.Rooms.{none-yet}
 use Rattle.tl_run.proofs.taken.Taken.new.Goals as goal
 
-pub returns-in_default : goal.returns-in_default
-returns-in_default g c = record { empty = tt; room = tt }
-
--- room for so many more is room for that many
-enough : {n room capacity : ℕ} (len : ℕ) → room ≡ n → len + room ≤ capacity → n ≤ capacity
-enough len f g = omega (arith, f, g)
-
 pub returns : goal.returns
-returns g c =
-    let h = c.far_rooms-room.ensures in
-    record {
-      empty = none-yet (record {
-        a = c.reserve_exact-a.new.self;
-        b = c.reserve_exact-b.new.self;
-        c = c.reserve_exact-c.new.self;
-        d = c.reserve_exact-d.new.self;
-        e = c.reserve_exact-e.new.self;
-      })
-          (c.reserve_exact-a.ensures.items ∙ c.new.ensures.items) (c.reserve_exact-b.ensures.items ∙ c.new-2.ensures.items)
-          (c.reserve_exact-c.ensures.items ∙ c.new-3.ensures.items) (c.reserve_exact-d.ensures.items ∙ c.new-4.ensures.items)
-          (c.reserve_exact-e.ensures.items ∙ c.new-5.ensures.items);
-      room = of-ok c.and-4.result (subst (λ r. IsOk r) (sym c.in-Ok.is) refl)
-          (five_ok c.reserve_exact-a.result c.reserve_exact-b.result c.reserve_exact-c.result c.reserve_exact-d.result c.reserve_exact-e.result
-          c.and.result c.and-2.result c.and-3.result c.and-4.result c.and.ensures c.and-2.ensures c.and-3.ensures c.and-4.ensures
-          (λ a b x d e. record {
-            in_a = λ homes. enough _ (h.of_a homes) a;
-            in_b = λ homes. enough _ (h.of_b homes) b;
-            in_c = λ homes. enough _ (h.of_c homes) x;
-            in_d = λ homes. enough _ (h.of_d homes) d;
-            in_e = λ homes. enough _ (h.of_e homes) e;
-          })
-          c.reserve_exact-a.ensures.ok c.reserve_exact-b.ensures.ok c.reserve_exact-c.ensures.ok c.reserve_exact-d.ensures.ok
-          c.reserve_exact-e.ensures.ok);
-    }
+returns g c = none-yet (record { a = c.new.result; b = c.new-2.result; c = c.new-3.result; d = c.new-4.result; e = c.new-5.result })
+    c.new.ensures.items c.new-2.ensures.items c.new-3.ensures.items c.new-4.ensures.items c.new-5.ensures.items

@@ -12,8 +12,8 @@ take-requires g c = (
   beat_small g.row.C c.requires,
 )
 
-pub note_answer-requires : goal.note_answer-requires
-note_answer-requires g c = (
+pub record_response-requires : goal.record_response-requires
+record_response-requires g c = (
   part_small (client_layout g.row.C g.row.M g.row.A g.A.Allocator) 5 9223372036854775808 c.requires-raw.1.1.1.0,
   (c.requires, lawful_head rules_d c.in-Some.beat c.in-Some.ensures.lawful),
 )
@@ -37,6 +37,6 @@ returns-in-Some g c = rw (← c.self.view_is) (record {
       let some = some_taken c.self.inside.d c.in-Some.beat (sym c.in-Some.ensures.beat) in
       let more = ap (λ q. x.history ++ map Answer q) (sym some) in
       client_takes _ x h _ _ (c.take.ensures.taken x.d_received (answered x.history) h.d)
-      (subst (λ q. KnowsClient c.note_answer.new.self q) more (c.note_answer.ensures x.history c.in-Some.beat h.book refl));
+      (subst (λ q. KnowsClient c.record_response.new.self q) more (c.record_response.ensures x.history c.in-Some.beat h.book refl));
   rest = rw c.take.ensures.rest refl;
 })

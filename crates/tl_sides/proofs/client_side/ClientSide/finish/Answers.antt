@@ -1,4 +1,4 @@
-use Rattle.std.proofs.Common.{◌≡◌, ap, sym, subst, ◌∙◌, lit<}
+use Rattle.std.proofs.Common.{ap, sym, subst, ◌∙◌, lit<}
 use denote.Memory.{lone}
 use denote.Param.{layout, param, number}
 use Rattle.tl_msg.specs.contracts.head.HeadA as head_a
@@ -6,7 +6,7 @@ use Rattle.tl_msg.specs.contracts.head.HeadC as head_c
 use Rattle.tl_msg.specs.contracts.head.HeadE as head_e
 use Rattle.tl_sides.specs.contracts.receipts.FinishedClient as finished
 use Rattle.tl_sides.specs.Receipts.{ClientIsSentOut}
-use Rattle.tl_sides.specs.Sides.{ClientState, ClientStandsFor, AreSides}
+use Rattle.tl_sides.specs.Sides.{ClientStandsFor, AreSides}
 use Rattle.tl_sides.proofs.Layouts.{client_side_layout, part, part_small, inner_small, beat_in_queue}
 use Rattle.tl_sides.proofs.Finishing.{some_weaker}
 use Rattle.tl_sides.proofs.SideSteps.{client_side_of}

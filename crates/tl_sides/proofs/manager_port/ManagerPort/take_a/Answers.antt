@@ -12,8 +12,8 @@ take-requires g c = (
   beat_small g.row.M c.requires,
 )
 
-pub note_ask-requires : goal.note_ask-requires
-note_ask-requires g c = (
+pub record_request-requires : goal.record_request-requires
+record_request-requires g c = (
   part_small (manager_layout g.row.C g.row.M g.row.A g.A.Allocator) 5 9223372036854775808 c.requires-raw.1.1.1.0,
   (c.requires, lawful_head rules_a c.in-Some.beat c.in-Some.ensures.lawful),
 )
@@ -37,6 +37,6 @@ returns-in-Some g c = rw (← c.self.view_is) (record {
       let some = some_taken c.self.inside.a c.in-Some.beat (sym c.in-Some.ensures.beat) in
       let more = ap (λ q. x.history ++ map Ask q) (sym some) in
       manager_takes _ x h _ _ (c.take.ensures.taken x.a_received (asked x.history) h.a)
-      (subst (λ q. KnowsManager c.note_ask.new.self q) more (c.note_ask.ensures x.history c.in-Some.beat h.book refl));
+      (subst (λ q. KnowsManager c.record_request.new.self q) more (c.record_request.ensures x.history c.in-Some.beat h.book refl));
   rest = rw c.take.ensures.rest refl;
 })

@@ -1,11 +1,11 @@
-use Rattle.std.proofs.Common.{◌≡◌, ap, sym, subst, ◌∙◌, lit<}
+use Rattle.std.proofs.Common.{ap, sym, subst, ◌∙◌, lit<}
 use denote.Memory.{lone}
 use denote.Param.{layout, param, number}
 use Rattle.tl_msg.specs.contracts.head.HeadB as head_b
 use Rattle.tl_msg.specs.contracts.head.HeadD as head_d
 use Rattle.tl_sides.specs.contracts.receipts.FinishedManager as finished
 use Rattle.tl_sides.specs.Receipts.{ManagerIsSentOut}
-use Rattle.tl_sides.specs.Sides.{ManagerState, ManagerStandsFor, AreSides}
+use Rattle.tl_sides.specs.Sides.{ManagerStandsFor, AreSides}
 use Rattle.tl_sides.proofs.Layouts.{manager_side_layout, part, part_small, inner_small, beat_in_queue}
 use Rattle.tl_sides.proofs.Finishing.{some_weaker}
 use Rattle.tl_sides.proofs.SideSteps.{manager_side_of}

@@ -10,7 +10,7 @@ new_parts-requires g c =
     let whole = c.requires-raw.1.1.1.0 in
     (inner_small row 0 5 9223372036854775808 whole, inner_small row 1 5 9223372036854775808 whole)
 
--- and each ring that is made, and let go on the way
+-- and each ring that is made and discarded on the way
 pub new_parts-requires-room-RingA-NewRing : goal.new_parts-requires-room-RingA-NewRing
 new_parts-requires-room-RingA-NewRing g c κs within =
     part_small (bridge_layout g.row.C g.row.M g.row.A g.A.Allocator) 2 9223372036854775808 c.requires-raw.1.1.1.0

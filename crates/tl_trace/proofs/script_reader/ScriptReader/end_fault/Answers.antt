@@ -9,7 +9,7 @@ returns-in-Ok g c =
     record {
       none = λ none. absurd (some_fault none);
       kind = end_no_memory;
-      fault = λ done gone read. end_faulty c.args.self.now.version done c.args.rest.now gone c.args.self.now.script c.args.self.now.line _ read some
+      fault = λ done discarded read. end_faulty c.args.self.now.version done c.args.rest.now discarded c.args.self.now.script c.args.self.now.line _ read some
           c.requires.rest (later_last c.args.self.now.version g.row.C g.row.M c.args.rest.now c.requires.rest
           ∙ ap (λ (o : Option TraceKind). o or_else Some NoEnd) c.in-Ok.ensures.faultless);
     }
@@ -20,7 +20,7 @@ returns-in-Err g c =
     record {
       none = λ none. absurd (some_fault none);
       kind = no_memory c.args.self.now.version g.row.C g.row.M c.args.rest.now c.in-Err.kind c.in-Err.ensures;
-      fault = λ done gone read. end_faulty c.args.self.now.version done c.args.rest.now gone c.args.self.now.script c.args.self.now.line _ read some
+      fault = λ done discarded read. end_faulty c.args.self.now.version done c.args.rest.now discarded c.args.self.now.script c.args.self.now.line _ read some
           c.requires.rest (later_last c.args.self.now.version g.row.C g.row.M c.args.rest.now c.requires.rest
           ∙ ap (λ (o : Option TraceKind). o or_else Some NoEnd) c.in-Err.ensures);
     }

@@ -1,7 +1,0 @@
-use Rattle.std.proofs.Common.{sym, ap}
-use Rattle.tl_c_beats.specs.Texts.{answer_name}
-use Rattle.tl_c_beats.proofs.texts.answer_name.Goals as goal
-
--- (answered, as an edit turns it)
-pub returns-in-11-clause-name : goal.returns-in-11-clause-name
-returns-in-11-clause-name c = ap answer_name (sym c.in-11.is)

@@ -1,0 +1,176 @@
+//! The simulation times of a trace's beats, as `tl_trace_monitor` and `tlbridge-trace --times` write them:
+//! a line for each beat, in the order of the trace.
+ghost use Rattle.std.specs.Prelude.{◌≤◌, length};
+
+use std::alloc::Global;
+use tl_remarks::Page;
+use tl_trace::line_end;
+
+/// The largest number of digits of a time before its decimal point, and after it.
+const MOST_DIGITS: usize = 18;
+
+/// The largest number of characters of a time's unit, including the space before it.
+const LONGEST_UNIT: usize = 3;
+
+/// The reason why a file does not have the times of a trace.
+#[derive(Clone, Copy, PartialEq, Eq, Debug)]
+pub enum TimesKind {
+    /// The line is not a time.
+    NoTime,
+    /// The time is before that of the line above.
+    Earlier,
+    /// The file ends before this line, but the trace has a beat for it.
+    TooFew,
+    /// The trace has no beat for this line.
+    TooMany,
+}
+
+/// The first wrong line of a file of times, counted from 1, and the reason.
+#[derive(Clone, Copy, PartialEq, Eq, Debug)]
+pub struct TimesFault {
+    pub line: u64,
+    pub kind: TimesKind,
+}
+
+impl TimesFault {
+    /// Returns a sentence on the fault of the line.
+    pub fn sentence(&self) -> &'static str {
+        match self.kind {
+            TimesKind::NoTime =>
+                "expected a time, such as 1200, 12.5 or 12.5 ns, followed by a newline (LF)",
+            TimesKind::Earlier => {
+                "the time is before that of the line above: lines and times have to be in the order of time"
+            }
+            TimesKind::TooFew =>
+                "the file ends here, but the trace has more beats: it needs a time for each beat",
+            TimesKind::TooMany =>
+                "the trace has no beat for this time: these are the times of another trace",
+        }
+    }
+}
+
+/// Returns the number of digits at the beginning of a text.
+fn digits_at_front(text: &[u8]) -> usize {
+    for at in 0..text.len() {
+        if !text[at].is_ascii_digit() {
+            return at;
+        }
+    }
+    text.len()
+}
+
+/// Returns the digits at the beginning of a text, and the rest of it.
+fn split_digits(text: &[u8]) -> (&[u8], &[u8]) {
+    let digits = digits_at_front(text);
+    (
+        text.get(..digits).unwrap_or(&[]),
+        text.get(digits..).unwrap_or(&[]),
+    )
+}
+
+/// Returns whether a text is empty or a unit, such as ` ns`.
+fn is_unit(text: &[u8]) -> bool {
+    let letters = text.strip_prefix(b" ").unwrap_or(text);
+    let mut are_letters = text.len() <= LONGEST_UNIT;
+    for letter in letters {
+        are_letters &= letter.is_ascii_alphabetic();
+    }
+    are_letters
+}
+
+/// Returns the number in the first `places` digits, followed by zeros if there are fewer.
+fn number_of(digits: &[u8], places: usize) -> u128 {
+    let mut number = 0u128;
+    for at in 0..places {
+        let digit = digits.get(at).copied().unwrap_or(b'0').wrapping_sub(b'0');
+        number = number.saturating_mul(10).saturating_add(digit as u128);
+    }
+    number
+}
+
+/// Returns a time, multiplied by 10^18, without its unit. Returns `None` if the text is not a time.
+fn time_of(text: &[u8]) -> Option<u128> {
+    let (whole, rest) = split_digits(text);
+    let (fraction, unit) = split_digits(rest.strip_prefix(b".").unwrap_or(rest));
+    let has_digits = (1..=MOST_DIGITS).contains(&whole.len()) && fraction.len() <= MOST_DIGITS;
+    if !has_digits || !is_unit(unit) {
+        return None;
+    }
+    let mut scaled = number_of(whole, whole.len());
+    for _ in 0..MOST_DIGITS {
+        scaled = scaled.saturating_mul(10);
+    }
+    Some(scaled.saturating_add(number_of(fraction, MOST_DIGITS)))
+}
+
+/// Returns the time in the line from `at` to `end`, which follows a line with the time `last`.
+/// Errors:
+/// - `TooFew` if there is no such line;
+/// - `NoTime` if the line is not a time or has no LF;
+/// - `Earlier` if its time is before `last`.
+fn time_behind(text: &[u8], end: usize, at: usize, last: u128) -> Result<u128, TimesKind> {
+    if at >= text.len() {
+        return Err(TimesKind::TooFew);
+    }
+    match (time_of(text.get(at..end).unwrap_or(&[])), text.get(end)) {
+        (Some(time), Some(_)) if time < last => Err(TimesKind::Earlier),
+        (Some(time), Some(_)) => Ok(time),
+        _ => Err(TimesKind::NoTime),
+    }
+}
+
+/// Checks that a text has a line with a time for each of `beats` beats, that no time is before that
+/// of the line above, and that nothing follows. Errors: the first wrong line, and the reason.
+pub fn check_times(text: &[u8], beats: usize) -> Result<(), TimesFault> {
+    let (mut at, mut last, mut line) = (0, 0, 0u64);
+    for _ in 0..beats {
+        line = line.saturating_add(1);
+        let end = line_end(text, at.min(text.len()));
+        match time_behind(text, end, at, last) {
+            Ok(time) => last = time,
+            Err(kind) => return Err(TimesFault { line, kind }),
+        }
+        at = end.saturating_add(1);
+    }
+    if at < text.len() {
+        let line = line.saturating_add(1);
+        let kind = TimesKind::TooMany;
+        return Err(TimesFault { line, kind });
+    }
+    Ok(())
+}
+
+/// The times of a trace's beats, and the position of the current one.
+#[derive(Drop)]
+pub struct Times {
+    text: Vec<u8>,
+    /// The offset at which the time of the last line begins, and the one at which it ends.
+    from: usize,
+    to: usize,
+}
+
+impl Times {
+    /// Returns the times in a text that `check_times` accepts, at the position before the first
+    /// beat. An empty text has no times. Records in the page if the allocator fails.
+    pub fn new(alloc: Global, text: &[u8], page: &mut Page) -> Times {
+        let mut times = Times {
+            text: Vec::new(alloc),
+            from: 0,
+            to: 0,
+        };
+        page.out_of_memory |= times.text.extend_from_slice(text).is_err();
+        times
+    }
+
+    /// Advances to the next beat.
+    pub fn advance(&mut self) {
+        let at = self.to.saturating_add((self.to > 0) as usize);
+        self.from = at.min(self.text.len());
+        self.to = line_end(&self.text, self.from);
+    }
+
+    /// Returns the time of the last beat; empty if it is not known.
+    pub fn now(&self) -> &[u8] {
+        self.text.get(self.from..self.to).unwrap_or(&[])
+    }
+}

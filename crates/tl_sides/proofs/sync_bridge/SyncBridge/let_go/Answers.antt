@@ -1,9 +1,0 @@
-use Rattle.tl_sides.proofs.Layouts.{bridge_layout, part_small}
-use Rattle.tl_sides.proofs.sync_bridge.SyncBridge.let_go.Goals as goal
-
--- each port is smaller than the bridge
-pub let_go-requires : goal.let_go-requires
-let_go-requires g c = part_small (bridge_layout g.row.C g.row.M g.row.A g.A.Allocator) 0 9223372036854775808 c.requires-raw.1.1.1
-
-pub let_go-requires-2 : goal.let_go-requires-2
-let_go-requires-2 g c = part_small (bridge_layout g.row.C g.row.M g.row.A g.A.Allocator) 1 9223372036854775808 c.requires-raw.1.1.1

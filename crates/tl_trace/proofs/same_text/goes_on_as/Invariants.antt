@@ -1,5 +1,0 @@
-use Rattle.tl_trace.proofs.Names.{◌≡◌, ◌*◌, take}
-use Rattle.tl_trace.proofs.same_text.goes_on_as.Given as goal
-
-abbrev pub invariant-loop-i : goal.invariant-loop-i
-invariant-loop-i l = take (8 * l.i) l.one ≡ take (8 * l.i) l.other
