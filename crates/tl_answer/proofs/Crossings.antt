@@ -8,7 +8,7 @@ use Rattle.tl_run.specs.Stopping.{AreStuck}
 use Rattle.tl_run.specs.declared.streaming.SyncRun.{SyncRun}
 use Rattle.tl_answer.specs.Inner.Crossing.{Crosses, CrossesOn}
 use Rattle.tl_answer.specs.declared.crossing.Crossing.{Crossing}
-use Rattle.tl_answer.proofs.Listening.{counted-on, goes-on, within}
+use Rattle.tl_answer.proofs.Consuming.{counted-on, goes-on, within}
 
 -- if a list grows, the same number of beats may be removed, and more are held
 between : {X : Type 0} (discarded held more : List X) (n at : ℕ) → n ≡ length discarded → length (discarded ++ more) ≤ 2 ^ 40 → GoesOn held more →
@@ -50,9 +50,9 @@ module _ {C M : ℕ} where
   }
 
   -- as far as the beats lead that are held
-  pub crosses-heard : (result : Result Counts AllocError) (s : Script C M) (was x : Crossing C M) →
+  pub crosses-consumed : (result : Result Counts AllocError) (s : Script C M) (was x : Crossing C M) →
       ((near : Beats C M) → ArePart was.run.discarded s near → HasRun HasLines near was.far was.run →
       IfOk result (λ _. AreStuck near was.run.discarded x.run.at s)) → IfOk result (AreGoing was.run.discarded x.run.at s) →
       IfOk result (λ counts. (rest : Script C M) → HasRemoved counts s rest → AreWaiting x.run.discarded x.run.at rest) → IfOk result (CrossesOn was x s)
-  crosses-heard (Err e) s was x stuck going waiting = tt
-  crosses-heard (Ok counts) s was x stuck going waiting = record { stuck = stuck; going = going; waiting = waiting }
+  crosses-consumed (Err e) s was x stuck going waiting = tt
+  crosses-consumed (Ok counts) s was x stuck going waiting = record { stuck = stuck; going = going; waiting = waiting }

@@ -7,6 +7,6 @@ pub mod Whole
 pub mod Writing
 pub mod Headers
 pub mod Running
-pub mod Listening
+pub mod Consuming
 pub mod Crossings
 pub mod CrossingSize

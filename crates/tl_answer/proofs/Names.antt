@@ -12,7 +12,7 @@ pub use Rattle.std.specs.Prelude.{Result, Err, IfOk, IfSome, OnOk, ◌==◌, IfE
 pub use Rattle.tl_answer.specs.Answer.{far_header, far_lines, near, taken, report, is_done, answer_of, are_done}
 pub use Rattle.tl_answer.specs.Inner.Answered.{ReadsAnswer, AnswersRead}
 pub use Rattle.tl_answer.specs.Inner.FarTexts.{HasLines}
-pub use Rattle.tl_answer.specs.Inner.Listening.{AreCounted, all_of, Follow, GoesWith}
+pub use Rattle.tl_answer.specs.Inner.Consuming.{AreCounted, all_of, Follow, GoesWith}
 pub use Rattle.tl_answer.specs.Inner.Parts.{text_of, spelled}
 pub use Rattle.tl_answer.specs.Texts.{IsAnswer, AnswersText, IsOfText}
 pub use Rattle.tl_check.specs.Judging.{CanJudge, HasJudged}
@@ -23,7 +23,7 @@ pub use Rattle.tl_run.specs.Scripts.{EndsIn, near_beats, HasShortLists}
 pub use Rattle.tl_run.specs.Streaming.{CanRun, HasRun}
 pub use Rattle.tl_settle.specs.Outcomes.{Beats, far_beats, verdicts}
 pub use Rattle.tl_stream.specs.Inputs.{IsRefused, held, IsFresh, unread_of, most_bytes}
-pub use Rattle.tl_stream.specs.Listening.{AreFew}
+pub use Rattle.tl_stream.specs.Consuming.{AreFew}
 pub use Rattle.tl_stream.specs.declared.fault.TextFault.{TextFault}
 pub use Rattle.tl_stream.specs.declared.input.Input.{Input}
 pub use Rattle.tl_trace.specs.Faults.{IsFirstFault, body, cut, onto_first, is_newline, header_of, HasHeader, faults_after, faults_of_lines}

@@ -2,7 +2,7 @@ pub mod Parts
 pub mod Asked
 pub mod Answered
 pub mod FarTexts
-pub mod Listening
+pub mod Consuming
 pub mod Checking
 pub mod Crossing
 pub mod Sizes

@@ -11,7 +11,7 @@ ghost use Rattle.tl_check.specs.Judging.{CanJudge, HasJudged};
 ghost use Rattle.tl_answer.specs.Answer.{far_header, is_done, report};
 ghost use Rattle.tl_answer.specs.Inner.Answered.{ReadsAnswer};
 ghost use Rattle.tl_answer.specs.Inner.Checking.{Judges, JudgesOn};
-ghost use Rattle.tl_stream.specs.Listening.{IsNew};
+ghost use Rattle.tl_stream.specs.Consuming.{IsNew};
 ghost use Rattle.tl_answer.specs.Inner.Parts.{spelled};
 ghost use Rattle.tl_stream.specs.Inputs.{IsFresh, held, unread_of};
 ghost use Rattle.tl_stream.specs.declared.fault.TextFault.TheVariants.{OutOfMemory as NoMemory};
@@ -21,20 +21,20 @@ use crate::parts::AnswerParts;
 use std::alloc::{AllocError, Global};
 use std::io::Read;
 use tl_check::Judge;
-use tl_settle::{ClientBook, ManagerBook, new_books};
-use tl_stream::{Input, Listener, TextFault, read_through};
+use tl_settle::{ClientBook, ManagerBook};
+use tl_stream::{BeatConsumer, Input, TextFault, read_through};
 use tl_trace::{Counts, Script};
 
-/// Allows this crate to implement `Listener` for `Judge`, a type of another crate. Has no value.
+/// Allows this crate to implement `BeatConsumer` for `Judge`, a type of another crate. Has no value.
 #[derive(Drop)]
 struct Check;
 
-impl<const C: usize, const M: usize> Listener<Check, C, M> for Judge<C, M> {
-    ghost Listens = { Judges };
+impl<const C: usize, const M: usize> BeatConsumer<Check, C, M> for Judge<C, M> {
+    ghost HasConsumed = { Judges };
 
-    ghost Hears = { JudgesOn };
+    ghost ConsumesOn = { JudgesOn };
 
-    fn hear(&mut self, held: &Script<C, M>) -> Result<Counts, AllocError> {
+    fn consume(&mut self, held: &Script<C, M>) -> Result<Counts, AllocError> {
         Ok(self.advance(held))
     }
 }
@@ -111,7 +111,10 @@ pub(crate) fn check_input<R: Read, const C: usize, const M: usize>(
     ensures { ReadsAnswer (unread_of input.old (R.remaining reader.old)) (R.remaining reader.new)
         true input.new result }
 {
-    let Ok((client, manager)) = new_books::<C, M, Global>(alloc) else {
+    let Ok(client) = ClientBook::<C, Global>::new(alloc) else {
+        return Err(TextFault::OutOfMemory);
+    };
+    let Ok(manager) = ManagerBook::<M, Global>::new(alloc) else {
         return Err(TextFault::OutOfMemory);
     };
     let mut judge = new_judge::<C, M>(client, manager, version);

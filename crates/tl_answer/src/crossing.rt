@@ -13,8 +13,8 @@ ghost use Rattle.tl_trace.specs.Scripts.{Discarded};
 ghost use Rattle.tl_answer.specs.Answer.{is_done};
 ghost use Rattle.tl_answer.specs.Inner.Answered.{ReadsAnswer};
 ghost use Rattle.tl_answer.specs.Inner.Crossing.{Crosses, CrossesOn};
-ghost use Rattle.tl_answer.specs.Inner.Listening.{all_of};
-ghost use Rattle.tl_stream.specs.Listening.{IsNew};
+ghost use Rattle.tl_answer.specs.Inner.Consuming.{all_of};
+ghost use Rattle.tl_stream.specs.Consuming.{IsNew};
 ghost use Rattle.tl_answer.specs.Inner.Parts.{spelled, text_of};
 ghost use Rattle.tl_answer.specs.Inner.Sizes.{bridge_size, crossing_size, run_size};
 ghost use Rattle.tl_stream.specs.Inputs.{IsFresh, held, unread_of};
@@ -28,7 +28,7 @@ use std::io::Read;
 use tl_run::SyncRun;
 use tl_run::laws::a_new_run_has_run;
 use tl_sides::SyncBridge;
-use tl_stream::{Input, Listener, TextFault, read_through};
+use tl_stream::{BeatConsumer, Input, TextFault, read_through};
 use tl_trace::{Counts, Script};
 
 /// A run in one thread. Its far beats are written as lines when they are taken.
@@ -41,7 +41,7 @@ pub(crate) struct Crossing<const C: usize, const M: usize> {
 impl<const C: usize, const M: usize> Crossing<C, M> {
     /// Creates a run that has not begun, over a new bridge. Its far beats are written to `far`,
     /// which is of this version.
-    fn over(bridge: SyncBridge<C, M>, far: FarTexts, _version: u8) -> Self
+    fn with_bridge(bridge: SyncBridge<C, M>, far: FarTexts, _version: u8) -> Self
         requires { IsWidth C × IsWidth M × IsNewBridge bridge × HasLines {C = C} {M = M} far no_beats ×
             (far.version ≡ _version) }
         ensures { IsNew (Crosses _version) result }
@@ -66,7 +66,7 @@ impl<const C: usize, const M: usize> Crossing<C, M> {
         };
         lemma_run_fits::<C, M>();
         match SyncBridge::<C, M, Global>::new(alloc, ring) {
-            Ok(bridge) => Ok(Crossing::over(bridge, far, version)),
+            Ok(bridge) => Ok(Crossing::with_bridge(bridge, far, version)),
             // only out of memory: `ring` is in the range of ring sizes
             Err(_) => Err(TextFault::OutOfMemory),
         }
@@ -123,12 +123,12 @@ pub(crate) fn lemma_crossing_fits<const C: usize, const M: usize>()
     ensures { crossing_size C M < 9223372036854775808 }
 {}
 
-impl<const C: usize, const M: usize> Listener<Crossing<C, M>, C, M> for Crossing<C, M> {
-    ghost Listens = { Crosses };
+impl<const C: usize, const M: usize> BeatConsumer<Crossing<C, M>, C, M> for Crossing<C, M> {
+    ghost HasConsumed = { Crosses };
 
-    ghost Hears = { CrossesOn };
+    ghost ConsumesOn = { CrossesOn };
 
-    fn hear(&mut self, held: &Script<C, M>) -> Result<Counts, AllocError> {
+    fn consume(&mut self, held: &Script<C, M>) -> Result<Counts, AllocError> {
         lemma_run_fits::<C, M>();
         self.run.advance(held, &mut self.far)
     }
@@ -185,7 +185,7 @@ pub(crate) fn run_input<R: Read, const C: usize, const M: usize>(
         // only out of memory: `ring` is in the range of ring sizes
         return Err(TextFault::OutOfMemory);
     };
-    let mut crossing = Crossing::<C, M>::over(bridge, far, version);
+    let mut crossing = Crossing::<C, M>::with_bridge(bridge, far, version);
     let answer = cross(alloc, reader, input, version, &mut crossing);
     crossing.discard();
     answer

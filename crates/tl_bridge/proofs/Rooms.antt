@@ -1,7 +1,7 @@
 -- The lists of far beats of a run in two threads have room for all beats that arrive.
 use Rattle.std.proofs.Common.{◌≡◌, ◌+◌, ◌≤◌, ℕ, List, length, sym, subst}
 use Rattle.tl_bridge.proofs.Words.{IsWidth, Rules, rules_a, rules_b, rules_c, rules_d, rules_e, BeatOf, World, Crosses, Beats, Bridge, Past}
-use Rattle.tl_bridge.proofs.Words.{StandsFor, PerChannel, Taken, HasRoom, HasRoomFor, beats_of, IsSent, IsAt, room-for}
+use Rattle.tl_bridge.proofs.Words.{StandsFor, PerChannel, Script, HasRoom, HasRoomFor, beats_of, IsSent, IsAt, room-for}
 use Rattle.tl_bridge.specs.Inner.Arriving.{HasRoomForInboxes, KeepsRoom}
 
 -- a list of far beats has room for an inbox, if all due beats fit
@@ -14,7 +14,7 @@ room-in r ww vw bs n far x inbox len capacity e f s c has = rw (e, f) (room-for 
 
 module _ {C M : ℕ} (cw : IsWidth C) (mw : IsWidth M) (near : Beats C M) (n : PerChannel ℕ) where
   -- all beats of the inboxes may be taken
-  pub inboxes-fit : (far : Taken C M) (s : Bridge C M) (x : Past C M) → StandsFor s x → IsAt near n (beats_of far) x → HasRoomFor near far →
+  pub inboxes-fit : (far : Script M C) (s : Bridge C M) (x : Past C M) → StandsFor s x → IsAt near n (beats_of far) x → HasRoomFor near far →
       HasRoomForInboxes s far
   inboxes-fit far s x stands i has = record {
     a = room-in rules_a cw mw near.a n.a far.a.items x.a s.a.inbox far.a.len far.a.cap far.a.ok.0 stands.a.inbox i.a_sent stands.a.crosses has.in_a;
@@ -26,7 +26,7 @@ module _ {C M : ℕ} (cw : IsWidth C) (mw : IsWidth M) (near : Beats C M) (n : P
 
 module _ {C M : ℕ} (near : Beats C M) where
   -- the lists keep their room
-  pub keeps-room : (old new : Taken C M) → KeepsRoom old new → HasRoomFor near old → HasRoomFor near new
+  pub keeps-room : (old new : Script M C) → KeepsRoom old new → HasRoomFor near old → HasRoomFor near new
   keeps-room old new k h = record {
     in_a = subst (λ q. HasRoom rules_a M near.a q) (sym k.a) h.in_a;
     in_b = subst (λ q. HasRoom rules_b C near.b q) (sym k.b) h.in_b;

@@ -39,7 +39,6 @@ pub use Rattle.tl_offer.specs.Offering.{Does, steps}
 pub use Rattle.tl_offer.specs.declared.offered.Offered.{Offered}
 pub use Rattle.tl_offer.specs.declared.offered.Offered.TheVariants.{Accepted, NotReady, Stopped}
 pub use Rattle.tl_offer.specs.declared.offered.Stop.{Stop}
-pub use Rattle.tl_run.specs.declared.taken.Taken.{Taken}
 pub use Rattle.tl_run.specs.declared.turn.Turn.{Turn}
 pub use Rattle.tl_settle.specs.Histories.{Answer, Ask, Event, answered, asked, client_answer, manager_answer, manager_home}
 pub use Rattle.tl_settle.specs.Outcomes.{Beats}
@@ -55,3 +54,4 @@ pub use Rattle.tl_sides.specs.Sides.{AreSides, ClientPast, ClientStandsFor, Clie
 pub use Rattle.tl_sides.specs.Sides.{SameManager, SidesMeet, client_pumps, client_takes_b, client_takes_d, manager_pumps, manager_takes_a}
 pub use Rattle.tl_sides.specs.Sides.{manager_takes_c, manager_takes_e, new_client, new_manager}
 pub use Rattle.tl_sides.specs.declared.per_channel.PerChannel.{PerChannel}
+pub use Rattle.tl_trace.specs.declared.script.Script.{Script}

@@ -14,7 +14,6 @@ pub use Rattle.tl_run.specs.Inner.Running.{all_steps, all_under_way}
 pub use Rattle.tl_offer.specs.Offering.{Does, steps}
 pub use Rattle.tl_offer.specs.declared.offered.Offered.{Offered}
 pub use Rattle.tl_offer.specs.declared.offered.Offered.TheVariants.{NotReady}
-pub use Rattle.tl_run.specs.declared.taken.Taken.{Taken}
 pub use Rattle.tl_run.specs.declared.turn.Turn.{Turn}
 pub use Rattle.tl_settle.specs.Histories.{Answer, Ask, Event, answered, asked, client_answer, manager_answer, manager_home}
 pub use Rattle.tl_settle.specs.Outcomes.{Beats}
@@ -25,3 +24,4 @@ pub use Rattle.tl_sides.specs.Crossings.{stops_alone}
 pub use Rattle.tl_sides.specs.Sides.{AreSides, ClientPast, ClientStandsFor, ClientState, ManagerPast, ManagerStandsFor, ManagerState, SameClient}
 pub use Rattle.tl_sides.specs.Sides.{SameManager, SidesMeet, new_client, new_manager}
 pub use Rattle.tl_sides.specs.declared.per_channel.PerChannel.{PerChannel}
+pub use Rattle.tl_trace.specs.declared.script.Script.{Script}

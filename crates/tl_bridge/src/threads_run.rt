@@ -15,18 +15,18 @@ use crate::thread_rounds::play_rounds;
 use std::alloc::Global;
 use std::thread::Threads;
 use tl_ring::MAX_RING;
-use tl_run::{Outcome, RunFault, Taken, outcome_at};
+use tl_run::{Outcome, RunFault, no_far_beats, outcome_at, reserve_far};
 use tl_trace::Script;
 
 // Returns the lists of far beats, when both sides are finished.
 fn lists_of<const C: usize, const M: usize>(
     client: ClientRun<C, M>,
     manager: ManagerRun<C, M>,
-) -> Taken<C, M>
+) -> Script<M, C>
     requires { AreWidths C M }
     ensures { result ≡ taken_of client.entry manager.entry }
 {
-    Taken {
+    Script {
         a: manager.far_a,
         b: client.far_b,
         c: manager.far_c,
@@ -81,8 +81,8 @@ pub fn run_threads<R: Threads, G: Gate + Send, H: Gate + Send, const C: usize, c
     if ring == 0 || ring > MAX_RING {
         return Err(RunFault::RingSize);
     }
-    let mut far = Taken::new(alloc);
-    let Ok(()) = far.reserve(script) else {
+    let mut far = no_far_beats::<C, M>(alloc);
+    let Ok(()) = reserve_far(&mut far, script) else {
         return Err(RunFault::OutOfMemory);
     };
     sides_fit::<C, M>();
@@ -90,7 +90,7 @@ pub fn run_threads<R: Threads, G: Gate + Send, H: Gate + Send, const C: usize, c
         return Err(RunFault::OutOfMemory);
     };
     runs_fit::<C, M>();
-    let Taken { a, b, c, d, e } = far;
+    let Script { a, b, c, d, e } = far;
     let mut client = ClientRun {
         side: client,
         far_b: b,

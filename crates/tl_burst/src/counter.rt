@@ -11,9 +11,9 @@ use tl_msg::Channel;
 ///
 /// It is for the receiving end of a channel, whose beats are already checked: it reads heads and
 /// tests nothing. In contracts its value is the number of beats that are still missing from the
-/// last message, by the sizes in the heads. It stands for a list of beats if that number is `left`
-/// of the list. A new counter stands for no beats, and `pass` adds one beat to the list (TileLink:
-/// burst rules).
+/// last message, by the sizes in the heads. It represents a list of beats if that number is `left`
+/// of the list. A new counter represents the empty list, and `pass` adds one beat to the list
+/// (TileLink: burst rules).
 #[derive(Drop)]
 pub struct BurstCounter<K: Channel, const W: usize> {
     left: usize,

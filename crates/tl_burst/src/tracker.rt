@@ -15,9 +15,9 @@ use tl_msg::{Beat, BeatFault, Channel, ranges_of_beat};
 ///
 /// It keeps no beats. It keeps only the head of the open burst, the number of its accepted beats,
 /// and the facts that follow from the head for all beats. In contracts its value is the pair of
-/// head and number, or `None` if no burst is open. It stands for a list of accepted beats if this
-/// value is `burst_after` of the list. A new tracker stands for no beats, and `advance` adds one
-/// beat to the list.
+/// head and number, or `None` if no burst is open. It represents a list of accepted beats if this
+/// value is `burst_after` of the list. A new tracker represents the empty list, and `advance` adds
+/// one beat to the list.
 #[derive(Drop)]
 pub struct Tracker<K: Channel, const W: usize> {
     burst: Option<(K::Head, u32)>,
@@ -77,7 +77,7 @@ impl<K: Channel, const W: usize> Tracker<K, W> {
         ensures last { IfOk result (λ place.
             IsTrue place.last ↔ (place.index + 1 ≡ beats_of K.rules beat.now.head W)) }
 
-        // for every list of accepted beats that the tracker stands for
+        // for every list of accepted beats that the tracker represents
         ensures admitted { (bs : List (BeatOf K.Head W)) →
             IsHanded K.rules bs → self.now ≡ burst_after K.rules bs →
             IsOk result ↔ IsAdmitted K.rules bs beat.now }

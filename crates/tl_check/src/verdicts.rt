@@ -7,7 +7,7 @@ ghost use Rattle.tl_run.specs.Scripts.{HasShortLists, near_beats};
 use crate::judge::Judge;
 use std::alloc::Global;
 use tl_msg::{OutOfMemory, Verdict};
-use tl_settle::new_books;
+use tl_settle::{ClientBook, ManagerBook};
 use tl_trace::Script;
 
 /// Returns the verdict of a script on each channel, from A to E. These are the verdicts of
@@ -29,7 +29,10 @@ pub fn verdicts_of<const C: usize, const M: usize>(
     requires short { HasShortLists script.now }
     ensures { IfOk result (λ found. found ≡ verdicts (near_beats script.now)) }
 {
-    let Ok((client, manager)) = new_books::<C, M, Global>(alloc) else {
+    let Ok(client) = ClientBook::<C, Global>::new(alloc) else {
+        return Err(OutOfMemory);
+    };
+    let Ok(manager) = ManagerBook::<M, Global>::new(alloc) else {
         return Err(OutOfMemory);
     };
     let mut judge = Judge::new(client, manager);

@@ -1,4 +1,4 @@
--- The relation between a converter and the beats that it stands for, after one more near beat.
+-- The relation between a converter and the beats that it represents, after one more near beat.
 use Rattle.tl_convert.proofs.Names.{◌≡◌, ◌<◌, ◌+◌, ◌*◌, ◌≢◌, ◌++◌, ℕ, true, false, cond, Some, List, [], ◌∷◌, length, drop, slice_get, slice_index}
 use Rattle.tl_convert.proofs.Names.{refl, sym, ap, subst, ◌∙◌, arith, ⊎_elim, append-nil, eqb_tells, length_push, nil_from_length, same_Some, Rules}
 use Rattle.tl_convert.proofs.Names.{BeatOf, IsWidth, per_beat, beats_of, message_of, Handed, IsHandedWith, ends, rest_of, burst_of, burst_after}
@@ -154,7 +154,7 @@ module _ {H : Type 0} {w v : ℕ} (r : Rules H) (ww : IsWidth w) (vw : IsWidth v
       (k.0, homes-open r (r.lane_address b.head home) (rest_of r w bs) homes ne ∙ append-nil homes ∙ k.1 ∙ ap (λ y. k.0 ++ y ∷ []) (sym (kept s.1))))
       (eqb_tells index 0)
 
-  -- and the converter stands for the beats with this one
+  -- and the converter represents the beats with this one
   pub stands-more : (new : Progress H v) (out : List (BeatOf H v)) → Given r x b new.partial (rest_of r w bs) out → new.home ≡ x →
       new.burst ≡ burst_after r (bs ++ b ∷ []) → IsHandedWith r (bs ++ b ∷ []) (homes_with r bs homes b home) →
       StandsFor r new (bs ++ b ∷ []) (homes_with r bs homes b home)

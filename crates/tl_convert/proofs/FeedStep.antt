@@ -1,4 +1,4 @@
--- The far beats that a converter returns for a near beat without a fault, and the near beats that it then stands for.
+-- The far beats that a converter returns for a near beat without a fault, and the near beats that it then represents.
 use Rattle.tl_convert.proofs.Names.{◌≡◌, ◌≢◌, ◌<◌, ◌^◌, ◌++◌, ℕ, true, None, Some, List, [], ◌∷◌, length, refl, sym, ap, ◌∙◌, Rules, IsBeat, BeatOf}
 use Rattle.tl_convert.proofs.Names.{IsWidth, beats_of, IsPlace, IsPlaceOf, IsHanded, IsHandedWith, IsAdmitted, rest_of, burst_after, fault_in}
 use Rattle.tl_convert.proofs.Names.{fault_after, homes_with, FitsMask, head_of, RestIs, ChannelLaws, none-accepts, none-admitted, none-held}

@@ -1,4 +1,4 @@
--- The state of a converter between two near beats, and the near beats that it stands for.
+-- The state of a converter between two near beats, and the near beats that it represents.
 use Rattle.std.specs.Prelude.{◌≡◌, ◌*◌, ◌++◌, ℕ, Option, Some, List, [], ◌∷◌}
 use Rattle.tl_msg.specs.Rules.{Rules}
 use Rattle.tl_msg.specs.declared.beat.BeatOf.{BeatOf}

@@ -64,7 +64,7 @@ impl<K: Channel, const W: usize, const V: usize> Converter<K, W, V> {
     pub fn check(&self, beat: &Beat<K, W>) -> Result<Place<K>, BeatFault>
         requires { IsWidth W }
 
-        // for all near beats, with their homes, that the converter stands for
+        // for all near beats, with their homes, that the converter represents
         ensures admitted { (bs : List (BeatOf K.Head W)) (homes : List ℕ) →
             StandsFor K.rules self.now bs homes → IsOk result ↔ IsAdmitted K.rules bs beat.now }
         ensures fault { (bs : List (BeatOf K.Head W)) (homes : List ℕ) →
@@ -98,7 +98,7 @@ impl<K: Channel, const W: usize, const V: usize> Converter<K, W, V> {
         requires place { IsPlaceOf K.rules W self.old.burst beat.now place }
         requires empty { out.old.items ≡ [] }
 
-        // for all near beats, with their homes, that the converter stands for
+        // for all near beats, with their homes, that the converter represents
         ensures stands { (bs : List (BeatOf K.Head W)) (homes : List ℕ) →
             StandsFor K.rules self.old bs homes →
             StandsFor K.rules self.new (bs ++ beat.now ∷ [])
@@ -146,7 +146,7 @@ impl<K: Channel, const W: usize, const V: usize> Converter<K, W, V> {
         requires near { IsWidth W }
         requires far { IsWidth V }
 
-        // for all near beats, with their homes, that the converter stands for
+        // for all near beats, with their homes, that the converter represents
         ensures admitted { (bs : List (BeatOf K.Head W)) (homes : List ℕ) →
             StandsFor K.rules self.old bs homes → IsOk result ↔ IsAdmitted K.rules bs beat }
         ensures fault { (bs : List (BeatOf K.Head W)) (homes : List ℕ) →

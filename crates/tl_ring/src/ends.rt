@@ -227,7 +227,7 @@ impl<K: Channel, const W: usize, const V: usize, A: Allocator> Model for TakeEnd
 
 impl<K: Channel, const W: usize, const V: usize, A: Allocator> TakeEnd<K, W, V, A> {
     /// Creates the end from an inbox and its half of a ring.
-    pub fn over(inbox: Inbox<K, V>, intake: RingReader<K, V, A>) -> Self
+    pub fn from_parts(inbox: Inbox<K, V>, intake: RingReader<K, V, A>) -> Self
         ensures { result ≡ taking_of inbox intake.half }
     {
         TakeEnd { inbox, intake }

@@ -64,7 +64,7 @@ pub struct RingReader<K: Channel, const V: usize, A: Allocator = Global> {
 
 impl<K: Channel, const V: usize, A: Allocator> RingReader<K, V, A> {
     /// Creates the intake from its half of a new ring ([`new_ring`]).
-    pub fn over(half: TakeHalf<K, V, A>) -> Self
+    pub fn from_half(half: TakeHalf<K, V, A>) -> Self
         ensures { result.half ≡ half }
     {
         RingReader {
@@ -76,7 +76,7 @@ impl<K: Channel, const V: usize, A: Allocator> RingReader<K, V, A> {
 
 /// Moves beats from a ring into the inbox, in order. Returns their number: at least the number of
 /// beats that the half knows to be in the ring, or as many as the inbox has room for if that is
-/// smaller, and never more than that room. After [`look`] it knows every beat in the ring.
+/// smaller, and never more than that room. After [`observe_both`] it knows every beat in the ring.
 pub fn receive<K: Channel, const V: usize, A: Allocator>(
     intake: &mut RingReader<K, V, A>,
     inbox: &mut Inbox<K, V>,
@@ -132,7 +132,7 @@ fn push_queue<T: Copy, A: Allocator, P: Protocol<T>>(
 }
 
 /// Moves staged beats of an outbox into a ring, in order. Returns their number: at least the number
-/// of free positions that the half knows of, or all staged beats if these are fewer. After [`look`]
+/// of free positions that the half knows of, or all staged beats if these are fewer. After [`observe_both`]
 /// it knows every free position.
 pub fn send_staged<K: Channel, const W: usize, const V: usize, A: Allocator>(
     outbox: &mut Outbox<K, W, V>,
@@ -152,7 +152,7 @@ pub fn send_staged<K: Channel, const W: usize, const V: usize, A: Allocator>(
 /// The taking half then knows each of them, and the sending half each free position. No item moves.
 /// Requires: the halves are a pair. (The function is generic in the item, because the checker needs
 /// far more time for a call that is generic in the channel and requires a pair.)
-pub fn look<T, A: Allocator, P: Protocol<T>>(
+pub fn observe_both<T, A: Allocator, P: Protocol<T>>(
     producer: &mut CountingProducer<T, A, P>,
     consumer: &mut CountingConsumer<T, A, P>,
 ) -> usize

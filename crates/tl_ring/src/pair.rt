@@ -10,7 +10,7 @@ ghost use Rattle.tl_ring.specs.declared.pipe.TheConstants.{MAX_RING};
 
 use crate::ends::{ClosingEnd, SendEnd, TakeEnd};
 use crate::fault::BuildFault;
-use crate::halves::{RingReader, look, new_ring};
+use crate::halves::{RingReader, new_ring, observe_both};
 use crate::inbox::Inbox;
 use crate::outbox::Outbox;
 use crate::standing::Standing;
@@ -46,7 +46,7 @@ pub fn ring_pair<K: Channel, const W: usize, const V: usize, A: Allocator + Copy
             },
             TakeEnd {
                 inbox: Inbox::new(),
-                intake: RingReader::over(take),
+                intake: RingReader::from_half(take),
             },
         )),
         Err(fault) => Err(fault),
@@ -74,7 +74,7 @@ pub fn meet<K: Channel, const W: usize, const V: usize, A: Allocator>(
         Sends K.rules send.old x → Takes take.old taken →
         Meets K.rules send.new take.new x taken }
 {
-    let in_ring = look(&mut send.producer, &mut take.intake.half);
+    let in_ring = observe_both(&mut send.producer, &mut take.intake.half);
     Standing::between(&send.outbox, in_ring, &take.inbox)
 }
 
@@ -96,6 +96,6 @@ pub fn meet_closing<K: Channel, const W: usize, const V: usize, A: Allocator>(
         Sends K.rules send.old x → Takes take.old taken →
         Meets K.rules send.new take.new x taken }
 {
-    let in_ring = look(&mut send.producer, &mut take.intake.half);
+    let in_ring = observe_both(&mut send.producer, &mut take.intake.half);
     Standing::between(&send.outbox, in_ring, &take.inbox)
 }

@@ -3,7 +3,7 @@ use Rattle.tl_run.proofs.Names.{◌≡◌, [], refl, no_beats, ◌+◌, ◌++◌
 use Rattle.tl_run.proofs.Names.{◌∙◌, ap, rules_a, rules_b, rules_c, rules_d, rules_e}
 use Rattle.tl_run.proofs.Names.{Beats, Bridge, Past, StandsFor, PerChannel, Fit, joined, HaveRoom, IsUnderWay, IsAt, beats_of, inboxes}
 use Rattle.tl_run.specs.Inner.Arriving.{HasRoomFor, HaveCapacity}
-use Rattle.tl_run.specs.declared.taken.Taken.{Taken}
+use Rattle.tl_trace.specs.declared.script.Script.{Script}
 use Rattle.tl_run.proofs.ChannelEnd.{room-for}
 use Rattle.tl_run.proofs.Round.{inboxes-are}
 
@@ -15,12 +15,12 @@ same-beats x y a b c d e =
     ap (λ q. record { a = y.a; b = y.b; c = y.c; d = y.d; e = q }) e
 
 -- lists without a beat are no beats
-pub none-yet : {C M : ℕ} (t : Taken C M) →
+pub none-yet : {C M : ℕ} (t : Script M C) →
     t.a.items ≡ [] → t.b.items ≡ [] → t.c.items ≡ [] → t.d.items ≡ [] → t.e.items ≡ [] → beats_of t ≡ no_beats
 none-yet t a b c d e = rw (a, b, c, d, e) refl
 
 -- lists with the same beats are the same beats
-pub same-lists : {C M : ℕ} (s t : Taken C M) →
+pub same-lists : {C M : ℕ} (s t : Script M C) →
     t.a.items ≡ s.a.items → t.b.items ≡ s.b.items → t.c.items ≡ s.c.items → t.d.items ≡ s.d.items → t.e.items ≡ s.e.items →
     beats_of t ≡ beats_of s
 same-lists s t a b c d e = rw (a, b, c, d, e) refl
@@ -41,20 +41,20 @@ inboxes-fit cw mw near n far s x stands i room has =
     })
 
 -- how many places the lists of a run have
-abbrev pub places : {C M : ℕ} → Taken C M → PerChannel ℕ
+abbrev pub places : {C M : ℕ} → Script M C → PerChannel ℕ
 places t = record { a = vec_capacity t.a; b = vec_capacity t.b; c = vec_capacity t.c; d = vec_capacity t.d; e = vec_capacity t.e }
 
 -- they have them
-pub has-places : {C M : ℕ} (t : Taken C M) → HaveCapacity t (places t)
+pub has-places : {C M : ℕ} (t : Script M C) → HaveCapacity t (places t)
 has-places t = record { a = omega arith; b = omega arith; c = omega arith; d = omega arith; e = omega arith }
 
 -- which are enough for the beats in the inboxes, and stay enough if there are more
-pub lists-fit : {C M : ℕ} → IsWidth C → IsWidth M → (near : Beats C M) (n : PerChannel ℕ) (far : Taken C M) (s : Bridge C M) →
+pub lists-fit : {C M : ℕ} → IsWidth C → IsWidth M → (near : Beats C M) (n : PerChannel ℕ) (far : Script M C) (s : Bridge C M) →
     IsUnderWay near n (beats_of far) s → HasRoomFor near far →
     Fit (joined (beats_of far) (inboxes s)) (places far)
 lists-fit cw mw near n far s u has = inboxes-fit cw mw near n (beats_of far) s u.past u.stands u.is_at (places far) has
 
-pub more-room : {C M : ℕ} (near : Beats C M) (old new : Taken C M) → HasRoomFor near old → HaveCapacity new (places old) → HasRoomFor near new
+pub more-room : {C M : ℕ} (near : Beats C M) (old new : Script M C) → HasRoomFor near old → HaveCapacity new (places old) → HasRoomFor near new
 more-room near old new has more = record {
   in_a = λ homes. enough (has.in_a homes) more.a;
   in_b = λ homes. enough (has.in_b homes) more.b;

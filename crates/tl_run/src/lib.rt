@@ -27,6 +27,6 @@ pub use outcome::{Outcome, RunFault};
 pub use rounds::{End, outcome_at};
 pub use streaming::SyncRun;
 pub use sync_run::run_sync;
-pub use taken::Taken;
+pub use taken::{no_far_beats, reserve_far};
 pub use tl_offer::{Offered, Offers, Stop};
 pub use turn::Turn;

@@ -13,7 +13,7 @@ ghost use Rattle.tl_run.specs.Inner.Running.{HasRound, HasEnded, AreStopped, cou
 
 use crate::channel_state::{add_accepted, all_stops};
 use crate::outcome::{Outcome, verdict};
-use crate::taken::{Taken, take_from_each};
+use crate::taken::{outcome_of, take_from_each};
 use tl_msg::Verdict;
 use tl_offer::{Offered, Offers, Stop};
 use tl_ring::Standing;
@@ -66,7 +66,7 @@ fn round<const C: usize, const M: usize>(
     bridge: &mut SyncBridge<C, M>,
     script: &Script<C, M>,
     at: &mut PerChannel<usize>,
-    far: &mut Taken<C, M>,
+    far: &mut Script<M, C>,
 ) -> PerChannel<Offered>
     requires { AreWidths C M × HasShortLists script.now ×
         HasRoomFor (near_beats script.now) far.old ×
@@ -138,7 +138,7 @@ pub(crate) fn verdicts_at(
 pub(crate) fn run_rounds<const C: usize, const M: usize>(
     bridge: &mut SyncBridge<C, M>,
     script: &Script<C, M>,
-    far: &mut Taken<C, M>,
+    far: &mut Script<M, C>,
 ) -> End
     requires { AreWidths C M × HasShortLists script.now × IsNew bridge.old ×
         (beats_of far.old ≡ no_beats) × HasRoomFor (near_beats script.now) far.old }
@@ -167,7 +167,7 @@ pub(crate) fn run_rounds<const C: usize, const M: usize>(
 
 /// Returns the outcome of a run from its end and the far beats that it took: these, the verdict of
 /// each channel and the number of rounds (this project's choice). Requires: `C` and `M` are widths.
-pub fn outcome_at<const C: usize, const M: usize>(end: End, far: Taken<C, M>) -> Outcome<C, M>
+pub fn outcome_at<const C: usize, const M: usize>(end: End, far: Script<M, C>) -> Outcome<C, M>
     requires { AreWidths C M }
     ensures outcome { (near : Beats C M) (s : Bridge C M) →
         HasEnded near end.at (beats_of far.entry) s end.stops end.rounds → EndsIn near result }
@@ -183,5 +183,5 @@ pub fn outcome_at<const C: usize, const M: usize>(end: End, far: Taken<C, M>) ->
         e: far.e.len(),
     };
     let verdicts = verdicts_at(&end.at, &end.stops, &taken);
-    far.into_outcome(verdicts, end.rounds)
+    outcome_of(far, verdicts, end.rounds)
 }

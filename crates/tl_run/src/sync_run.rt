@@ -13,7 +13,7 @@ ghost use Rattle.tl_offer.specs.Widths.{AreWidths};
 
 use crate::outcome::{Outcome, RunFault};
 use crate::rounds::{End, outcome_at, run_rounds};
-use crate::taken::Taken;
+use crate::taken::{no_far_beats, reserve_far};
 use std::alloc::Global;
 use tl_ring::MAX_RING;
 use tl_sides::SyncBridge;
@@ -56,8 +56,8 @@ pub fn run_sync<const C: usize, const M: usize>(
     if ring == 0 || ring > MAX_RING {
         return Err(RunFault::RingSize);
     }
-    let mut far = Taken::new(alloc);
-    let Ok(()) = far.reserve(script) else {
+    let mut far = no_far_beats::<C, M>(alloc);
+    let Ok(()) = reserve_far(&mut far, script) else {
         return Err(RunFault::OutOfMemory);
     };
     match run_into_lists(alloc, script, ring, &mut far) {
@@ -73,7 +73,7 @@ fn run_into_lists<const C: usize, const M: usize>(
     alloc: Global,
     script: &Script<C, M>,
     ring: usize,
-    far: &mut Taken<C, M>,
+    far: &mut Script<M, C>,
 ) -> Result<End, RunFault>
     requires { AreWidths C M × HasShortLists script.now × (beats_of far.old ≡ no_beats) ×
         HasRoomFor (near_beats script.now) far.old }

@@ -18,18 +18,7 @@ use std::alloc::{AllocError, Global};
 use tl_convert::far_count;
 use tl_msg::{Beat, ChA, ChB, ChC, ChD, ChE, Verdict};
 use tl_sides::{PerChannel, SyncBridge};
-use tl_trace::Script;
-
-/// The far beats that a run has taken, by channel, in lists that never grow: those of A, C and E on
-/// `M` lanes, those of B and D on `C` (this project's choice).
-#[derive(Drop)]
-pub struct Taken<const C: usize, const M: usize> {
-    pub a: Vec<Beat<ChA, M>>,
-    pub b: Vec<Beat<ChB, C>>,
-    pub c: Vec<Beat<ChC, M>>,
-    pub d: Vec<Beat<ChD, C>>,
-    pub e: Vec<Beat<ChE, M>>,
-}
+use tl_trace::{Script, empty_script};
 
 // Lemma: a beat of each width fits in memory.
 #[inline(always)]
@@ -63,58 +52,56 @@ fn far_rooms<const C: usize, const M: usize>(script: &Script<C, M>) -> PerChanne
     PerChannel { a, b, c, d, e }
 }
 
-impl<const C: usize, const M: usize> Taken<C, M> {
-    /// Creates five empty lists. Allocates nothing. Requires: `C` and `M` are widths.
-    pub fn new(alloc: Global) -> Self
-        requires { AreWidths C M }
-        ensures { beats_of result ≡ no_beats }
-    {
-        Taken {
-            a: Vec::new(alloc),
-            b: Vec::new(alloc),
-            c: Vec::new(alloc),
-            d: Vec::new(alloc),
-            e: Vec::new(alloc),
-        }
-    }
+/// Returns the far beats of a run that has taken none: five empty lists. Allocates nothing.
+pub fn no_far_beats<const C: usize, const M: usize>(alloc: Global) -> Script<M, C>
+    ensures { beats_of result ≡ no_beats }
+{
+    empty_script(alloc)
+}
 
-    /// Reserves room for all far beats that a script can make due. The lists stay empty. Errors:
-    /// `AllocError` if the allocator fails. Requires: `C` and `M` are widths, each list of the
-    /// script has at most `2^40` beats, and the five lists are empty.
-    #[inline(never)]
-    pub fn reserve(&mut self, script: &Script<C, M>) -> Result<(), AllocError>
-        requires { AreWidths C M × HasShortLists script.now × (beats_of self.old ≡ no_beats) }
-        ensures empty { beats_of self.new ≡ no_beats }
-        ensures room { OnOk result (HasRoomFor (near_beats script.now) self.new) }
-    {
-        let room = far_rooms(script);
-        let a = self.a.reserve_exact(room.a);
-        let b = self.b.reserve_exact(room.b);
-        let c = self.c.reserve_exact(room.c);
-        let d = self.d.reserve_exact(room.d);
-        let e = self.e.reserve_exact(room.e);
-        a.and(b).and(c).and(d).and(e)
-    }
+/// Reserves room in empty lists for all far beats that a script can make due. The lists stay empty.
+/// Errors: `AllocError` if the allocator fails. Requires: `C` and `M` are widths, each list of the
+/// script has at most `2^40` beats, and the five lists are empty.
+#[inline(never)]
+pub fn reserve_far<const C: usize, const M: usize>(
+    far: &mut Script<M, C>,
+    script: &Script<C, M>,
+) -> Result<(), AllocError>
+    requires { AreWidths C M × HasShortLists script.now × (beats_of far.old ≡ no_beats) }
+    ensures empty { beats_of far.new ≡ no_beats }
+    ensures room { OnOk result (HasRoomFor (near_beats script.now) far.new) }
+{
+    let room = far_rooms(script);
+    let a = far.a.reserve_exact(room.a);
+    let b = far.b.reserve_exact(room.b);
+    let c = far.c.reserve_exact(room.c);
+    let d = far.d.reserve_exact(room.d);
+    let e = far.e.reserve_exact(room.e);
+    a.and(b).and(c).and(d).and(e)
+}
 
-    // Returns the outcome of a run that took these far beats and ended with these verdicts after
-    // `rounds` rounds.
-    pub(crate) fn into_outcome(self, found: [Verdict; 5], rounds: u64) -> Outcome<C, M>
-        requires { AreWidths C M }
-        ensures ends { (near : Beats C M) → found ≡ verdicts near →
-            rounds ≤ near_count near + 2 * far_count near + 1 →
-            beats_of self.entry ≡ far_beats near → EndsIn near result }
-        ensures rounds { result.rounds ≡ rounds }
-    {
-        let Taken { a, b, c, d, e } = self;
-        Outcome {
-            a,
-            b,
-            c,
-            d,
-            e,
-            verdicts: found,
-            rounds,
-        }
+// Returns the outcome of a run that took these far beats and ended with these verdicts after
+// `rounds` rounds.
+pub(crate) fn outcome_of<const C: usize, const M: usize>(
+    far: Script<M, C>,
+    found: [Verdict; 5],
+    rounds: u64,
+) -> Outcome<C, M>
+    requires { AreWidths C M }
+    ensures ends { (near : Beats C M) → found ≡ verdicts near →
+        rounds ≤ near_count near + 2 * far_count near + 1 →
+        beats_of far.entry ≡ far_beats near → EndsIn near result }
+    ensures rounds { result.rounds ≡ rounds }
+{
+    let Script { a, b, c, d, e } = far;
+    Outcome {
+        a,
+        b,
+        c,
+        d,
+        e,
+        verdicts: found,
+        rounds,
     }
 }
 
@@ -135,7 +122,9 @@ fn append<B: Copy>(list: &mut Vec<B>, beats: &[B]) -> Result<(), AllocError>
     list.extend_from_slice(beats)
 }
 
-impl<const C: usize, const M: usize> FarSink<C, M> for Taken<C, M> {
+// The far beats of a run have the form of a script with the two widths exchanged: those of A, C and E
+// are on `M` lanes, those of B and D on `C` (this project's choice).
+impl<const C: usize, const M: usize> FarSink<C, M> for Script<M, C> {
     ghost Holds = { λ t far. beats_of t ≡ far };
 
     ghost HasRoom = { HaveCapacity };

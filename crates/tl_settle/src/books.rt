@@ -176,20 +176,6 @@ impl<const M: usize, A: Allocator> ManagerBook<M, A> {
     }
 }
 
-/// Creates the books of both sides of a new bridge, on buses of `C` and `M` bytes. Returns the
-/// client's and the manager's. Errors: `OutOfMemory` if the allocator fails for one of their
-/// tables.
-pub fn new_books<const C: usize, const M: usize, A: Allocator + Copy>(
-    alloc: A,
-) -> Result<(ClientBook<C, A>, ManagerBook<M, A>), OutOfMemory>
-    ensures client { IfOk result (λ books. KnowsClient {w = C} books.0 []) }
-    ensures manager { IfOk result (λ books. KnowsManager {w = M} books.1 []) }
-{
-    let client = ClientBook::new(alloc)?;
-    let manager = ManagerBook::new(alloc)?;
-    Ok((client, manager))
-}
-
 // Returns whether a message of D is ReleaseAck, which responds to no request.
 fn is_release_ack(head: &HeadD) -> bool
     ensures { result ≡ Rattle.tl_settle.specs.Requests.is_release_ack head.now }

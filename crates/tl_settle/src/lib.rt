@@ -6,5 +6,5 @@ mod books;
 pub mod laws;
 mod tables;
 
-pub use books::{ClientBook, ManagerBook, new_books};
+pub use books::{ClientBook, ManagerBook};
 pub use tables::{Request, RequestTable, SourceTable};

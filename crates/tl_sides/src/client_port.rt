@@ -44,7 +44,7 @@ impl<const C: usize, const M: usize, A: Allocator> Model for ClientPort<C, M, A>
 impl<const C: usize, const M: usize, A: Allocator> ClientPort<C, M, A> {
     /// Creates the port of a new side from its book. It has no precondition on the widths; its
     /// postconditions apply only to valid ones.
-    pub fn over(book: ClientBook<C, A>) -> Self
+    pub fn with_book(book: ClientBook<C, A>) -> Self
         ensures stands { IsWidth C → IsWidth M → KnowsClient {w = C} book [] → ClientStands {C = C} {M = M} result client_new }
         ensures ready_a { IsOpen result.a }
         ensures ready_c { IsOpen result.c }

@@ -268,9 +268,9 @@ impl<const C: usize, const M: usize, A: Allocator> ClientSide<C, M, A> {
         } = port;
         FinishedClient {
             a: finish(out_a, a),
-            b: TakeEnd::over(in_b, b),
+            b: TakeEnd::from_parts(in_b, b),
             c: finish(out_c, c),
-            d: TakeEnd::over(in_d, d),
+            d: TakeEnd::from_parts(in_d, d),
             e: finish(out_e, e),
         }
     }
@@ -298,7 +298,7 @@ impl<const C: usize, const M: usize, A: Allocator> ClientSide<C, M, A> {
     /// B and D. Each number is exact if it is below 2^63.
     pub fn totals(&self) -> PerChannel<u64>
         ensures totals { result ≡ client_totals self.now }
-        // for every past that the side stands for
+        // for every past that the side represents
         ensures exact { (x : ClientPast C M) → ClientStandsFor self.now x → CountClient result x }
     {
         PerChannel {

@@ -8,7 +8,7 @@ ghost use Rattle.tl_sides.specs.Inner.Making.{IsMade};
 use std::alloc::Allocator;
 use tl_msg::Channel;
 use tl_ring::{BuildFault, Ring, SendHalf, TakeHalf};
-use tl_settle::{ClientBook, ManagerBook, new_books};
+use tl_settle::{ClientBook, ManagerBook};
 
 /// The two halves of a ring.
 pub(crate) type Halves<K, const V: usize, A> = (SendHalf<K, V, A>, TakeHalf<K, V, A>);
@@ -80,7 +80,16 @@ pub(crate) fn new_parts<
     let c = given!(RingC::new_ring(alloc, ring), a, b);
     let d = given!(RingD::new_ring(alloc, ring), a, b, c);
     let e = given!(RingE::new_ring(alloc, ring), a, b, c, d);
-    let Ok((client, manager)) = new_books(alloc) else {
+    // (one result for each book, because a result of both would be a type for each pair of widths)
+    let Ok(client) = ClientBook::new(alloc) else {
+        a.discard();
+        b.discard();
+        c.discard();
+        d.discard();
+        e.discard();
+        return Err(BuildFault::OutOfMemory);
+    };
+    let Ok(manager) = ManagerBook::new(alloc) else {
         a.discard();
         b.discard();
         c.discard();

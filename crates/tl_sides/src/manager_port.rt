@@ -43,7 +43,7 @@ impl<const C: usize, const M: usize, A: Allocator> Model for ManagerPort<C, M, A
 impl<const C: usize, const M: usize, A: Allocator> ManagerPort<C, M, A> {
     /// Creates the port of a new side from its book. It has no precondition on the widths; its
     /// postconditions apply only to valid ones.
-    pub fn over(book: ManagerBook<M, A>) -> Self
+    pub fn with_book(book: ManagerBook<M, A>) -> Self
         ensures stands { IsWidth C → IsWidth M → KnowsManager {w = M} book [] → ManagerStands {C = C} {M = M} result manager_new }
         ensures ready_b { IsOpen result.b }
         ensures ready_d { IsOpen result.d }

@@ -256,11 +256,11 @@ impl<const C: usize, const M: usize, A: Allocator> ManagerSide<C, M, A> {
             book: _,
         } = port;
         FinishedManager {
-            a: TakeEnd::over(in_a, a),
+            a: TakeEnd::from_parts(in_a, a),
             b: finish(out_b, b),
-            c: TakeEnd::over(in_c, c),
+            c: TakeEnd::from_parts(in_c, c),
             d: finish(out_d, d),
-            e: TakeEnd::over(in_e, e),
+            e: TakeEnd::from_parts(in_e, e),
         }
     }
 
@@ -290,7 +290,7 @@ impl<const C: usize, const M: usize, A: Allocator> ManagerSide<C, M, A> {
     /// A, C and E. Each number is exact if it is below 2^63.
     pub fn totals(&self) -> PerChannel<u64>
         ensures totals { result ≡ manager_totals self.now }
-        // for every past that the side stands for
+        // for every past that the side represents
         ensures exact { (y : ManagerPast C M) → ManagerStandsFor self.now y → CountManager result y }
     {
         PerChannel {

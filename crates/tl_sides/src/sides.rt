@@ -18,7 +18,7 @@ use crate::manager_side::ManagerSide;
 use crate::sync_bridge::Standings;
 use std::alloc::Allocator;
 use tl_msg::{ChA, ChB, ChC, ChD, ChE};
-use tl_ring::{BuildFault, RingReader, Standing, look};
+use tl_ring::{BuildFault, RingReader, Standing, observe_both};
 
 // Creates both sides from the halves of their rings and their books. Has no precondition on the
 // widths; its postconditions apply only to valid ones.
@@ -43,20 +43,20 @@ fn sides_over<const C: usize, const M: usize, A: Allocator>(
 {
     let ((a, a_take), (b, b_take), (c, c_take), (d, d_take), (e, e_take), client, manager) = parts;
     let client = ClientSide {
-        port: ClientPort::over(client),
+        port: ClientPort::with_book(client),
         a,
-        b: RingReader::over(b_take),
+        b: RingReader::from_half(b_take),
         c,
-        d: RingReader::over(d_take),
+        d: RingReader::from_half(d_take),
         e,
     };
     let manager = ManagerSide {
-        port: ManagerPort::over(manager),
-        a: RingReader::over(a_take),
+        port: ManagerPort::with_book(manager),
+        a: RingReader::from_half(a_take),
         b,
-        c: RingReader::over(c_take),
+        c: RingReader::from_half(c_take),
         d,
-        e: RingReader::over(e_take),
+        e: RingReader::from_half(e_take),
     };
     (client, manager)
 }
@@ -140,10 +140,10 @@ pub fn meet_sides<const C: usize, const M: usize, A: Allocator>(
         ClientStandsFor client.old x → ManagerStandsFor manager.old y →
         SidesMeet client.new manager.new x y }
 {
-    let a = look(&mut client.a, &mut manager.a.half);
-    let b = look(&mut manager.b, &mut client.b.half);
-    let c = look(&mut client.c, &mut manager.c.half);
-    let d = look(&mut manager.d, &mut client.d.half);
-    let e = look(&mut client.e, &mut manager.e.half);
+    let a = observe_both(&mut client.a, &mut manager.a.half);
+    let b = observe_both(&mut manager.b, &mut client.b.half);
+    let c = observe_both(&mut client.c, &mut manager.c.half);
+    let d = observe_both(&mut manager.d, &mut client.d.half);
+    let e = observe_both(&mut client.e, &mut manager.e.half);
     standings_between(&client.port, &manager.port, a, b, c, d, e)
 }

@@ -82,8 +82,8 @@ fn bridge_over<const C: usize, const M: usize, A: Allocator>(
 {
     let (a, b, c, d, e, client, manager) = parts;
     SyncBridge {
-        client: ClientPort::over(client),
-        manager: ManagerPort::over(manager),
+        client: ClientPort::with_book(client),
+        manager: ManagerPort::with_book(manager),
         a,
         b,
         c,

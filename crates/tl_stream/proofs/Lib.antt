@@ -4,5 +4,5 @@ pub mod Between
 pub mod ToRead
 mod Reading
 mod Filling
-mod Listening
+mod Consuming
 mod Writing

@@ -13,7 +13,7 @@ pub use Rattle.tl_lanes.proofs.Widths.{width_bounds}
 pub use Rattle.tl_lanes.specs.Lanes.{IsWidth}
 pub use Rattle.tl_stream.specs.Inner.Lines.{HasReadHeld, HasUsedHeader, IsBetweenPast, IsReading}
 pub use Rattle.tl_stream.specs.Inputs.{HasTaken, IsRefused, held, IsFresh, ReadsScript, unread_of, most_bytes}
-pub use Rattle.tl_stream.specs.Listening.{IsNew, IsReadThrough, AreFew}
+pub use Rattle.tl_stream.specs.Consuming.{IsNew, IsReadThrough, AreFew}
 pub use Rattle.tl_stream.specs.declared.fault.TextFault.{TextFault}
 pub use Rattle.tl_stream.specs.declared.input.Input.{Input}
 pub use Rattle.tl_trace.specs.Faults.{IsFirstFault, is_newline, header_of, HasHeader}

@@ -2,4 +2,4 @@ pub mod Reading
 pub mod Filling
 pub mod Lines
 pub mod Keeping
-pub mod Hearing
+pub mod Consuming

@@ -1,5 +1,5 @@
 pub mod Faults
 pub mod Inputs
-pub mod Listening
+pub mod Consuming
 pub mod Statuses
 pub mod Inner

@@ -1,7 +1,7 @@
-//! A listener that keeps all beats.
+//! A consumer that keeps all beats.
 ghost use Rattle.tl_stream.specs.Inner.Keeping.{Keeps, KeepsEach};
 
-use crate::listener::Listener;
+use crate::beat_consumer::BeatConsumer;
 use std::alloc::AllocError;
 use tl_trace::{Counts, Script};
 
@@ -9,12 +9,12 @@ use tl_trace::{Counts, Script};
 #[derive(Drop)]
 pub(crate) struct KeepAll;
 
-impl<const C: usize, const M: usize> Listener<KeepAll, C, M> for KeepAll {
-    ghost Listens = { Keeps };
+impl<const C: usize, const M: usize> BeatConsumer<KeepAll, C, M> for KeepAll {
+    ghost HasConsumed = { Keeps };
 
-    ghost Hears = { KeepsEach };
+    ghost ConsumesOn = { KeepsEach };
 
-    fn hear(&mut self, _held: &Script<C, M>) -> Result<Counts, AllocError> {
+    fn consume(&mut self, _held: &Script<C, M>) -> Result<Counts, AllocError> {
         Ok(Counts {
             a: 0,
             b: 0,

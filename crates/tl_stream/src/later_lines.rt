@@ -1,17 +1,17 @@
-//! Passes the near beats of a text to a listener while it is read.
+//! Passes the near beats of a text to a consumer while it is read.
 ghost use Rattle.std.specs.Prelude.{ℕ, ◌≤◌, length, IfOk, IfErr};
 ghost use Rattle.tl_lanes.specs.Lanes.{IsWidth};
 ghost use Rattle.tl_trace.specs.Faults.{HasHeader};
 ghost use Rattle.tl_trace.specs.Scripts.{Discarded};
 ghost use Rattle.tl_stream.specs.Inner.Lines.{IsBeginning, IsReading, ReadsHeld, UsesHeader};
-ghost use Rattle.tl_stream.specs.Inner.Hearing.{CanHear, ReadsThrough};
-ghost use Rattle.tl_stream.specs.Listening.{IsNew, IsReadThrough};
+ghost use Rattle.tl_stream.specs.Inner.Consuming.{CanConsume, ReadsThrough};
+ghost use Rattle.tl_stream.specs.Consuming.{IsNew, IsReadThrough};
 ghost use Rattle.tl_stream.specs.Inputs.{IsFresh, IsRefused, ReadsScript, held, unread_of};
 
+use crate::beat_consumer::BeatConsumer;
 use crate::fault::TextFault;
 use crate::input::Input;
 use crate::keep_all::KeepAll;
-use crate::listener::Listener;
 use std::alloc::Global;
 use std::io::Read;
 use tl_trace::{Script, ScriptReader, TraceFault, TraceKind, line_end};
@@ -57,49 +57,49 @@ fn read_held<const C: usize, const M: usize>(
     }
 }
 
-/// Reads the whole lines that the input holds, like `read_held`, and proves for a listener, which
-/// is not called here, that `hear` may be called.
+/// Reads the whole lines that the input holds, like `read_held`, and proves for a consumer, which
+/// is not called here, that `consume` may be called.
 #[inline(always)]
-fn read_on<By, L: Listener<By, C, M>, const C: usize, const M: usize>(
+fn read_on<By, L: BeatConsumer<By, C, M>, const C: usize, const M: usize>(
     lines: &mut ScriptReader<C, M>,
     input: &mut Input,
-    _listener: &L,
+    _consumer: &L,
 ) -> Result<bool, TextFault>
-    requires { IsReading lines.old input.old × CanHear L.Listens lines.old input.old _listener.now }
+    requires { IsReading lines.old input.old × CanConsume L.HasConsumed lines.old input.old _consumer.now }
     ensures read { ReadsHeld lines.old input.old lines.new input.new result }
-    ensures hear { IfOk result (λ _. IsWidth C × IsWidth M ×
-        ((version : ℕ) × (discarded : Discarded C M) × L.Listens version _listener.now discarded lines.new.script)) }
+    ensures consume { IfOk result (λ _. IsWidth C × IsWidth M ×
+        ((version : ℕ) × (discarded : Discarded C M) × L.HasConsumed version _consumer.now discarded lines.new.script)) }
 {
     read_held(lines, input)
 }
 
 /// Reads a text to its end, incrementally. The input holds its first piece, nothing of it was used,
-/// and no line was read yet. After each piece except the last one, the listener advances over the
+/// and no line was read yet. After each piece except the last one, the consumer advances over the
 /// beats that were read, and the beats that it no longer needs are removed.
 ///
-/// Errors: as `script_of_input`, and `OutOfMemory` if the listener fails.
+/// Errors: as `script_of_input`, and `OutOfMemory` if the consumer fails.
 #[inline(never)]
-fn read_pieces<R: Read, By, L: Listener<By, C, M>, const C: usize, const M: usize>(
+fn read_pieces<R: Read, By, L: BeatConsumer<By, C, M>, const C: usize, const M: usize>(
     reader: &mut R,
     input: &mut Input,
     lines: &mut ScriptReader<C, M>,
-    listener: &mut L,
+    consumer: &mut L,
 ) -> Result<(), TextFault>
-    requires { IsBeginning L.Listens (R.remaining reader.old) input.old lines.old listener.old }
-    ensures { ReadsThrough (L.Listens lines.old.version)
+    requires { IsBeginning L.HasConsumed (R.remaining reader.old) input.old lines.old consumer.old }
+    ensures { ReadsThrough (L.HasConsumed lines.old.version)
         (unread_of input.old (R.remaining reader.old)) (R.remaining reader.new)
-        lines.old.version listener.new lines.new.script input.new result }
+        lines.old.version consumer.new lines.new.script input.new result }
 {
     if let Err(fault) = use_header(input) {
         return Err(fault);
     }
     'pieces: loop {
-        match read_on::<By, L, C, M>(lines, input, listener) {
+        match read_on::<By, L, C, M>(lines, input, consumer) {
             Ok(true) => {}
             Ok(false) => return Ok(()),
             Err(fault) => return Err(fault),
         }
-        match listener.hear(&lines.script) {
+        match consumer.consume(&lines.script) {
             Ok(counts) => lines.remove_front(&counts),
             Err(_) => return Err(TextFault::OutOfMemory),
         }
@@ -110,28 +110,28 @@ fn read_pieces<R: Read, By, L: Listener<By, C, M>, const C: usize, const M: usiz
 }
 
 /// Reads a text to its end, incrementally. Its header names this version and these widths. The
-/// input holds its first piece, nothing of it was used, and the listener is new. After each piece
-/// except the last one, the listener advances over the beats that were read, and the beats that it
+/// input holds its first piece, nothing of it was used, and the consumer is new. After each piece
+/// except the last one, the consumer advances over the beats that were read, and the beats that it
 /// no longer needs are removed. Returns the beats of the script that are left at the end.
 ///
-/// Errors: as [`script_of_input`], and `OutOfMemory` if the listener fails.
-pub fn read_through<R: Read, By, L: Listener<By, C, M>, const C: usize, const M: usize>(
+/// Errors: as [`script_of_input`], and `OutOfMemory` if the consumer fails.
+pub fn read_through<R: Read, By, L: BeatConsumer<By, C, M>, const C: usize, const M: usize>(
     alloc: Global,
     reader: &mut R,
     input: &mut Input,
     version: u8,
-    listener: &mut L,
+    consumer: &mut L,
 ) -> Result<Script<C, M>, TextFault>
     requires { IsFresh (R.remaining reader.old) input.old ×
-        HasHeader (held input.old) version C M × IsNew (L.Listens version) listener.old }
-    ensures ok { IfOk result (IsReadThrough (L.Listens version)
+        HasHeader (held input.old) version C M × IsNew (L.HasConsumed version) consumer.old }
+    ensures ok { IfOk result (IsReadThrough (L.HasConsumed version)
         (unread_of input.old (R.remaining reader.old)) (R.remaining reader.new)
-        version listener.new) }
+        version consumer.new) }
     ensures err { IfErr result (IsRefused
         (unread_of input.old (R.remaining reader.old)) (R.remaining reader.new) input.new) }
 {
     let mut lines = ScriptReader::<C, M>::new(alloc, version);
-    match read_pieces::<R, By, L, C, M>(reader, input, &mut lines, listener) {
+    match read_pieces::<R, By, L, C, M>(reader, input, &mut lines, consumer) {
         Ok(()) => Ok(lines.script),
         Err(fault) => Err(fault),
     }

@@ -195,11 +195,10 @@ fn push_with_diagnostics<const C: usize, const M: usize>(
 /// Reads a text incrementally, from its lines directly into the lists of a script. It builds no
 /// trace, and the text never has to be in memory as a whole.
 ///
-/// In contracts it stands for the part of the text that it has read, which consists of whole lines,
-/// including the header (`HasRead`). None of these lines has a fault, and the script has their
-/// beats, except for those that were removed (`HasReadPast`). `read` takes the whole lines of a
-/// piece. The caller puts the bytes that it leaves before the next piece; at the end of the text,
-/// `end_fault` judges them.
+/// In contracts it represents the part of the text that it has read: whole lines, including the
+/// header (`HasRead`). None of these lines has a fault, and the script has their beats, except for
+/// those that were removed (`HasReadPast`). `read` takes the whole lines of a piece. The caller puts
+/// the bytes that it leaves before the next piece; at the end of the text, `end_fault` judges them.
 #[derive(Drop)]
 pub struct ScriptReader<const C: usize, const M: usize> {
     /// The beats of the lines that were read, without those that were removed.
@@ -278,8 +277,8 @@ impl<const C: usize, const M: usize> ScriptReader<C, M> {
     /// [`LONGEST_LINE`](crate::LONGEST_LINE).
     ///
     /// Errors: the first fault of the text, whatever comes after the piece; or `OutOfMemory`, which
-    /// names the line after those that were read. Afterwards the reader stands for the lines before
-    /// the line that is named, including those of this piece. Requires: the version is 1 or 2, `C`
+    /// names the line after those that were read. Afterwards the reader represents the lines
+    /// before the line that is named, including those of this piece. Requires: the version is 1 or 2, `C`
     /// and `M` are at most `WIDEST`, and the line numbers stay below `2^64`.
     pub fn read(&mut self, piece: &[u8]) -> Result<usize, TraceFault>
         requires version { is_version self.old.version ≡ true }
@@ -292,7 +291,7 @@ impl<const C: usize, const M: usize> ScriptReader<C, M> {
         ensures rest { IfOk result (λ used. IsUnfinished (drop used piece.now)) }
         ensures grown { IsOk result → HasGrown self.old.script self.new.script }
 
-        // for every part of the text that it stood for, and the beats that were removed
+        // for every part of the text that it represents, and the beats that were removed
         ensures told { (done : List ℕ) (discarded : Discarded C M) →
             HasReadPast self.old.version done discarded self.old.script self.old.line →
             IfOk result (λ used. HasReadPast self.old.version (done ++ take used piece.now) discarded
@@ -316,7 +315,7 @@ impl<const C: usize, const M: usize> ScriptReader<C, M> {
         }
     }
 
-    /// Removes the first `counts` beats of each list. The reader still stands for the same text
+    /// Removes the first `counts` beats of each list. The reader still represents the same text
     /// (`HasReadPast`). Requires: each list has at least as many beats as are removed.
     pub fn remove_front(&mut self, counts: &Counts)
         requires client { C ≤ WIDEST }
@@ -344,7 +343,7 @@ impl<const C: usize, const M: usize> ScriptReader<C, M> {
         ensures none { result ≡ None → rest.now ≡ [] }
         ensures kind { IfSome result (λ e. e.kind ≢ OutOfMemory) }
 
-        // for every part of the text that it stood for, and the beats that were removed
+        // for every part of the text that it represents, and the beats that were removed
         ensures fault { (done : List ℕ) (discarded : Discarded C M) →
             HasReadPast self.now.version done discarded self.now.script self.now.line →
             IfSome result (λ e. IsFirstFault (done ++ rest.now) e.line e.kind) }

@@ -8,7 +8,7 @@ use Rattle.tl_run.specs.Parts.{AreGoing, ArePart, AreWaiting}
 use Rattle.tl_run.specs.Stopping.{AreStuck}
 use Rattle.tl_check.specs.Judging.{CanJudge, HasJudged, places}
 use Rattle.tl_check.specs.declared.judge.Judge.{Judge}
-use Rattle.tl_answer.specs.Inner.Listening.{GoesWith}
+use Rattle.tl_answer.specs.Inner.Consuming.{GoesWith}
 
 abbrev pub Judges : {C M : ℕ} → (version : ℕ) → Judge C M → Discarded C M → Script C M → Type 0
 Judges version judge discarded s = GoesWith judge.discarded (CanJudge judge) (λ beats. HasJudged beats judge) discarded s

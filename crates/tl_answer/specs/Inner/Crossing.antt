@@ -8,7 +8,7 @@ use Rattle.tl_run.specs.Parts.{AreGoing, ArePart, AreWaiting}
 use Rattle.tl_run.specs.Stopping.{AreStuck}
 use Rattle.tl_run.specs.Streaming.{CanRun, HasRun}
 use Rattle.tl_answer.specs.Inner.FarTexts.{HasLines}
-use Rattle.tl_answer.specs.Inner.Listening.{GoesWith}
+use Rattle.tl_answer.specs.Inner.Consuming.{GoesWith}
 use Rattle.tl_answer.specs.declared.crossing.Crossing.{Crossing}
 
 -- it writes the lines in this version

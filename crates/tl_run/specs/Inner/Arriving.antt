@@ -8,7 +8,7 @@ use Rattle.tl_convert.specs.Accepted.{accepted_of}
 use Rattle.tl_settle.specs.Outcomes.{Beats}
 use Rattle.tl_sides.specs.declared.per_channel.PerChannel.{PerChannel}
 pub use Rattle.tl_run.specs.Arrivals.{HasRoom, HaveRoom}
-use Rattle.tl_run.specs.declared.taken.Taken.{Taken}
+use Rattle.tl_trace.specs.declared.script.Script.{Script}
 
 -- the number of beats that the longest well-formed first part of a list makes due, whatever the homes are
 abbrev pub IsDueCount : {H : Type 0} (r : Rules H) {w : ℕ} (v : ℕ) → (bs : List (BeatOf H w)) → (count : ℕ) → Type 0
@@ -25,16 +25,16 @@ module _ {C M : ℕ} where
     pub of_e : IsDueCount rules_e M near.e count.e
 
   -- the beats that were taken
-  abbrev pub beats_of : Taken C M → Beats M C
+  abbrev pub beats_of : Script M C → Beats M C
   beats_of t = record { a = t.a.items; b = t.b.items; c = t.c.items; d = t.d.items; e = t.e.items }
 
   -- the lists have that much
-  abbrev pub HasRoomFor : Beats C M → Taken C M → Type 0
+  abbrev pub HasRoomFor : Beats C M → Script M C → Type 0
   HasRoomFor near t = HaveRoom near
       (record { a = vec_capacity t.a; b = vec_capacity t.b; c = vec_capacity t.c; d = vec_capacity t.d; e = vec_capacity t.e })
 
   -- the lists have at least this capacity
-  pub record HaveCapacity (t : Taken C M) (room : PerChannel ℕ) : Type 0 where
+  pub record HaveCapacity (t : Script M C) (room : PerChannel ℕ) : Type 0 where
     pub a : room.a ≤ vec_capacity t.a
     pub b : room.b ≤ vec_capacity t.b
     pub c : room.c ≤ vec_capacity t.c

@@ -1,4 +1,4 @@
--- The state of a listener that keeps all beats of a trace. Only private contracts use these words.
+-- The state of a consumer that keeps all beats of a trace. Only private contracts use these words.
 use Rattle.std.specs.Prelude.{◌≡◌, ℕ}
 use Rattle.tl_trace.specs.Scripts.{Discarded, none_gone}
 use Rattle.tl_trace.specs.declared.script.Script.{Script}

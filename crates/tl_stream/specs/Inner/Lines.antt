@@ -7,16 +7,16 @@ use Rattle.tl_trace.specs.Texts.{is_version}
 use Rattle.tl_trace.specs.declared.script.Script.{Script}
 use Rattle.tl_trace.specs.declared.script_reader.ScriptReader.{ScriptReader}
 use Rattle.tl_stream.specs.Inputs.{HasTaken, IsFresh, IsRefused, held, unread_of}
-use Rattle.tl_stream.specs.Listening.{IsNew}
+use Rattle.tl_stream.specs.Consuming.{IsNew}
 use Rattle.tl_stream.specs.declared.fault.TextFault.{TextFault}
 use Rattle.tl_stream.specs.declared.input.Input.{Input}
 
 -- the input holds the beginning of a text whose header names the version and the widths, and no line was read yet; each
 -- part is stated as the caller knows it, so that it is found there
-abbrev pub IsBeginning : {L : Type 0} {C M : ℕ} (Listens : ℕ → L → Discarded C M → Script C M → Type 0) (left : Option (List ℕ)) (input : Input)
-    (lines : ScriptReader C M) (listener : L) → Type 0
-IsBeginning {L} {C} {M} Listens left input lines listener =
-    (version : ℕ) × (lines.version ≡ version) × IsFresh left input × HasHeader (held input) version C M × IsNew (Listens version) listener ×
+abbrev pub IsBeginning : {L : Type 0} {C M : ℕ} (HasConsumed : ℕ → L → Discarded C M → Script C M → Type 0) (left : Option (List ℕ)) (input : Input)
+    (lines : ScriptReader C M) (consumer : L) → Type 0
+IsBeginning {L} {C} {M} HasConsumed left input lines consumer =
+    (version : ℕ) × (lines.version ≡ version) × IsFresh left input × HasHeader (held input) version C M × IsNew (HasConsumed version) consumer ×
     ((text : List ℕ) → IsHeaderLine text version C M → HasRead version text lines.script lines.line)
 
 -- the lines that were read are the bytes of the text that were used, and these beats were removed

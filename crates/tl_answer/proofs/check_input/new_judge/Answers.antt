@@ -1,5 +1,5 @@
 use Rattle.tl_answer.proofs.Names.{CanJudge, HasJudged}
-use Rattle.tl_answer.proofs.Listening.{new-goes, short-lists}
+use Rattle.tl_answer.proofs.Consuming.{new-goes, short-lists}
 use Rattle.tl_answer.proofs.check_input.new_judge.Goals as goal
 
 pub returns : goal.returns

@@ -1,6 +1,6 @@
 use Rattle.tl_answer.proofs.Names.{lit<, none_gone}
 use Rattle.tl_answer.proofs.CrossingSize.{crossing_small}
-use Rattle.tl_answer.proofs.Listening.{none-gone}
+use Rattle.tl_answer.proofs.Consuming.{none-gone}
 use Rattle.tl_answer.proofs.sync_answer.sync_run_of.Goals as goal
 
 pub end-answer-requires : goal.end-answer-requires

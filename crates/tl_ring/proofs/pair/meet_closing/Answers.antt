@@ -8,11 +8,11 @@ use Rattle.tl_ring.specs.contracts.ends.TakeEnd as take
 use Rattle.tl_ring.proofs.FieldSizes.{part_small, inner_small, beat_in_queue}
 use Rattle.tl_ring.proofs.pair.meet_closing.Goals as goal
 
-pub look-in_ring-requires-room-P-Protocol : goal.look-in_ring-requires-room-P-Protocol
-look-in_ring-requires-room-P-Protocol g c κs within = omega arith
+pub observe_both-in_ring-requires-room-P-Protocol : goal.observe_both-in_ring-requires-room-P-Protocol
+observe_both-in_ring-requires-room-P-Protocol g c κs within = omega arith
 
-pub look-in_ring-requires-room-P-Protocol-2 : goal.look-in_ring-requires-room-P-Protocol-2
-look-in_ring-requires-room-P-Protocol-2 g c κs within =
+pub observe_both-in_ring-requires-room-P-Protocol-2 : goal.observe_both-in_ring-requires-room-P-Protocol-2
+observe_both-in_ring-requires-room-P-Protocol-2 g c κs within =
     beat_in_queue (lone g.row.K-Head.mir) (layout g.row.K-Head) g.row.V 9223372036854775808
     (inner_small (layout (take.the_row (param 0 g.row.K) (param 1 (number g.row.W)) (param 2 (number g.row.V)) (param 3 g.row.A)
     (copied 4 g.row.K-Head) g.K.Channel g.K.Head.Clone g.K.Head.Eq g.K.Head.PartialEq g.K.Head.Default g.A.Allocator)) 0 0 9223372036854775808
@@ -30,7 +30,7 @@ between-requires g c = (
 
 pub returns : goal.returns
 returns g c =
-    let seen = c.look-in_ring in
+    let seen = c.observe_both-in_ring in
     let stand = c.between.ensures in
     let pair = rw (← c.send.view_is, ← c.take.view_is) at c.requires in
     let s = sending_of c.send.inside.outbox c.send.inside.producer in

@@ -11,8 +11,8 @@ use Rattle.tl_ring.proofs.pair.ring_pair.Goals as goal
 pub invariant_of-result : goal.invariant_of-result
 invariant_of-result g c = c.new.ensures.ready.1
 
-pub over-requires : goal.over-requires
-over-requires g c =
+pub from_half-requires : goal.from_half-requires
+from_half-requires g c =
     let row = layout (take.the_row (param 0 g.row.K) (param 1 (number g.row.W)) (param 2 (number g.row.V)) (param 3 g.row.A) (copied 4 g.row.K-Head)
     g.K.Channel g.K.Head.Clone g.K.Head.Eq g.K.Head.PartialEq g.K.Head.Default g.A.Allocator) in
     let size = c.requires-raw.1.1.1.1.1.1.0 in
@@ -42,11 +42,11 @@ pub returns-in-Ok : goal.returns-in-Ok
 returns-in-Ok g c =
     let new = c.in-Ok.ensures.new in
     record {
-      pair = rw c.over.ensures new.pair;
+      pair = rw c.from_half.ensures new.pair;
       send = sends_new g.K.Channel.rules g.met.K.Channel.partial_masked _ c.args.ring new.some_room
           (c.new.ensures.stands c.requires.near c.requires.far) c.new.ensures.ready.0 new.none_sent new.room c.new.ensures.ready.1;
-      take = rw (c.over.ensures, c.new-in-Ok.ensures) new.none_received;
-      known = rw c.over.ensures (new.all_free, new.none_known, c.new-in-Ok.ensures);
+      take = rw (c.from_half.ensures, c.new-in-Ok.ensures) new.none_received;
+      known = rw c.from_half.ensures (new.all_free, new.none_known, c.new-in-Ok.ensures);
       size = λ made. c.in-Ok.ensures.size refl;
       ring_size = tt;
     }

@@ -15,7 +15,7 @@ returns-clause-outcome g c = λ near s ended.
           c.args.far.d.ok.0,
       c.len-5.ensures ∙ c.args.far.e.ok.0,
     ) refl in
-    c.into_outcome.ensures.ends near
+    c.outcome_of.ensures.ends near
     (c.verdicts_at-verdicts.ensures g.row.C g.row.M near far s end.rounds c.requires.client c.requires.manager counts ended)
     (rounds-few c.requires.client c.requires.manager near end.at far s end.stops end.rounds ended)
     (far-is c.requires.client c.requires.manager near end.at far s end.stops end.rounds ended)

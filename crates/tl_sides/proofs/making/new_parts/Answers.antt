@@ -117,8 +117,8 @@ returns g c = record {
       c.in-Ok-new_ring-3.ensures.new,
       c.in-Ok-new_ring-4.ensures.new,
     ),
-    c.in-Ok-new_books.ensures.client,
-    c.in-Ok-new_books.ensures.manager,
+    c.in-Ok-new.ensures,
+    c.in-Ok-new-2.ensures,
   );
   size = λ made. c.in-Ok.ensures.size refl;
   ring_size = tt;

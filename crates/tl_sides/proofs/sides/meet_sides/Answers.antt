@@ -11,52 +11,52 @@ use Rattle.tl_sides.proofs.Layouts.{client_side_layout, manager_side_layout, par
 use Rattle.tl_sides.proofs.SideSteps.{sides_inside, sides_met, ends_meet}
 use Rattle.tl_sides.proofs.sides.meet_sides.Goals as goal
 
-pub look-a-requires : goal.look-a-requires
-look-a-requires g c =
+pub observe_both-a-requires : goal.observe_both-a-requires
+observe_both-a-requires g c =
     (sides_inside c.client.view_is c.manager.view_is c.requires).a
 
-pub look-b-requires : goal.look-b-requires
-look-b-requires g c =
+pub observe_both-b-requires : goal.observe_both-b-requires
+observe_both-b-requires g c =
     (sides_inside c.client.view_is c.manager.view_is c.requires).b
 
-pub look-c-requires : goal.look-c-requires
-look-c-requires g c =
+pub observe_both-c-requires : goal.observe_both-c-requires
+observe_both-c-requires g c =
     (sides_inside c.client.view_is c.manager.view_is c.requires).c
 
-pub look-d-requires : goal.look-d-requires
-look-d-requires g c =
+pub observe_both-d-requires : goal.observe_both-d-requires
+observe_both-d-requires g c =
     (sides_inside c.client.view_is c.manager.view_is c.requires).d
 
-pub look-e-requires : goal.look-e-requires
-look-e-requires g c =
+pub observe_both-e-requires : goal.observe_both-e-requires
+observe_both-e-requires g c =
     (sides_inside c.client.view_is c.manager.view_is c.requires).e
 
-pub look-a-requires-room-P-Protocol-2 : goal.look-a-requires-room-P-Protocol-2
-look-a-requires-room-P-Protocol-2 g c κs within =
+pub observe_both-a-requires-room-P-Protocol-2 : goal.observe_both-a-requires-room-P-Protocol-2
+observe_both-a-requires-room-P-Protocol-2 g c κs within =
     beat_in_queue (lone head_a.the_row.mir) (layout head_a.the_row) g.row.M 9223372036854775808
     (part_small (part (part (client_side_layout g.row.C g.row.M g.row.A g.A.Allocator) 0) 0) 1 9223372036854775808
     (inner_small (client_side_layout g.row.C g.row.M g.row.A g.A.Allocator) 0 0 9223372036854775808 c.requires-raw.1.1.1.0))
 
-pub look-b-requires-room-P-Protocol-2 : goal.look-b-requires-room-P-Protocol-2
-look-b-requires-room-P-Protocol-2 g c κs within =
+pub observe_both-b-requires-room-P-Protocol-2 : goal.observe_both-b-requires-room-P-Protocol-2
+observe_both-b-requires-room-P-Protocol-2 g c κs within =
     beat_in_queue (lone head_b.the_row.mir) (layout head_b.the_row) g.row.C 9223372036854775808
     (part_small (part (part (manager_side_layout g.row.C g.row.M g.row.A g.A.Allocator) 0) 1) 1 9223372036854775808
     (inner_small (manager_side_layout g.row.C g.row.M g.row.A g.A.Allocator) 0 1 9223372036854775808 c.requires-raw.1.1.1.1.0))
 
-pub look-c-requires-room-P-Protocol-2 : goal.look-c-requires-room-P-Protocol-2
-look-c-requires-room-P-Protocol-2 g c κs within =
+pub observe_both-c-requires-room-P-Protocol-2 : goal.observe_both-c-requires-room-P-Protocol-2
+observe_both-c-requires-room-P-Protocol-2 g c κs within =
     beat_in_queue (lone head_c.the_row.mir) (layout head_c.the_row) g.row.M 9223372036854775808
     (part_small (part (part (client_side_layout g.row.C g.row.M g.row.A g.A.Allocator) 0) 2) 1 9223372036854775808
     (inner_small (client_side_layout g.row.C g.row.M g.row.A g.A.Allocator) 0 2 9223372036854775808 c.requires-raw.1.1.1.0))
 
-pub look-d-requires-room-P-Protocol-2 : goal.look-d-requires-room-P-Protocol-2
-look-d-requires-room-P-Protocol-2 g c κs within =
+pub observe_both-d-requires-room-P-Protocol-2 : goal.observe_both-d-requires-room-P-Protocol-2
+observe_both-d-requires-room-P-Protocol-2 g c κs within =
     beat_in_queue (lone head_d.the_row.mir) (layout head_d.the_row) g.row.C 9223372036854775808
     (part_small (part (part (manager_side_layout g.row.C g.row.M g.row.A g.A.Allocator) 0) 3) 1 9223372036854775808
     (inner_small (manager_side_layout g.row.C g.row.M g.row.A g.A.Allocator) 0 3 9223372036854775808 c.requires-raw.1.1.1.1.0))
 
-pub look-e-requires-room-P-Protocol-2 : goal.look-e-requires-room-P-Protocol-2
-look-e-requires-room-P-Protocol-2 g c κs within =
+pub observe_both-e-requires-room-P-Protocol-2 : goal.observe_both-e-requires-room-P-Protocol-2
+observe_both-e-requires-room-P-Protocol-2 g c κs within =
     beat_in_queue (lone head_e.the_row.mir) (layout head_e.the_row) g.row.M 9223372036854775808
     (part_small (part (part (client_side_layout g.row.C g.row.M g.row.A g.A.Allocator) 0) 4) 1 9223372036854775808
     (inner_small (client_side_layout g.row.C g.row.M g.row.A g.A.Allocator) 0 4 9223372036854775808 c.requires-raw.1.1.1.0))
@@ -72,23 +72,23 @@ returns g c =
     let sides = sides_inside c.client.view_is c.manager.view_is c.requires in
     let n = c.standings_between.ensures in
     sides_met c.client.view_is c.manager.view_is _ _ _ _ _ _ _ _ _ _ _ _ _ _ _
-    (let l = c.look-a in ends_meet rules_a g.row.C _ _ _ _ _
+    (let l = c.observe_both-a in ends_meet rules_a g.row.C _ _ _ _ _
     (met_of _ _ l.new.producer l.new.consumer l.result sides.a l.ensures.producer l.ensures.consumer l.ensures.count
     l.ensures.fifo l.ensures.places)
     n.a.staged n.a.most.0 (n.a.in_ring ∙ l.ensures.count) n.a.inbox n.a.most.1)
-    (let l = c.look-b in ends_meet rules_b g.row.M _ _ _ _ _
+    (let l = c.observe_both-b in ends_meet rules_b g.row.M _ _ _ _ _
     (met_of _ _ l.new.producer l.new.consumer l.result sides.b l.ensures.producer l.ensures.consumer l.ensures.count
     l.ensures.fifo l.ensures.places)
     n.b.staged n.b.most.0 (n.b.in_ring ∙ l.ensures.count) n.b.inbox n.b.most.1)
-    (let l = c.look-c in ends_meet rules_c g.row.C _ _ _ _ _
+    (let l = c.observe_both-c in ends_meet rules_c g.row.C _ _ _ _ _
     (met_of _ _ l.new.producer l.new.consumer l.result sides.c l.ensures.producer l.ensures.consumer l.ensures.count
     l.ensures.fifo l.ensures.places)
     n.c.staged n.c.most.0 (n.c.in_ring ∙ l.ensures.count) n.c.inbox n.c.most.1)
-    (let l = c.look-d in ends_meet rules_d g.row.M _ _ _ _ _
+    (let l = c.observe_both-d in ends_meet rules_d g.row.M _ _ _ _ _
     (met_of _ _ l.new.producer l.new.consumer l.result sides.d l.ensures.producer l.ensures.consumer l.ensures.count
     l.ensures.fifo l.ensures.places)
     n.d.staged n.d.most.0 (n.d.in_ring ∙ l.ensures.count) n.d.inbox n.d.most.1)
-    (let l = c.look-e in ends_meet rules_e g.row.C _ _ _ _ _
+    (let l = c.observe_both-e in ends_meet rules_e g.row.C _ _ _ _ _
     (met_of _ _ l.new.producer l.new.consumer l.result sides.e l.ensures.producer l.ensures.consumer l.ensures.count
     l.ensures.fifo l.ensures.places)
     n.e.staged n.e.most.0 (n.e.in_ring ∙ l.ensures.count) n.e.inbox n.e.most.1)

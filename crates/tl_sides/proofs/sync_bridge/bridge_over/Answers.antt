@@ -3,21 +3,21 @@ use Rattle.tl_sides.proofs.Bridging.{new_bridge}
 use Rattle.tl_sides.proofs.sync_bridge.bridge_over.Goals as goal
 
 -- each port is a part of the result
-pub over-requires : goal.over-requires
-over-requires g c = (
+pub with_book-requires : goal.with_book-requires
+with_book-requires g c = (
   c.requires-raw.1.1.1.1.1.1.1.1.0,
   part_small (bridge_layout g.row.C g.row.M g.row.A g.A.Allocator) 0 9223372036854775808 c.requires-raw.1.1.1.1.1.1.1.1.1.1,
 )
 
-pub over-requires-2 : goal.over-requires-2
-over-requires-2 g c = (
+pub with_book-requires-2 : goal.with_book-requires-2
+with_book-requires-2 g c = (
   c.requires-raw.1.1.1.1.1.1.1.1.1.0,
   part_small (bridge_layout g.row.C g.row.M g.row.A g.A.Allocator) 1 9223372036854775808 c.requires-raw.1.1.1.1.1.1.1.1.1.1,
 )
 
 pub returns : goal.returns
 returns g c = λ ring some near far made knows_client knows_manager.
-    new_bridge c.over.result c.over-2.result c.args.parts.0 c.args.parts.1 c.args.parts.2 c.args.parts.3 c.args.parts.4 ring some made
-    (c.over.ensures.stands near far knows_client) (c.over-2.ensures.stands near far knows_manager)
-    (c.over.ensures.ready_a, c.over-2.ensures.ready_b, c.over.ensures.ready_c, c.over-2.ensures.ready_d, c.over.ensures.ready_e)
-    (c.over-2.ensures.empty_a, c.over.ensures.empty_b, c.over-2.ensures.empty_c, c.over.ensures.empty_d, c.over-2.ensures.empty_e)
+    new_bridge c.with_book.result c.with_book-2.result c.args.parts.0 c.args.parts.1 c.args.parts.2 c.args.parts.3 c.args.parts.4 ring some made
+    (c.with_book.ensures.stands near far knows_client) (c.with_book-2.ensures.stands near far knows_manager)
+    (c.with_book.ensures.ready_a, c.with_book-2.ensures.ready_b, c.with_book.ensures.ready_c, c.with_book-2.ensures.ready_d, c.with_book.ensures.ready_e)
+    (c.with_book-2.ensures.empty_a, c.with_book.ensures.empty_b, c.with_book-2.ensures.empty_c, c.with_book.ensures.empty_d, c.with_book-2.ensures.empty_e)

@@ -1,6 +1,6 @@
 use Rattle.tl_stream.proofs.Names.{Err, ap}
 use Rattle.tl_stream.proofs.Between.{held_size}
-use Rattle.tl_stream.proofs.Listening.{beginning_widths, begins, behind, goes-on, heard, read-through, refused-read}
+use Rattle.tl_stream.proofs.Consuming.{beginning_widths, begins, behind, goes-on, consumed, read-through, refused-read}
 use Rattle.tl_stream.proofs.ToRead.{part-short, smaller}
 use Rattle.tl_stream.proofs.later_lines.read_pieces.Goals as goal
 
@@ -11,8 +11,8 @@ pub returns-in-Err : goal.returns-in-Err
 returns-in-Err g c = c.in-Err.ensures _ _ _ _ c.requires.2 c.requires.3
 
 pub pieces-init : goal.pieces-init
-pieces-init g c = goes-on g.L.Listener.Listens _ _ _ c.args.lines.now c.use_header.new.input c.args.listener.now
-    (beginning_widths g.L.Listener.Listens c.requires) (begins g.L.Listener.Listens c.requires c.in_default.ensures)
+pieces-init g c = goes-on g.L.BeatConsumer.HasConsumed _ _ _ c.args.lines.now c.use_header.new.input c.args.consumer.now
+    (beginning_widths g.L.BeatConsumer.HasConsumed c.requires) (begins g.L.BeatConsumer.HasConsumed c.requires c.in_default.ensures)
 
 pub returns-in-Ok-false : goal.returns-in-Ok-false
 returns-in-Ok-false g c =
@@ -21,8 +21,8 @@ returns-in-Ok-false g c =
 pub returns-in-Err-read_on : goal.returns-in-Err-read_on
 returns-in-Err-read_on g c = c.in-Err-read_on.ensures.read _ _ c.pieces.invariant.0.discarded c.pieces.invariant.0.between
 
-pub returns-in-Err-hear : goal.returns-in-Err-hear
-returns-in-Err-hear g c = tt
+pub returns-in-Err-consume : goal.returns-in-Err-consume
+returns-in-Err-consume g c = tt
 
 pub returns-in-Err-refill : goal.returns-in-Err-refill
 returns-in-Err-refill g c =
@@ -44,9 +44,9 @@ pub pieces-preserved : goal.pieces-preserved
 pieces-preserved g c =
     let b = behind c.pieces.invariant.0 c.in-Ok-true.ensures.read in
     let went = c.remove_front.ensures in
-    goes-on g.L.Listener.Listens _ _ _ c.remove_front.new.self c.refill.new.self c.hear.new.self (beginning_widths g.L.Listener.Listens c.requires)
-    (heard b c.remove_front.new.self c.refill.new.self c.hear.new.self c.in-Ok.counts went.version went.told
-    (λ more grown few. c.in-Ok.ensures.on c.args.lines.now.version b.discarded b.listens c.remove_front.new.self.script more went.left grown few)
+    goes-on g.L.BeatConsumer.HasConsumed _ _ _ c.remove_front.new.self c.refill.new.self c.consume.new.self (beginning_widths g.L.BeatConsumer.HasConsumed c.requires)
+    (consumed b c.remove_front.new.self c.refill.new.self c.consume.new.self c.in-Ok.counts went.version went.told
+    (λ more grown few. c.in-Ok.ensures.on c.args.lines.now.version b.discarded b.has_consumed c.remove_front.new.self.script more went.left grown few)
     (c.in_default-refill.ensures.ok _ b.between.used b.between.taken))
 
 pub refill-requires : goal.refill-requires

@@ -3,8 +3,8 @@ use Rattle.tl_stream.proofs.later_lines.read_through.Goals as goal
 
 pub returns-in-Ok : goal.returns-in-Ok
 returns-in-Ok g c = record {
-  ok = subst (λ v. IsReadThrough (g.L.Listener.Listens v) (unread_of c.args.input.now (g.R.Read.remaining c.args.reader.now))
-      (g.R.Read.remaining c.read_pieces.new.reader) v c.read_pieces.new.listener c.read_pieces.new.lines.script)
+  ok = subst (λ v. IsReadThrough (g.L.BeatConsumer.HasConsumed v) (unread_of c.args.input.now (g.R.Read.remaining c.args.reader.now))
+      (g.R.Read.remaining c.read_pieces.new.reader) v c.read_pieces.new.consumer c.read_pieces.new.lines.script)
       c.new-lines.ensures.version c.in-Ok.ensures;
   err = tt;
 }

@@ -1,6 +1,6 @@
 use Rattle.tl_answer.proofs.Names.{IfOk, ◌≡◌, ◌∙◌, subst, list_all, Beats, CanRun, HasRun, is_done, HasLines, all_of}
 use Rattle.tl_answer.proofs.FarTexts.{answer-is}
-use Rattle.tl_answer.proofs.Listening.{are-end, has-all}
+use Rattle.tl_answer.proofs.Consuming.{are-end, has-all}
 use Rattle.tl_answer.proofs.crossing.Crossing.end.Goals as goal
 
 pub returns-in-Ok : goal.returns-in-Ok

@@ -8,7 +8,7 @@ use Rattle.tl_convert.proofs.FeedStep.{Fed, fed, fed-run}
 use Rattle.tl_convert.proofs.converter.Converter.feed_at.Goals.{then-place-eq0, else-place-eq0}
 use Rattle.tl_convert.proofs.converter.Converter.feed_at.Goals as goal
 
--- one more beat, for a converter that stands for these beats
+-- one more beat, for a converter that represents these beats
 step-from : (g : _) (c : goal.After-advance g) (bs : List (BeatOf g.row.K-Head.Denot g.row.W)) (homes : List ℕ) →
     StandsFor {v = g.row.V} g.K.Channel.rules (record { burst = c.self.inside.tracker; home = c.self.inside.home; partial = c.self.inside.partial })
     bs homes →

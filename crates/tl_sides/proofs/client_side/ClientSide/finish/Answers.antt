@@ -20,8 +20,8 @@ finish-requires g c =
     let sent_out = subst (λ s. ClientIsSentOut s) (sym (ap (λ p. client_side_of (record c.self.inside { port = p })) c.port.view_is ∙ c.self.view_is)) c.requires in
     (outbox, (beat, (lit< tt, (lit< tt, (sent_out.0.1, sent_out.0.0)))))
 
-pub over-requires : goal.over-requires
-over-requires g c = (
+pub from_parts-requires : goal.from_parts-requires
+from_parts-requires g c = (
   inner_small (client_side_layout g.row.C g.row.M g.row.A g.A.Allocator) 0 1 9223372036854775808 c.requires-raw.1.1.1.0,
   (
     part_small (client_side_layout g.row.C g.row.M g.row.A g.A.Allocator) 2 9223372036854775808 c.requires-raw.1.1.1.0,
@@ -38,8 +38,8 @@ finish-requires-2 g c =
     let sent_out = subst (λ s. ClientIsSentOut s) (sym (ap (λ p. client_side_of (record c.self.inside { port = p })) c.port.view_is ∙ c.self.view_is)) c.requires in
     (outbox, (beat, (lit< tt, (lit< tt, (sent_out.1.1, sent_out.1.0)))))
 
-pub over-requires-2 : goal.over-requires-2
-over-requires-2 g c = (
+pub from_parts-requires-2 : goal.from_parts-requires-2
+from_parts-requires-2 g c = (
   inner_small (client_side_layout g.row.C g.row.M g.row.A g.A.Allocator) 0 3 9223372036854775808 c.requires-raw.1.1.1.0,
   (
     part_small (client_side_layout g.row.C g.row.M g.row.A g.A.Allocator) 4 9223372036854775808 c.requires-raw.1.1.1.0,

@@ -1,5 +1,5 @@
 use Rattle.tl_ring.proofs.EndSteps.{producer_twice, consumer_twice, all_places}
-use Rattle.tl_ring.proofs.halves.look.Goals as goal
+use Rattle.tl_ring.proofs.halves.observe_both.Goals as goal
 
 pub returns : goal.returns
 returns g c =

@@ -1,4 +1,4 @@
--- A text whose near beats are passed to a listener while it is read (this project's choice).
+-- A text whose near beats are passed to a consumer while it is read (this project's choice).
 use Rattle.std.specs.Prelude.{◌≤◌, ◌++◌, ◌^◌, ℕ, List, length, Option}
 use Rattle.std.specs.Io.KnownBytes.{Consumes, IsAtEnd}
 use Rattle.tl_trace.specs.Texts.{Tells}
@@ -15,14 +15,14 @@ pub record AreFew {C M : ℕ} (discarded : Discarded C M) (s : Script C M) : Typ
   pub few_d : length (discarded.d ++ s.d.items) ≤ 2 ^ 40
   pub few_e : length (discarded.e ++ s.e.items) ≤ 2 ^ 40
 
--- how a listener relates to the near beats that were removed and those that a script holds
-module _ {L : Type 0} {C M : ℕ} (Listens : L → Discarded C M → Script C M → Type 0) where
+-- how a consumer relates to the near beats that were removed and those that a script holds
+module _ {L : Type 0} {C M : ℕ} (HasConsumed : L → Discarded C M → Script C M → Type 0) where
   -- it has advanced over no beat
   abbrev pub IsNew : L → Type 0
-  IsNew listener = (s : Script C M) → AreFew none_gone s → Listens listener none_gone s
+  IsNew consumer = (s : Script C M) → AreFew none_gone s → HasConsumed consumer none_gone s
 
-  -- the text was read to its end, and the listener is at the last beats of its script
-  pub record IsReadThrough (unread left : Option (List ℕ)) (version : ℕ) (listener : L) (s : Script C M) : Type 0 where
+  -- the text was read to its end, and the consumer is at the last beats of its script
+  pub record IsReadThrough (unread left : Option (List ℕ)) (version : ℕ) (consumer : L) (s : Script C M) : Type 0 where
     pub text : List ℕ
     pub took : Consumes unread left text
     pub end : IsAtEnd left
@@ -31,4 +31,4 @@ module _ {L : Type 0} {C M : ℕ} (Listens : L → Discarded C M → Script C M 
     pub told : Tells text version C M lines
     pub discarded : Discarded C M
     pub rest : IsRestOf lines discarded s
-    pub listens : Listens listener discarded s
+    pub has_consumed : HasConsumed consumer discarded s

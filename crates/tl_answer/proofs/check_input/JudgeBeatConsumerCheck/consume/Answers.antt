@@ -1,6 +1,6 @@
 use Rattle.tl_answer.proofs.Names.{CanJudge, HasJudged}
-use Rattle.tl_answer.proofs.Listening.{can-judge, counted-on, goes-on}
-use Rattle.tl_answer.proofs.check_input.JudgeListenerCheck.hear.Goals as goal
+use Rattle.tl_answer.proofs.Consuming.{can-judge, counted-on, goes-on}
+use Rattle.tl_answer.proofs.check_input.JudgeBeatConsumerCheck.consume.Goals as goal
 
 pub returns-clause-on : goal.returns-clause-on
 returns-clause-on g c = λ version discarded h rest more went grown few.
@@ -15,6 +15,6 @@ returns-clause-on g c = λ version discarded h rest more went grown few.
     (can-judge judge _ rest more (counted-on discarded s was.discarded counts judge.discarded judged.counts judged.discarded h.counted) few grown (judged.held rest went))
     judged.judged h
 
-pub returns-clause-heard : goal.returns-clause-heard
-returns-clause-heard g c =
+pub returns-clause-consumed : goal.returns-clause-consumed
+returns-clause-consumed g c =
     let judged = c.advance.ensures in record { stuck = judged.stuck; going = judged.going; waiting = judged.waiting }

@@ -1,6 +1,6 @@
 use Rattle.tl_answer.proofs.Names.{CanRun, HasRun, HasLines}
-use Rattle.tl_answer.proofs.Listening.{new-goes, short-lists}
-use Rattle.tl_answer.proofs.crossing.Crossing.over.Goals as goal
+use Rattle.tl_answer.proofs.Consuming.{new-goes, short-lists}
+use Rattle.tl_answer.proofs.crossing.Crossing.with_bridge.Goals as goal
 
 pub returns : goal.returns
 returns g c = λ s few.

@@ -2,7 +2,7 @@ use Rattle.tl_run.proofs.Names.{◌≡◌, ◌+◌, ◌≤◌, ◌++◌, ℕ, Li
 use Rattle.tl_run.proofs.Names.{ap, arith, beat_small, Beats, joined, beats_of}
 use Rattle.tl_run.proofs.AllOk.{five_ok, five-are-ok}
 use Rattle.tl_run.proofs.Rooms.{same-beats}
-use Rattle.tl_run.proofs.taken.TakenFarSink.take.Goals as goal
+use Rattle.tl_run.proofs.taken.ScriptFarSink.take.Goals as goal
 
 pub append-a-requires-room-B-Clone : goal.append-a-requires-room-B-Clone
 append-a-requires-room-B-Clone g c κs = beat_small g.row.M c.requires.manager

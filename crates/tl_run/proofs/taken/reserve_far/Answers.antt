@@ -1,7 +1,7 @@
 use Rattle.tl_run.proofs.Names.{◌≡◌, ◌∙◌, ◌+◌, ◌≤◌, ℕ, arith}
 use Rattle.tl_run.proofs.AllOk.{five_ok}
 use Rattle.tl_run.proofs.Rooms.{same-lists}
-use Rattle.tl_run.proofs.taken.Taken.reserve.Goals as goal
+use Rattle.tl_run.proofs.taken.reserve_far.Goals as goal
 
 -- room for n beats after the first `len` is room for n
 enough : {n room capacity : ℕ} (len : ℕ) → room ≡ n → len + room ≤ capacity → n ≤ capacity
@@ -11,7 +11,7 @@ pub returns : goal.returns
 returns g c =
     let h = c.far_rooms-room.ensures in
     record {
-      empty = same-lists c.args.self.now (record {
+      empty = same-lists c.args.far.now (record {
         a = c.reserve_exact-a.new.self;
         b = c.reserve_exact-b.new.self;
         c = c.reserve_exact-c.new.self;

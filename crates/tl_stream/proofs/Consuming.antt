@@ -1,4 +1,4 @@
--- A listener while a text is read: those beats that were heard go, and more is read.
+-- A consumer while a text is read: those beats that were consumed go, and more is read.
 use Rattle.tl_stream.proofs.Names.{◌≡◌, ◌≢◌, ◌<◌, ◌≤◌, ◌++◌, ◌∙◌, ℕ, Bool, false, Option, List, [], length, refl, sym, ap, subst, arith}
 use Rattle.tl_stream.proofs.Names.{length-append, append-nil, IfErr, IfOk, IfSome, Result, Ok, Err, Consumes, Tells}
 use Rattle.tl_stream.proofs.Names.{Discarded, IsRestOf, beat_of_a, beat_of_b, beat_of_c, beat_of_d, beat_of_e, more_discarded, none_gone, Script, ScriptReader}
@@ -11,7 +11,7 @@ use Rattle.tl_stream.specs.Inner.Keeping.{Keeps}
 use Rattle.tl_stream.specs.declared.fault.TextFault.TheVariants as faults
 use Rattle.tl_stream.specs.declared.keep_all.KeepAll.{KeepAll}
 use Rattle.tl_stream.proofs.Lengths.{few-chosen, lines-few}
-use Rattle.tl_stream.specs.Inner.Hearing.{CanHear}
+use Rattle.tl_stream.specs.Inner.Consuming.{CanConsume}
 use Rattle.tl_stream.specs.Inner.Lines.{IsBeginning, ReadsHeld}
 use Rattle.tl_stream.proofs.Between.{reading}
 use Rattle.tl_stream.proofs.ToRead.{unlike, widths_named}
@@ -26,20 +26,20 @@ refused-read unread left input faults.Write kinds long = let no : faults.Write �
 refused-read unread left input faults.TooLong kinds long = long refl
 refused-read unread left input faults.OutOfMemory kinds long = tt
 
-module _ {L : Type 0} {C M : ℕ} (Listens : L → Discarded C M → Script C M → Type 0) (unread left : Option (List ℕ)) (v : ℕ) (lines : ScriptReader C M)
-    (input : Input) (listener : L) where
-  -- the listener advanced over the lines that were used, and relates to the beats that are read after them
+module _ {L : Type 0} {C M : ℕ} (HasConsumed : L → Discarded C M → Script C M → Type 0) (unread left : Option (List ℕ)) (v : ℕ) (lines : ScriptReader C M)
+    (input : Input) (consumer : L) where
+  -- the consumer advanced over the lines that were used, and relates to the beats that are read after them
   pub record IsAhead : Type 0 where
     pub discarded : Discarded C M
     pub between : IsBetweenPast discarded unread left lines input
-    pub listens : (more : Script C M) → HasGrown lines.script more → AreFew discarded more → Listens listener discarded more
+    pub has_consumed : (more : Script C M) → HasGrown lines.script more → AreFew discarded more → HasConsumed consumer discarded more
     pub version : lines.version ≡ v
 
-  -- more lines were read after those that the listener advanced over
+  -- more lines were read after those that the consumer advanced over
   pub record IsBehind : Type 0 where
     pub discarded : Discarded C M
     pub between : IsBetweenPast discarded unread left lines input
-    pub listens : Listens listener discarded lines.script
+    pub has_consumed : HasConsumed consumer discarded lines.script
     pub version : lines.version ≡ v
 
 module _ {C M : ℕ} where
@@ -61,46 +61,46 @@ module _ {C M : ℕ} where
         few_e = few-chosen (beat_of_e C) b.read.lines few_lines (discarded.e ++ s.e.items) is.e;
       }
 
-  module _ {L : Type 0} {Listens : L → Discarded C M → Script C M → Type 0} {unread left : Option (List ℕ)} {v : ℕ} where
+  module _ {L : Type 0} {HasConsumed : L → Discarded C M → Script C M → Type 0} {unread left : Option (List ℕ)} {v : ℕ} where
     -- the first piece
-    first-heard : (lines : ScriptReader C M) (input input' : Input) (listener : L) → lines.version ≡ v → IsNew Listens listener →
+    first-consumed : (lines : ScriptReader C M) (input input' : Input) (consumer : L) → lines.version ≡ v → IsNew HasConsumed consumer →
         HasTaken unread left [] input → HasHeader (held input) v C M →
         ((text : List ℕ) → IsHeaderLine text v C M → HasRead v text lines.script lines.line) →
-        HasUsedHeader input input' → IsAhead Listens unread left v lines input' listener
-    first-heard lines input input' listener version new taken named none h = record {
+        HasUsedHeader input input' → IsAhead HasConsumed unread left v lines input' consumer
+    first-consumed lines input input' consumer version new taken named none h = record {
       discarded = none_gone;
       between = record {
         used = h.line;
         taken = h.taken unread left taken;
         read = subst (λ v. HasRead v h.line lines.script lines.line) (sym version) (none h.line (h.header v C M named));
       };
-      listens = λ more grown few. new more few;
+      has_consumed = λ more grown few. new more few;
       version = version;
     }
 
     -- the lines that the input held were read
-    pub behind : {lines lines' : ScriptReader C M} {input input' : Input} {listener : L} {more : Bool} →
-        IsAhead Listens unread left v lines input listener → HasReadHeld lines input lines' input' more →
-        IsBehind Listens unread left v lines' input' listener
+    pub behind : {lines lines' : ScriptReader C M} {input input' : Input} {consumer : L} {more : Bool} →
+        IsAhead HasConsumed unread left v lines input consumer → HasReadHeld lines input lines' input' more →
+        IsBehind HasConsumed unread left v lines' input' consumer
     behind {lines' = lines'} {input' = input'} a r =
         let between = r.between unread left a.discarded a.between in
         record {
           discarded = a.discarded;
           between = between;
-          listens = a.listens lines'.script r.grown (counted unread left a.discarded lines' input' between);
+          has_consumed = a.has_consumed lines'.script r.grown (counted unread left a.discarded lines' input' between);
           version = r.version ∙ a.version;
         }
 
-    -- they were heard, some went, and more was read
-    pub heard : {left' : Option (List ℕ)} {lines : ScriptReader C M} {input : Input} {listener : L}
-        (b : IsBehind Listens unread left v lines input listener)
-        (lines' : ScriptReader C M) (input' : Input) (listener' : L) (counts : Counts) → lines'.version ≡ lines.version
+    -- they were consumed, some went, and more was read
+    pub consumed : {left' : Option (List ℕ)} {lines : ScriptReader C M} {input : Input} {consumer : L}
+        (b : IsBehind HasConsumed unread left v lines input consumer)
+        (lines' : ScriptReader C M) (input' : Input) (consumer' : L) (counts : Counts) → lines'.version ≡ lines.version
         → ((done : List ℕ) (discarded : Discarded C M) → HasReadPast lines.version done discarded lines.script lines.line →
         HasReadPast lines.version done (more_discarded discarded counts lines.script) lines'.script lines'.line)
         → ((more : Script C M) → HasGrown lines'.script more → AreFew (more_discarded b.discarded counts lines.script) more →
-        Listens listener' (more_discarded b.discarded counts lines.script) more)
-        → HasTaken unread left' b.between.used input' → IsAhead Listens unread left' v lines' input' listener'
-    heard {lines = lines} b lines' input' listener' counts version told listens taken =
+        HasConsumed consumer' (more_discarded b.discarded counts lines.script) more)
+        → HasTaken unread left' b.between.used input' → IsAhead HasConsumed unread left' v lines' input' consumer'
+    consumed {lines = lines} b lines' input' consumer' counts version told has_consumed taken =
         let after = more_discarded b.discarded counts lines.script in
         let used = b.between.used in
         record {
@@ -110,14 +110,14 @@ module _ {C M : ℕ} where
             taken = taken;
             read = subst (λ v. HasReadPast v used after lines'.script lines'.line) (sym version) (told used b.discarded b.between.read);
           };
-          listens = listens;
+          has_consumed = has_consumed;
           version = version ∙ b.version;
         }
 
     -- nothing is left
-    pub read-through : {lines lines' : ScriptReader C M} {input input' : Input} {listener : L} {more : Bool} →
-        IsBehind Listens unread left v lines' input' listener → HasReadHeld lines input lines' input' more → more ≡ false →
-        IsReadThrough Listens unread left v listener lines'.script
+    pub read-through : {lines lines' : ScriptReader C M} {input input' : Input} {consumer : L} {more : Bool} →
+        IsBehind HasConsumed unread left v lines' input' consumer → HasReadHeld lines input lines' input' more → more ≡ false →
+        IsReadThrough HasConsumed unread left v consumer lines'.script
     read-through {lines' = lines'} {input' = input'} b r none =
         let used = b.between.used in
         let t = b.between.taken in
@@ -131,41 +131,41 @@ module _ {C M : ℕ} where
           told = subst (λ v. Tells used v C M b.between.read.lines) b.version b.between.read.told;
           discarded = b.discarded;
           rest = b.between.read.script;
-          listens = b.listens;
+          has_consumed = b.has_consumed;
         }
 
-  module _ {L : Type 0} (Listens : ℕ → L → Discarded C M → Script C M → Type 0) where
+  module _ {L : Type 0} (HasConsumed : ℕ → L → Discarded C M → Script C M → Type 0) where
     -- the widths of a text that begins
-    pub beginning_widths : {left : Option (List ℕ)} {input : Input} {lines : ScriptReader C M} {listener : L} →
-        IsBeginning Listens left input lines listener → IsWidth C × IsWidth M
+    pub beginning_widths : {left : Option (List ℕ)} {input : Input} {lines : ScriptReader C M} {consumer : L} →
+        IsBeginning HasConsumed left input lines consumer → IsWidth C × IsWidth M
     beginning_widths {input = input} b = widths_named (held input) b.0 C M b.3
 
     -- its header was used
-    pub begins : {left : Option (List ℕ)} {input input' : Input} {lines : ScriptReader C M} {listener : L} →
-        IsBeginning Listens left input lines listener → HasUsedHeader input input'
-        → IsAhead (Listens lines.version) (unread_of input left) left lines.version lines input' listener
-    begins {left} {input} {input'} {lines} {listener} b h =
-        subst (λ v. IsAhead (Listens v) (unread_of input left) left v lines input' listener) (sym b.1)
-        (first-heard lines input input' listener b.1 b.4 b.2.taken b.3 b.5 h)
+    pub begins : {left : Option (List ℕ)} {input input' : Input} {lines : ScriptReader C M} {consumer : L} →
+        IsBeginning HasConsumed left input lines consumer → HasUsedHeader input input'
+        → IsAhead (HasConsumed lines.version) (unread_of input left) left lines.version lines input' consumer
+    begins {left} {input} {input'} {lines} {consumer} b h =
+        subst (λ v. IsAhead (HasConsumed v) (unread_of input left) left v lines input' consumer) (sym b.1)
+        (first-consumed lines input input' consumer b.1 b.4 b.2.taken b.3 b.5 h)
 
-    module _ (unread left : Option (List ℕ)) (v : ℕ) (lines : ScriptReader C M) (input : Input) (listener : L) where
-      -- at the beginning of a round: the lines can be read, and the listener can advance over them, in the form that `read_on` requires
+    module _ (unread left : Option (List ℕ)) (v : ℕ) (lines : ScriptReader C M) (input : Input) (consumer : L) where
+      -- at the beginning of a round: the lines can be read, and the consumer can advance over them, in the form that `read_on` requires
       abbrev pub GoesOn : Type 0
-      GoesOn = IsAhead (Listens v) unread left v lines input listener × IsReading lines input × CanHear Listens lines input listener
+      GoesOn = IsAhead (HasConsumed v) unread left v lines input consumer × IsReading lines input × CanConsume HasConsumed lines input consumer
 
-      pub goes-on : IsWidth C × IsWidth M → IsAhead (Listens v) unread left v lines input listener → GoesOn
+      pub goes-on : IsWidth C × IsWidth M → IsAhead (HasConsumed v) unread left v lines input consumer → GoesOn
       goes-on widths ahead = (
         ahead,
         reading widths.0 widths.1 unread left lines input ahead.between,
-        λ lines' input' more r. let b = behind ahead r in (v, b.discarded, b.listens),
+        λ lines' input' more r. let b = behind ahead r in (v, b.discarded, b.has_consumed),
       )
 
-    -- the lines that the input held can be heard
-    pub can-hear : (lines : ScriptReader C M) (input : Input) (lines' : ScriptReader C M) (input' : Input) (listener : L)
-        (r : Result Bool TextFault) → IsWidth C → IsWidth M → CanHear Listens lines input listener → ReadsHeld lines input lines' input' r
-        → IfOk r (λ _. IsWidth C × IsWidth M × ((version : ℕ) × (discarded : Discarded C M) × Listens version listener discarded lines'.script))
-    can-hear lines input lines' input' listener (Ok more) client manager can read = (client, manager, can lines' input' more read)
-    can-hear lines input lines' input' listener (Err fault) client manager can read = tt
+    -- the lines that the input held can be consumed
+    pub can-consume : (lines : ScriptReader C M) (input : Input) (lines' : ScriptReader C M) (input' : Input) (consumer : L)
+        (r : Result Bool TextFault) → IsWidth C → IsWidth M → CanConsume HasConsumed lines input consumer → ReadsHeld lines input lines' input' r
+        → IfOk r (λ _. IsWidth C × IsWidth M × ((version : ℕ) × (discarded : Discarded C M) × HasConsumed version consumer discarded lines'.script))
+    can-consume lines input lines' input' consumer (Ok more) client manager can read = (client, manager, can lines' input' more read)
+    can-consume lines input lines' input' consumer (Err fault) client manager can read = tt
 
   -- if all beats are kept, those at the end are the script
   pub reads-script : (unread left : Option (List ℕ)) (version : ℕ) (input : Input) (keeper : KeepAll) (result : Result (Script C M) TextFault) →
@@ -173,7 +173,7 @@ module _ {C M : ℕ} where
       ReadsScript unread left version input result
   reads-script unread left version input keeper (Err fault) ok err = err
   reads-script unread left version input keeper (Ok s) read err =
-      let is = subst (λ discarded. IsRestOf read.lines discarded s) read.listens read.rest in
+      let is = subst (λ discarded. IsRestOf read.lines discarded s) read.has_consumed read.rest in
       record {
         text = read.text;
         took = read.took;

@@ -1,4 +1,4 @@
--- How a listener that counts relates to the near beats of a text that is read. Only private contracts use these words.
+-- How a consumer that counts relates to the near beats of a text that is read. Only private contracts use these words.
 use Rattle.std.specs.Prelude.{◌≡◌, ◌++◌, ℕ, length}
 use Rattle.tl_settle.specs.Outcomes.{Beats}
 use Rattle.tl_trace.specs.Scripts.{Discarded, GoesOn}
@@ -25,7 +25,7 @@ pub record AreCounted {C M : ℕ} (count : Counts) (discarded : Discarded C M) :
   pub d : count.d ≡ length discarded.d
   pub e : count.e ≡ length discarded.e
 
--- How a listener relates to its beats, if its state depends only on their counts. It knows how many were removed, and
+-- How a consumer relates to its beats, if its state depends only on their counts. It knows how many were removed, and
 -- it can advance over those that the script holds. Its state is the one for every list of beats that begins with these
 pub record GoesWith {C M : ℕ} (count : Counts) (Can : Script C M → Type 0) (Has : Beats C M → Type 0) (discarded : Discarded C M)
     (s : Script C M) : Type 0 where

@@ -1,5 +1,5 @@
 use Rattle.tl_run.proofs.Names.{ap}
-use Rattle.tl_run.proofs.taken.Taken.into_outcome.Goals as goal
+use Rattle.tl_run.proofs.taken.outcome_of.Goals as goal
 
 pub returns-clause-ends : goal.returns-clause-ends
 returns-clause-ends g c = λ near verdicts few same. record {

@@ -1,4 +1,4 @@
--- Beats that are handed on while a text is read: those that were heard go, and more is read.
+-- Beats that are handed on while a text is read: those that were consumed go, and more is read.
 use Rattle.tl_answer.proofs.Names.{◌≡◌, ◌≤◌, ◌+◌, ◌^◌, ◌++◌, ◌∙◌, ℕ, List, [], length, take, drop, refl, sym, ap, subst, arith}
 use Rattle.tl_answer.proofs.Names.{append-nil, append_assoc, length-append, take-append-drop, length-take-le}
 use Rattle.tl_answer.proofs.Names.{Beats, HasShortLists, Discarded, GoesOn, HasCounts, HasGrown, HasRemoved, IsRestOf}
@@ -66,7 +66,7 @@ module _ {C M : ℕ} where
     e = longer-by discarded.e s.e.items counts.e before.e after.e few.e is.e went.e;
   }
 
-  -- the beats that the listener advanced over were removed, and more were read after them
+  -- the beats that the consumer advanced over were removed, and more were read after them
   pub goes-on : (Can Now : Script C M → Type 0) (Has Had : Beats C M → Type 0) (discarded : Discarded C M) (s rest more : Script C M)
       (before counts after : Counts) →
       HasCounts counts s → AreDiscarded before counts after → HasRemoved counts s rest → HasGrown rest more → Now more →
@@ -105,7 +105,7 @@ module _ {C M : ℕ} where
   pub none-gone : (s : Script C M) → HasShortLists s → AreFew none_gone s
   none-gone s short = record { few_a = short.few_a; few_b = short.few_b; few_c = short.few_c; few_d = short.few_d; few_e = short.few_e }
 
-  -- a listener that has heard nothing
+  -- a consumer that has consumed nothing
   pub new-goes : (Can : Script C M → Type 0) (Has : Beats C M → Type 0) (count : Counts) → count ≡ none_counted → (s : Script C M) → Can s →
       ((beats : Beats C M) → Has beats) →
       GoesWith count Can Has none_gone s

@@ -1,6 +1,6 @@
 use Rattle.std.proofs.Common.{sym}
 use Rattle.tl_sides.proofs.Layouts.{client_layout, part_small}
-use Rattle.tl_sides.proofs.client_port.ClientPort.over.Goals as goal
+use Rattle.tl_sides.proofs.client_port.ClientPort.with_book.Goals as goal
 
 pub new-requires : goal.new-requires
 new-requires g c = part_small (client_layout g.row.C g.row.M g.row.A g.A.Allocator) 0 9223372036854775808 c.requires-raw.1.1.1.1
