@@ -1,6 +1,6 @@
 """The text of an explanation, made again from the output of `tlexplain --json`, and whether both programs say the same.
 
-Used by tests/explain, bench/explain and bench/page. Needs Python 3 alone.
+Used by tests/explain, bench/explain and bench/page. It needs only Python 3.
 """
 import random
 import re
@@ -29,7 +29,7 @@ def fields_of(line, digits):
 
 
 def came_of(line):
-    """What an accepted beat brought."""
+    """Returns what an accepted beat completed, in words."""
     place = f", beat {line.beat} of {line.beats}" if line.beats > 1 else ""
     if len(line.far) == 1:
         brought = f", far beat {line.far[0].number}"
@@ -102,6 +102,37 @@ def problems(said):
     return found or ["none"]
 
 
+NOUNS = {"A": "request", "B": "request", "C": "message", "D": "response", "E": "GrantAck"}
+
+
+def counted(count, one, several=None):
+    """A number with its noun."""
+    return f"{count} {one if count == 1 else several or one + 's'}"
+
+
+def overview(said, lines):
+    """The summary in words of a page, on a trace of `lines` lines, all of which this text explains."""
+    sentences = [line for line in said.splitlines() if re.match(r"line \d", line)]
+    begun = [line for line in sentences if ": accepted, " in line and not re.search(r", beat [1-9]\d* of \d+: accepted, ", line)]
+    letters = [re.match(r"line \d+(?:, time [^:]+)?: ([A-E]) ", line)[1] for line in begun]
+    ends = [line[2:].split() for line in said.splitlines()[-5:]]
+    stops = [re.match(r"(line \d+).*?: (refused|waiting), (\d+ \w+): ", line) for line in sentences]
+    stops = [f"{stop[1]} {STOPPED[stop[2]]} ({stop[3]})" for stop in stops if stop]
+    messages = counted(len(begun), "accepted message" if stops else "message")
+    by_channel = [f"{counted(letters.count(letter), NOUNS[letter])} on {letter}" for letter in CHANNELS if letter in letters]
+    faults = "All beats were accepted" if lines > 1 else "There are no beats"
+    if stops:
+        faults = f"{counted(len(stops), 'fault')}: {', '.join(stops)}"
+    left = lines - 1 - sum(int(end[2]) for end in ends) - len(stops)
+    parts = [faults] + [counted(left, "beat was not offered", "beats were not offered")] * (left > 0)
+    parts += [f"{end[0]} ends within a burst" for end in ends if end[1] == "cut"]
+    remarked = [remark.partition(",")[0] for remark in problems(said) if ", remark: " in remark]
+    remarks = "No remarks"
+    if remarked:
+        remarks = f"{counted(len(remarked), 'remark')}, {'' if len(remarked) == 1 else 'the first '}in {remarked[0]}"
+    return f"{counted(lines, 'line')}, {messages}{': ' * bool(by_channel)}{', '.join(by_channel)}. {'; '.join(parts)}. {remarks}."
+
+
 def lanes_failure(line):
     """What is wrong with the lanes of a line: each byte of an accepted beat with data is on its lane in a far beat, if one has it."""
     if line.fate != "accepted" or line.bytes is None:
@@ -122,7 +153,7 @@ def said_by(program, words, text):
 
 
 def json_failure(program, text, words=()):
-    """What is wrong with what the program says of a text as JSON, beside what it says in sentences."""
+    """Returns the difference between the JSON output for a text and its sentences, or None."""
     said, fault, status = said_by(program, words, text)
     output, *ending = said_by(program, ("--json", *words), text)
     if ending != [fault, status]:
@@ -140,7 +171,7 @@ def json_failure(program, text, words=()):
         wanted = f"{begin}    {shown}\n    {' ' * record.place}^\n{form}"
         return None if [len(records), wanted] == [1, said.decode()] else f"{record} beside {said!r}"
     if text_of(records) != said.decode():
-        return f"the records say\n{text_of(records)}in place of\n{said.decode()}"
+        return f"the records say\n{text_of(records)}instead of\n{said.decode()}"
     wrong = [failure for failure in map(lanes_failure, records[:-1]) if failure]
     lines = text.count(b"\n")
     if [record.line for record in records[:-1]] != list(range(2, lines + 1)) or records[-1].lines != lines:
@@ -177,7 +208,7 @@ def spoilt(text, randomness):
 
 
 def spoilt_texts(texts, count, seed):
-    """So many of these texts with mistakes in them."""
+    """Yields `count` of these texts with mistakes in them."""
     randomness = random.Random(seed)
     for _ in range(count):
         yield spoilt(randomness.choice(texts), randomness)

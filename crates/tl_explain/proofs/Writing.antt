@@ -4,7 +4,7 @@ use Rattle.std.proofs.KnownBytes.{Appends-trans, Appends-nil, Keeps-refl, Keeps-
 use Rattle.std.specs.Io.KnownBytes.{Appends}
 use Rattle.tl_answer.specs.Texts.{IsAnswer}
 use Rattle.tl_explain.specs.Explained.{Explains, IsExplanation}
-use Rattle.tl_explain.specs.Inner.Telling.{Continues}
+use Rattle.tl_explain.specs.Inner.Explanation.{Continues}
 
 -- nothing is written yet
 pub begins : (is_page : Bool) (held : Option (List ℕ)) → Continues is_page held held

@@ -1,9 +1,9 @@
 //! The common text of the sentences on the beats of a message.
-use crate::walk::Brought;
+use crate::channel_position::FarProgress;
 use crate::words::put_fields;
 use std::alloc::Global;
 use tl_remarks::Piece::{Coloured, Number};
-use tl_remarks::{Colour, Page, Seen};
+use tl_remarks::{BeatFields, Colour, TextBuf};
 
 /// A text around a number, which is kept for reuse with other numbers.
 #[derive(Drop)]
@@ -27,7 +27,7 @@ impl Around {
     }
 
     /// Writes the text around this number.
-    fn put(&self, out: &mut Page, number: u64) {
+    fn put(&self, out: &mut TextBuf, number: u64) {
         out.put_bytes(&self.before);
         out.put_number(number);
         out.put_bytes(&self.behind);
@@ -35,7 +35,7 @@ impl Around {
 
     /// Keeps the text of a page from `from` on, around the number between `number` and `behind`.
     /// Keeps none if the allocator fails.
-    fn keep(&mut self, page: &Page, from: usize, number: usize, behind: usize, of: u64) {
+    fn keep(&mut self, page: &TextBuf, from: usize, number: usize, behind: usize, of: u64) {
         let before = page.text.get(from..number).unwrap_or(&[]);
         self.before.clear();
         self.behind.clear();
@@ -68,7 +68,13 @@ impl Alike {
     /// Writes the fields of a beat of the message that begins in this line, its number in the
     /// message, and that it was accepted. Keeps the text for the other beats, except whether the
     /// beat is corrupt.
-    fn put_place(&mut self, out: &mut Page, beat: &Seen, brought: &Brought, line: u64) {
+    fn put_place(
+        &mut self,
+        out: &mut TextBuf,
+        beat: &BeatFields,
+        brought: &FarProgress,
+        line: u64,
+    ) {
         if (self.place.of == line) & !beat.corrupt {
             return self.place.put(out, brought.place());
         }
@@ -86,7 +92,7 @@ impl Alike {
     }
 
     /// Writes how many bytes of far beat `far`, counted from 1, are staged, and keeps the text.
-    fn put_staged(&mut self, out: &mut Page, brought: &Brought, far: u64) {
+    fn put_staged(&mut self, out: &mut TextBuf, brought: &FarProgress, far: u64) {
         if self.staged.of == far {
             return self.staged.put(out, brought.staged as u64);
         }
@@ -102,7 +108,7 @@ impl Alike {
 
     /// Writes the sentence on an accepted beat of the message that begins in this line: its fields,
     /// its number in the message, and its far beats.
-    pub fn put(&mut self, out: &mut Page, beat: &Seen, brought: &Brought, line: u64) {
+    pub fn put(&mut self, out: &mut TextBuf, beat: &BeatFields, brought: &FarProgress, line: u64) {
         self.put_place(out, beat, brought, line);
         match brought.staged_far() {
             0 => brought.put_far(out),

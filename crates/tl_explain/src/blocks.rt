@@ -1,15 +1,15 @@
 //! Output of the sentences in blocks, while lines are processed.
 ghost use Rattle.std.specs.Prelude.{◌≡◌, false, OnOk, IfErr};
 ghost use Rattle.tl_stream.specs.declared.fault.TextFault.TheVariants.{Write as WriteFault};
-ghost use Rattle.tl_explain.specs.Inner.Telling.{Continues};
+ghost use Rattle.tl_explain.specs.Inner.Explanation.{Continues};
 
 use crate::alike::Alike;
-use crate::story::{LETTERS, Story};
+use crate::line_report::{LETTERS, LineReport};
 use std::alloc::Global;
 use std::io::Write;
 use tl_answer::{TextFault, write_all};
 use tl_lanes::WIDEST;
-use tl_remarks::Page;
+use tl_remarks::TextBuf;
 use tl_trace::LONGEST_LINE;
 
 /// The number of bytes that are collected before they are written.
@@ -23,7 +23,7 @@ const FAR_ROOM: usize = WIDEST * LONGEST_LINE;
 
 /// Writes the text of a buffer, and empties the buffer.
 #[inline(never)]
-fn write_page<W: Write>(page: &mut Page, writer: &mut W) -> Result<(), TextFault>
+fn write_page<W: Write>(page: &mut TextBuf, writer: &mut W) -> Result<(), TextFault>
     ensures out { OnOk result
         (Continues false (W.contents writer.old) (W.contents writer.new)) }
     ensures kind { IfErr result (λ fault. fault ≡ WriteFault) }
@@ -33,7 +33,7 @@ fn write_page<W: Write>(page: &mut Page, writer: &mut W) -> Result<(), TextFault
     written
 }
 
-impl Story {
+impl LineReport {
     /// Allocates all memory that the story needs, if beats are not drawn.
     #[inline(never)]
     pub fn make_room(&mut self, alloc: Global) {

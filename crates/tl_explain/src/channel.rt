@@ -2,13 +2,13 @@
 ghost use Rattle.std.specs.Prelude.{◌≡◌, true};
 ghost use Rattle.tl_lanes.specs.Lanes.{IsWidth};
 
-use crate::story::Story;
+use crate::line_report::LineReport;
 use arrayvec::ArrayVec;
 use std::slice;
 use tl_convert::Converter;
 use tl_lanes::{WIDEST, is_width};
 use tl_msg::{Beat, Channel};
-use tl_remarks::{Told, seen_of};
+use tl_remarks::{Describe, beat_fields_of};
 use tl_trace::write_far;
 
 /// Returns whether both are widths.
@@ -49,7 +49,7 @@ fn pass<K: Channel, const W: usize, const V: usize>(
 }
 
 /// Appends the lines of beats. Returns false if that fails.
-fn write_lines<K: Told, const W: usize>(
+fn write_lines<K: Describe, const W: usize>(
     out: &mut Vec<u8>,
     beats: &[Beat<K, W>],
     version: u8,
@@ -59,7 +59,7 @@ fn write_lines<K: Told, const W: usize>(
 }
 
 /// Keeps the lines of these beats instead of those kept before.
-fn keep_lines<K: Told, const W: usize>(story: &mut Story, beats: &[Beat<K, W>]) {
+fn keep_lines<K: Describe, const W: usize>(story: &mut LineReport, beats: &[Beat<K, W>]) {
     story.lines.clear();
     let are_kept = write_lines::<K, W>(&mut story.lines, beats, story.version);
     story.page.out_of_memory |= !are_kept;
@@ -67,7 +67,7 @@ fn keep_lines<K: Told, const W: usize>(story: &mut Story, beats: &[Beat<K, W>]) 
 
 /// Writes the far beats, if they are shown, each after four spaces, with their lanes if these are
 /// shown; or draws them. The line of a single one is not copied.
-fn put_far<K: Told, const V: usize>(story: &mut Story, far: &[Beat<K, V>]) {
+fn put_far<K: Describe, const V: usize>(story: &mut LineReport, far: &[Beat<K, V>]) {
     if far.is_empty() | !story.shows_far() {
         return;
     }
@@ -82,15 +82,15 @@ fn put_far<K: Told, const V: usize>(story: &mut Story, far: &[Beat<K, V>]) {
     for number in 0..far.len() {
         story.put_far_line(number, length);
         if story.shows_far_lanes() {
-            let seen = seen_of::<K, V>(&far[number], story.version);
+            let seen = beat_fields_of::<K, V>(&far[number], story.version);
             story.put_far_lanes(number, length, &seen, &far[number].lanes);
         }
     }
 }
 
 /// Writes the outcome of the next near beat, or draws the beat. Returns whether it was accepted.
-fn put_near<K: Told, const W: usize>(story: &mut Story, beat: &Beat<K, W>) -> bool {
-    let seen = seen_of::<K, W>(beat, story.version);
+fn put_near<K: Describe, const W: usize>(story: &mut LineReport, beat: &Beat<K, W>) -> bool {
+    let seen = beat_fields_of::<K, W>(beat, story.version);
     let accepted = story.put_near(&seen, &beat.lanes);
     if story.drawing.is_wanted {
         keep_lines::<K, W>(story, slice::from_ref(beat));
@@ -102,8 +102,8 @@ fn put_near<K: Told, const W: usize>(story: &mut Story, beat: &Beat<K, W>) -> bo
 /// Writes the outcome of the next of these beats of a channel as one line, and below it the far
 /// beats that it completed. The channel's converter makes them; `far` holds them.
 #[inline(never)]
-pub fn tell<K: Told, const W: usize, const V: usize>(
-    story: &mut Story,
+pub fn tell<K: Describe, const W: usize, const V: usize>(
+    story: &mut LineReport,
     beats: &[Beat<K, W>],
     converter: &mut Converter<K, W, V>,
     far: &mut ArrayVec<Beat<K, V>, WIDEST>,

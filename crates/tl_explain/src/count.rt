@@ -23,7 +23,7 @@ impl Count {
     }
 
     /// Adds one.
-    pub fn go_up(&mut self) {
+    pub fn increment(&mut self) {
         for back in 1..=MOST_DIGITS {
             let at = MOST_DIGITS - back;
             if self.digits[at] < b'9' {

@@ -1,14 +1,14 @@
 //! Beats with their lanes, for a page to draw.
 use crate::picture::Picture;
 use std::alloc::Global;
-use tl_remarks::Seen;
+use tl_remarks::BeatFields;
 
 /// A beat in the drawing.
 #[derive(Clone, Copy, Default)]
 pub struct Drawn {
     /// Whether it is a far beat.
     pub is_far: bool,
-    pub beat: Seen,
+    pub beat: BeatFields,
     /// The line of the first beat of its message; 0 if it was not accepted.
     pub message: u64,
     /// The index, in its message, of its first byte.

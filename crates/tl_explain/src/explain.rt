@@ -10,14 +10,14 @@ ghost use Rattle.tl_answer.specs.Texts.{IsAnswer};
 ghost use Rattle.tl_stream.specs.Inputs.{most_bytes};
 ghost use Rattle.tl_stream.specs.declared.fault.TextFault.TheVariants.{OutOfMemory as NoMemory, Write as WriteFault};
 ghost use Rattle.tl_explain.specs.Explained.{Explains, ShowsAnswer, IsUntold};
-ghost use Rattle.tl_explain.specs.Inner.Telling.{Continues, Tells};
+ghost use Rattle.tl_explain.specs.Inner.Explanation.{Continues, Tells};
 
 use crate::channel::tell;
+use crate::display_options::DisplayOptions;
 use crate::held::{held_of, waiting_source};
 use crate::letters::letters_of;
-use crate::look::Look;
+use crate::line_report::LineReport;
 use crate::requests::HeldPair;
-use crate::story::Story;
 use arrayvec::ArrayVec;
 use std::alloc::Global;
 use std::io::Write;
@@ -34,7 +34,7 @@ use tl_trace::{Header, Script, TraceFault, TraceKind, header_of_text, read_scrip
 /// E has nothing on its lanes, so a bus of one byte is used for any width.
 #[inline(never)]
 fn tell_all<W: Write, const C: usize, const M: usize>(
-    story: &mut Story,
+    story: &mut LineReport,
     script: &Script<C, M>,
     is_page: bool,
     writer: &mut W,
@@ -95,9 +95,9 @@ fn story_of<const C: usize, const M: usize>(
     script: &Script<C, M>,
     verdicts: &[Verdict; 5],
     version: u8,
-    look: &Look,
+    look: &DisplayOptions,
     times: &[u8],
-) -> Story
+) -> LineReport
     requires { IsWidth C × IsWidth M }
 {
     let header = Header {
@@ -109,7 +109,7 @@ fn story_of<const C: usize, const M: usize>(
     let (remarks, in_order) = (look.remarks, look.in_order);
     let noted = notes_of::<C, M>(alloc, &letters.text, script, verdicts, remarks, in_order);
     let held = held_in::<C, M>(&letters.text, script, verdicts);
-    Story::new(alloc, &header, look, verdicts, letters, noted, held, times)
+    LineReport::new(alloc, &header, look, verdicts, letters, noted, held, times)
 }
 
 /// The verdicts of the channels of a script, from A to E, and the answer of a check.
@@ -163,8 +163,8 @@ fn answer_to<const C: usize, const M: usize>(
 
 /// The part of a text's story that is not written yet, and the answer of a check.
 #[derive(Drop)]
-pub struct Telling {
-    pub story: Story,
+pub struct Explanation {
+    pub story: LineReport,
     pub answer: Answer,
 }
 
@@ -177,9 +177,9 @@ fn begin<const C: usize, const M: usize>(
     text: &[u8],
     script: &Script<C, M>,
     version: u8,
-    look: &Look,
+    look: &DisplayOptions,
     times: &[u8],
-) -> Result<Telling, TextFault>
+) -> Result<Explanation, TextFault>
     requires { IsWidth C × IsWidth M × (length text.now ≤ most_bytes) ×
         TellsScript version text.now script.now }
     ensures ok { IfOk result (λ made.
@@ -191,7 +191,7 @@ fn begin<const C: usize, const M: usize>(
     if story.page.out_of_memory {
         return Err(TextFault::OutOfMemory);
     }
-    Ok(Telling { story, answer })
+    Ok(Explanation { story, answer })
 }
 
 /// Explains the text of this script, in this version.
@@ -201,10 +201,10 @@ fn with_script<W: Write, const C: usize, const M: usize>(
     text: &[u8],
     script: &Script<C, M>,
     version: u8,
-    look: &Look,
+    look: &DisplayOptions,
     times: &[u8],
     writer: &mut W,
-) -> Result<Telling, TextFault>
+) -> Result<Explanation, TextFault>
     requires { IsWidth C × IsWidth M × (length text.now ≤ most_bytes) ×
         TellsScript version text.now script.now }
     ensures { Tells look.now.page text.now (W.contents writer.old) (W.contents writer.new) result }
@@ -220,10 +220,10 @@ fn with_widths<W: Write, const C: usize, const M: usize>(
     alloc: Global,
     text: &[u8],
     version: u8,
-    look: &Look,
+    look: &DisplayOptions,
     times: &[u8],
     writer: &mut W,
-) -> Result<Telling, TextFault>
+) -> Result<Explanation, TextFault>
     requires { HasHeader text.now version C M × (length text.now ≤ most_bytes) }
     ensures { Tells look.now.page text.now (W.contents writer.old) (W.contents writer.new) result }
 {
@@ -240,10 +240,10 @@ fn with_client<W: Write, const C: usize>(
     text: &[u8],
     version: u8,
     manager: usize,
-    look: &Look,
+    look: &DisplayOptions,
     times: &[u8],
     writer: &mut W,
-) -> Result<Telling, TextFault>
+) -> Result<Explanation, TextFault>
     requires { HasHeader text.now version C manager × (length text.now ≤ most_bytes) }
     ensures { Tells look.now.page text.now (W.contents writer.old) (W.contents writer.new) result }
 {
@@ -257,13 +257,13 @@ fn with_client<W: Write, const C: usize>(
 ///
 /// Errors, before anything is written: `Trace` with the text's first fault and its line, or
 /// `OutOfMemory`. Also `Write`, as for `write_all`.
-pub fn telling_of<W: Write>(
+pub fn explanation_of<W: Write>(
     alloc: Global,
     text: &[u8],
-    look: &Look,
+    look: &DisplayOptions,
     times: &[u8],
     writer: &mut W,
-) -> Result<Telling, TextFault>
+) -> Result<Explanation, TextFault>
     requires few { length text.now ≤ most_bytes }
     ensures { Tells look.now.page text.now (W.contents writer.old) (W.contents writer.new) result }
 {
@@ -301,7 +301,7 @@ pub fn telling_of<W: Write>(
 pub fn explain_to<W: Write>(
     alloc: Global,
     text: &[u8],
-    look: &Look,
+    look: &DisplayOptions,
     times: &[u8],
     writer: &mut W,
 ) -> Result<bool, TextFault>
@@ -311,12 +311,12 @@ pub fn explain_to<W: Write>(
     ensures err { IfErr result
         (IsUntold false text.now (W.contents writer.old) (W.contents writer.new)) }
 {
-    let look = Look {
+    let look = DisplayOptions {
         page: false,
         json: false,
         ..*look
     };
-    let telling = telling_of::<W>(alloc, text, &look, times, writer)?;
+    let telling = explanation_of::<W>(alloc, text, &look, times, writer)?;
     write_all(writer, &telling.answer.text)?;
     Ok(telling.answer.all_done)
 }
@@ -327,7 +327,7 @@ pub fn explain_to<W: Write>(
 pub fn records_to<W: Write>(
     alloc: Global,
     text: &[u8],
-    look: &Look,
+    look: &DisplayOptions,
     times: &[u8],
     writer: &mut W,
 ) -> Result<bool, TextFault>
@@ -337,13 +337,13 @@ pub fn records_to<W: Write>(
     ensures err { IfErr result
         (IsUntold false text.now (W.contents writer.old) (W.contents writer.new)) }
 {
-    let look = Look {
+    let look = DisplayOptions {
         page: false,
         json: true,
         colour: false,
         ..*look
     };
-    let telling = telling_of::<W>(alloc, text, &look, times, writer)?;
+    let telling = explanation_of::<W>(alloc, text, &look, times, writer)?;
     let all_done = telling.answer.all_done;
     Ok(all_done)
 }

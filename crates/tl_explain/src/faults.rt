@@ -1,11 +1,11 @@
 //! The faults of a beat in sentences: the field, its value, and the value that it must have.
+use crate::channel_position::ChannelPosition;
 use crate::lane_list::{lanes_of, put_lanes};
-use crate::walk::Walk;
 use crate::words::name_of;
 use tl_lanes::Mask;
 use tl_msg::{BeatFault, Kind};
 use tl_remarks::Piece::{self, Address, Id, Length, Letter, Number, Text};
-use tl_remarks::{Page, Seen};
+use tl_remarks::{BeatFields, TextBuf};
 
 /// Returns the sentence on a wrong opcode.
 fn opcode_fault(letter: u8) -> &'static str {
@@ -27,7 +27,7 @@ fn param_fault(params: u8) -> &'static str {
 
 /// Returns the sentence on a wrong field of a beat, except the mask, and the pieces that replace
 /// each `#` in it.
-fn field_fault(beat: &Seen, fault: BeatFault) -> (&'static str, [Piece<'static>; 3]) {
+fn field_fault(beat: &BeatFields, fault: BeatFault) -> (&'static str, [Piece<'static>; 3]) {
     let none = Text("");
     match fault {
         BeatFault::Opcode => {
@@ -62,9 +62,9 @@ fn field_fault(beat: &Seen, fault: BeatFault) -> (&'static str, [Piece<'static>;
 
 /// Returns the wrong lanes of a mask, if a message has these active lanes, and the rule that it
 /// breaks.
-fn mask_rule(beat: &Seen, lanes: Mask) -> (Mask, &'static str) {
+fn mask_rule(beat: &BeatFields, lanes: Mask) -> (Mask, &'static str) {
     if beat.kind.is_some_and(Kind::is_partial) {
-        let rule = ", but it may have active lanes alone, which are ";
+        let rule = ", but it may have only active lanes, which are ";
         (beat.mask & !lanes, rule)
     } else {
         let rule = ", but it has to have exactly the active lanes, which are ";
@@ -73,7 +73,7 @@ fn mask_rule(beat: &Seen, lanes: Mask) -> (Mask, &'static str) {
 }
 
 /// Writes the sentence on a wrong mask on `w` lanes.
-fn put_mask(out: &mut Page, beat: &Seen, w: usize) {
+fn put_mask(out: &mut TextBuf, beat: &BeatFields, w: usize) {
     let Some(lanes) = lanes_of(beat.address, beat.size, w) else {
         return out.put_text("the mask is wrong");
     };
@@ -96,7 +96,7 @@ const FIELDS: [&str; 7] = [
 ];
 
 /// Returns the same fields of a beat.
-fn fields_of(beat: &Seen) -> [u64; 7] {
+fn fields_of(beat: &BeatFields) -> [u64; 7] {
     [
         beat.opcode as u64,
         beat.param as u64,
@@ -131,7 +131,7 @@ fn field_at(at: usize, fields: [u64; 7], version: u8) -> Piece<'static> {
 
 /// Writes which field of a beat differs from that of its burst's first beat, its value, and the
 /// first one.
-fn put_change(out: &mut Page, beat: &Seen, walk: &Walk) {
+fn put_change(out: &mut TextBuf, beat: &BeatFields, walk: &ChannelPosition) {
     let (is, was) = (fields_of(beat), fields_of(&walk.first));
     let at = changed_field(is, was);
     out.say(
@@ -146,7 +146,12 @@ fn put_change(out: &mut Page, beat: &Seen, walk: &Walk) {
 }
 
 /// Writes the sentence on the fault of the next near beat of a channel.
-pub fn put_beat_fault(out: &mut Page, beat: &Seen, fault: BeatFault, walk: &Walk) {
+pub fn put_beat_fault(
+    out: &mut TextBuf,
+    beat: &BeatFields,
+    fault: BeatFault,
+    walk: &ChannelPosition,
+) {
     match fault {
         BeatFault::Mask => put_mask(out, beat, walk.w),
         BeatFault::HeadChanged => put_change(out, beat, walk),

@@ -1,8 +1,8 @@
 //! Beats that their channel did not accept.
-use crate::fate::fate_at;
+use crate::beat_outcome::fate_at;
 use tl_msg::{Beat, SourceId, Verdict};
 use tl_remarks::Piece::{Letter, Number, Text};
-use tl_remarks::{Cursor, Page, Told, accepted};
+use tl_remarks::{Cursor, Describe, TextBuf, accepted};
 
 /// The stop of a channel: its letter, the line of the first beat that it did not accept, and the
 /// status of that beat.
@@ -15,12 +15,12 @@ pub struct Stop {
 
 impl Stop {
     /// Writes the line and the status of its beat.
-    pub fn put(&self, out: &mut Page) {
+    pub fn put(&self, out: &mut TextBuf) {
         out.say("line # #", &[Number(self.line), Text(self.how)]);
     }
 
     /// Writes the same after the channel's letter.
-    pub fn put_with_letter(&self, out: &mut Page) {
+    pub fn put_with_letter(&self, out: &mut TextBuf) {
         out.say(", # since ", &[Letter(self.letter)]);
         self.put(out);
     }
@@ -35,7 +35,7 @@ pub struct Held {
 
 impl Held {
     /// Writes its line and its status.
-    pub fn put(&self, out: &mut Page) {
+    pub fn put(&self, out: &mut TextBuf) {
         if self.line == self.stop.line {
             return out.say("# #", &[Number(self.line), Text(self.stop.how)]);
         }
@@ -46,7 +46,7 @@ impl Held {
 
 /// Returns the source of the beat that waits on a channel, if one waits.
 #[inline(never)]
-pub fn waiting_source<K: Told, const W: usize>(
+pub fn waiting_source<K: Describe, const W: usize>(
     verdict: &Verdict,
     beats: &[Beat<K, W>],
 ) -> Option<SourceId> {
@@ -83,7 +83,7 @@ fn held_at(letters: &[u8], letter: u8, verdict: &Verdict, before: usize) -> Opti
 /// Returns the first beat of this source that its channel did not accept, and that is a request on
 /// A or a response on D. Returns `None` if no source is given.
 #[inline(never)]
-pub fn held_of<K: Told, const W: usize>(
+pub fn held_of<K: Describe, const W: usize>(
     letters: &[u8],
     letter: u8,
     verdict: &Verdict,

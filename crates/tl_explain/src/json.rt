@@ -1,18 +1,18 @@
 //! Output as JSON Lines: an object for the outcome of each line of a trace, and one for the whole
 //! trace.
-use crate::course::Came;
-use crate::fate::Fate;
+use crate::beat_outcome::BeatOutcome;
+use crate::channel_position::ChannelPosition;
+use crate::line_report::{LETTERS, LineReport, line_in};
+use crate::page_model::Links;
 use crate::picture::{Cell, Picture};
-use crate::scene::Ties;
-use crate::story::{LETTERS, Story, line_in};
-use crate::walk::Walk;
+use crate::trace_position::LineResult;
 use tl_msg::{SideFault, Verdict};
 use tl_remarks::Piece::{Address, Byte, Letter, Name, Number, Text};
-use tl_remarks::{Page, Piece, Remark, Seen, put_sentence_of};
+use tl_remarks::{BeatFields, Piece, Remark, TextBuf, put_sentence_of};
 
 /// Writes bytes as a JSON string. A byte that is not printable ASCII is written as the character
 /// with its number.
-pub fn put_string(out: &mut Page, bytes: &[u8]) {
+pub fn put_string(out: &mut TextBuf, bytes: &[u8]) {
     out.put_text("\"");
     for byte in bytes {
         match *byte {
@@ -35,7 +35,7 @@ fn truth(is_so: bool) -> Piece<'static> {
 
 /// Writes the channel of a beat and the name of its message, `null` if the channel has no such
 /// opcode.
-fn put_message(out: &mut Page, beat: &Seen) {
+fn put_message(out: &mut TextBuf, beat: &BeatFields) {
     out.say(",\"channel\":\"#\",\"message\":", &[Letter(beat.letter)]);
     match beat.kind {
         Some(kind) => out.say("\"#\"", &[Name(kind)]),
@@ -45,7 +45,7 @@ fn put_message(out: &mut Page, beat: &Seen) {
 }
 
 /// Writes the fields that the channel of a beat has.
-fn put_fields(out: &mut Page, beat: &Seen) {
+fn put_fields(out: &mut TextBuf, beat: &BeatFields) {
     put_message(out, beat);
     let (source, sink) = (Number(beat.source as u64), Number(beat.sink as u64));
     if beat.letter == b'E' {
@@ -67,7 +67,7 @@ fn put_fields(out: &mut Page, beat: &Seen) {
 
 /// Writes the line of an accepted beat's message, the number of the beat in that message, and how
 /// many bytes of the next far beat are staged.
-fn put_accepted(out: &mut Page, walk: &Walk) {
+fn put_accepted(out: &mut TextBuf, walk: &ChannelPosition) {
     let brought = &walk.brought;
     out.say(
         ",\"fate\":\"accepted\",\"message_line\":#,\"beat\":#,\"beats\":#",
@@ -90,7 +90,7 @@ fn put_accepted(out: &mut Page, walk: &Walk) {
 }
 
 /// Writes the number and the name of a fault. Does not close the fault's object.
-fn put_fault(out: &mut Page, number: u8, name: &'static str) {
+fn put_fault(out: &mut TextBuf, number: u8, name: &'static str) {
     let number = Number(number as u64);
     out.say(
         ",\"fault\":{\"number\":#,\"name\":\"#\"",
@@ -100,7 +100,7 @@ fn put_fault(out: &mut Page, number: u8, name: &'static str) {
 
 /// Writes the line of the message to which a message responds, and the line of its response, if
 /// they exist.
-fn put_ties(out: &mut Page, ties: Ties) {
+fn put_ties(out: &mut TextBuf, ties: Links) {
     if ties.asked_in != 0 {
         out.say(",\"answers\":#", &[Number(ties.asked_in)]);
     }
@@ -110,7 +110,7 @@ fn put_ties(out: &mut Page, ties: Ties) {
 }
 
 /// Writes the contents of a lane as a picture in text shows them.
-fn put_cell(out: &mut Page, cell: Cell) {
+fn put_cell(out: &mut TextBuf, cell: Cell) {
     match cell {
         Cell::Byte(byte) => out.put(Byte(byte)),
         Cell::Idle => out.put_text(".."),
@@ -122,7 +122,7 @@ fn put_cell(out: &mut Page, cell: Cell) {
 
 /// Writes the contents of a beat's lanes, lane 0 first, if the beat has a mask or data and `home`
 /// is known.
-fn put_lanes(out: &mut Page, beat: &Seen, lanes: &[u8], home: Option<u64>) {
+fn put_lanes(out: &mut TextBuf, beat: &BeatFields, lanes: &[u8], home: Option<u64>) {
     let Some(picture) = home.and_then(|home| Picture::of(beat, lanes, home)) else {
         return;
     };
@@ -136,7 +136,7 @@ fn put_lanes(out: &mut Page, beat: &Seen, lanes: &[u8], home: Option<u64>) {
 
 /// Writes which bytes of its message a beat has, if it carries data: the index of the first byte,
 /// its lane, and the number of bytes.
-fn put_bytes(out: &mut Page, beat: &Seen, width: usize, home: u64, first_byte: usize) {
+fn put_bytes(out: &mut TextBuf, beat: &BeatFields, width: usize, home: u64, first_byte: usize) {
     if !beat.carries_data() {
         return;
     }
@@ -153,7 +153,7 @@ fn put_bytes(out: &mut Page, beat: &Seen, width: usize, home: u64, first_byte: u
 }
 
 /// Writes the verdict of a channel.
-fn put_verdict(out: &mut Page, walk: &Walk) {
+fn put_verdict(out: &mut TextBuf, walk: &ChannelPosition) {
     match walk.verdict {
         Verdict::Done { near, far } => out.say(
             "{\"verdict\":\"done\",\"near\":#,\"far\":#}",
@@ -176,7 +176,7 @@ fn put_verdict(out: &mut Page, walk: &Walk) {
 
 /// Writes the verdict of a channel that stopped at a beat, after `near` accepted beats, for this
 /// fault.
-fn put_stopped(out: &mut Page, verdict: &'static str, near: u64, fault: SideFault) {
+fn put_stopped(out: &mut TextBuf, verdict: &'static str, near: u64, fault: SideFault) {
     out.say(
         "{\"verdict\":\"#\",\"near\":#",
         &[Text(verdict), Number(near)],
@@ -185,10 +185,10 @@ fn put_stopped(out: &mut Page, verdict: &'static str, near: u64, fault: SideFaul
     out.put_text("}}");
 }
 
-impl Story {
+impl LineReport {
     /// Writes the status of the line's beat, which was not accepted, and the fault that is the
     /// reason.
-    fn put_record_fault(&mut self, beat: &Seen, fate: &'static str, fault: SideFault) {
+    fn put_record_fault(&mut self, beat: &BeatFields, fate: &'static str, fault: SideFault) {
         self.page.say(",\"fate\":\"#\"", &[Text(fate)]);
         put_fault(&mut self.page, fault.number(), fault.name());
         self.page.put_text(",\"said\":\"");
@@ -197,12 +197,12 @@ impl Story {
     }
 
     /// Writes the outcome of the line's beat.
-    fn put_record_fate(&mut self, beat: &Seen, came: &Came) {
+    fn put_record_fate(&mut self, beat: &BeatFields, came: &LineResult) {
         match came.fate {
-            Fate::Accepted => put_accepted(&mut self.page, &self.course.walk),
-            Fate::Refused(fault) => self.put_record_fault(beat, "refused", fault),
-            Fate::Waiting(fault) => self.put_record_fault(beat, "waiting", fault),
-            Fate::NotOffered => {
+            BeatOutcome::Accepted => put_accepted(&mut self.page, &self.course.walk),
+            BeatOutcome::Refused(fault) => self.put_record_fault(beat, "refused", fault),
+            BeatOutcome::Waiting(fault) => self.put_record_fault(beat, "waiting", fault),
+            BeatOutcome::NotOffered => {
                 let stop = self.course.stop_of(beat.letter).unwrap_or_default();
                 let line = Number(stop.line);
                 self.page
@@ -221,8 +221,8 @@ impl Story {
     }
 
     /// Begins the object of the line. Writes everything except the far beats and the remarks.
-    pub fn begin_record(&mut self, beat: &Seen, lanes: &[u8], came: &Came) {
-        let accepted = matches!(came.fate, Fate::Accepted);
+    pub fn begin_record(&mut self, beat: &BeatFields, lanes: &[u8], came: &LineResult) {
+        let accepted = matches!(came.fate, BeatOutcome::Accepted);
         self.page.say("{\"line\":#", &[Number(self.course.line)]);
         self.put_record_time();
         put_fields(&mut self.page, beat);
@@ -246,7 +246,7 @@ impl Story {
 
     /// Adds far beat `number`, from 0, of those that the last near beat completed. Each of their
     /// lines has `length` bytes.
-    pub fn add_far(&mut self, number: usize, length: usize, beat: &Seen, lanes: &[u8]) {
+    pub fn add_far(&mut self, number: usize, length: usize, beat: &BeatFields, lanes: &[u8]) {
         let walk = &self.course.walk;
         let (home, first_byte) = (walk.home, walk.far_byte(number));
         let count = walk.brought.from.saturating_add(number);
@@ -291,7 +291,7 @@ impl Story {
             ],
         );
         for letter in LETTERS {
-            self.course.turn_to(*letter);
+            self.course.select_channel(*letter);
             self.page.say(",\"#\":", &[Letter(*letter)]);
             put_verdict(&mut self.page, &self.course.walk);
         }

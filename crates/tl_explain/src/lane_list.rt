@@ -1,6 +1,6 @@
 //! Lanes in words.
 use tl_lanes::{MAX_SIZE, Mask, WIDEST, active, is_width};
-use tl_remarks::Page;
+use tl_remarks::TextBuf;
 
 /// Returns the lanes of a message of `2^size` bytes at this address, on a bus of `w` bytes. Returns
 /// `None` if there is no such message or no such bus.
@@ -17,7 +17,7 @@ pub fn has_lane(mask: Mask, lane: usize) -> bool {
 }
 
 /// Writes the lanes of a mask: `no lane`, `lane 3`, or `lanes 0, 2 to 5`.
-pub fn put_lanes(out: &mut Page, mask: Mask) {
+pub fn put_lanes(out: &mut TextBuf, mask: Mask) {
     out.put_text(match mask.count_ones() {
         0 => "no lane",
         1 => "lane ",

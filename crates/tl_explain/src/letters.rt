@@ -1,12 +1,12 @@
 //! The lines of a trace by their letters.
 ghost use Rattle.tl_lanes.specs.Lanes.{IsWidth};
 
-use crate::story::place;
+use crate::line_report::place;
 use arrayvec::ArrayVec;
 use std::alloc::Global;
 use tl_answer::at_width;
 use tl_msg::{ChA, ChB, ChC, ChD, ChE};
-use tl_remarks::Page;
+use tl_remarks::TextBuf;
 use tl_trace::{Header, LONGEST_LINE, line_end, line_of};
 
 /// Returns the line with this letter of a beat of zeros, on `W` lanes, in a trace of this version,
@@ -39,7 +39,7 @@ fn length_of(letter: u8, header: &Header) -> usize {
 }
 
 /// Returns the first letters of the lines of a trace with this header, from line 2 on.
-pub fn letters_of(alloc: Global, text: &[u8], header: &Header) -> Page {
+pub fn letters_of(alloc: Global, text: &[u8], header: &Header) -> TextBuf {
     let lengths = [
         length_of(b'A', header),
         length_of(b'B', header),
@@ -47,7 +47,7 @@ pub fn letters_of(alloc: Global, text: &[u8], header: &Header) -> Page {
         length_of(b'D', header),
         length_of(b'E', header),
     ];
-    let mut letters = Page::new(alloc, false);
+    let mut letters = TextBuf::new(alloc, false);
     let mut at = line_end(text, 0).saturating_add(1);
     for _ in 0..text.len() {
         let Some(letter) = text.get(at) else {

@@ -1,15 +1,15 @@
 //! Other forms that a line of the wrong length has.
+use crate::line_report::LETTERS;
 use crate::places::{put_blank_end, put_expected};
-use crate::story::LETTERS;
 use std::alloc::Global;
 use tl_lanes::WIDEST_POWER;
-use tl_remarks::Page;
 use tl_remarks::Piece::{Letter, Number, Text};
+use tl_remarks::TextBuf;
 use tl_trace::{Header, header_of_text, id_digits, read};
 
 /// Returns a buffer with the header of a trace.
-pub fn header_page(alloc: Global, header: &Header) -> Page {
-    let mut page = Page::new(alloc, false);
+pub fn header_page(alloc: Global, header: &Header) -> TextBuf {
+    let mut page = TextBuf::new(alloc, false);
     page.say(
         "tilelink-trace # client # manager #",
         &[
@@ -27,7 +27,7 @@ pub fn is_trace(alloc: Global, text: &[u8]) -> bool {
 }
 
 /// Returns whether a trace with this header can have this line, if it began with this letter.
-fn fits(out: &mut Page, alloc: Global, header: &Header, letter: u8, line: &[u8]) -> bool {
+fn fits(out: &mut TextBuf, alloc: Global, header: &Header, letter: u8, line: &[u8]) -> bool {
     let mut trace = header_page(alloc, header);
     trace.put_bytes(&[b'\n', letter]);
     trace.put_bytes(line.get(1..).unwrap_or(&[]));
@@ -38,7 +38,7 @@ fn fits(out: &mut Page, alloc: Global, header: &Header, letter: u8, line: &[u8])
 
 /// Writes that the line has the form of the other version, with another number of id digits, if
 /// that is so. Returns whether it is.
-fn put_version(out: &mut Page, alloc: Global, header: &Header, letter: u8, line: &[u8]) -> bool {
+fn put_version(out: &mut TextBuf, alloc: Global, header: &Header, letter: u8, line: &[u8]) -> bool {
     let version = if header.version == 1 { 2 } else { 1 };
     let other = Header { version, ..*header };
     let is_like = fits(out, alloc, &other, letter, line);
@@ -52,7 +52,7 @@ fn put_version(out: &mut Page, alloc: Global, header: &Header, letter: u8, line:
 }
 
 /// Returns the width of the bus on which the line has the form of its channel; 0 if there is none.
-fn width_of(out: &mut Page, alloc: Global, header: &Header, letter: u8, line: &[u8]) -> usize {
+fn width_of(out: &mut TextBuf, alloc: Global, header: &Header, letter: u8, line: &[u8]) -> usize {
     for power in 0..=WIDEST_POWER {
         let width = 1usize << power;
         let other = Header {
@@ -77,7 +77,7 @@ fn side_of(header: &Header, letter: u8) -> (&'static str, usize) {
 
 /// Writes that the line has the form of its channel at another width, if that is so, and whether
 /// the header gave this width in bits. Returns whether the line has that form.
-fn put_width(out: &mut Page, alloc: Global, header: &Header, letter: u8, line: &[u8]) -> bool {
+fn put_width(out: &mut TextBuf, alloc: Global, header: &Header, letter: u8, line: &[u8]) -> bool {
     let width = width_of(out, alloc, header, letter, line);
     if width == 0 {
         return false;
@@ -96,7 +96,7 @@ fn put_width(out: &mut Page, alloc: Global, header: &Header, letter: u8, line: &
 }
 
 /// Writes that the line has the form of another channel, if that is so. Returns whether it is.
-fn put_channel(out: &mut Page, alloc: Global, header: &Header, line: &[u8]) -> bool {
+fn put_channel(out: &mut TextBuf, alloc: Global, header: &Header, line: &[u8]) -> bool {
     for letter in LETTERS {
         if fits(out, alloc, header, *letter, line) {
             out.say("; it has the form of a line of #", &[Letter(*letter)]);
@@ -108,14 +108,14 @@ fn put_channel(out: &mut Page, alloc: Global, header: &Header, line: &[u8]) -> b
 
 /// Writes that the line has the form of another version, width or channel, if that is so. Returns
 /// whether it is.
-fn put_alike(out: &mut Page, alloc: Global, header: &Header, letter: u8, line: &[u8]) -> bool {
+fn put_alike(out: &mut TextBuf, alloc: Global, header: &Header, letter: u8, line: &[u8]) -> bool {
     put_version(out, alloc, header, letter, line)
         || put_width(out, alloc, header, letter, line)
         || put_channel(out, alloc, header, line)
 }
 
 /// Writes that there are bytes after the end of a line; `last` is the last of them.
-fn put_behind(out: &mut Page, last: u8) {
+fn put_behind(out: &mut TextBuf, last: u8) {
     if last.is_ascii_graphic() {
         out.put_text("; nothing may follow the last field: a trace has no comments");
     } else {
@@ -126,7 +126,14 @@ fn put_behind(out: &mut Page, last: u8) {
 /// Writes that a line has another length than this form, and the likely cause: a line of another
 /// version, width or channel, or one with bytes after its end. Otherwise writes the fault at the
 /// first position that does not fit the form.
-pub fn put_length(out: &mut Page, alloc: Global, text: &[u8], line: &[u8], form: &[u8], at: usize) {
+pub fn put_length(
+    out: &mut TextBuf,
+    alloc: Global,
+    text: &[u8],
+    line: &[u8],
+    form: &[u8],
+    at: usize,
+) {
     out.say(
         "the line has # characters and has to have #, in the form below the mark",
         &[Number(line.len() as u64), Number(form.len() as u64)],

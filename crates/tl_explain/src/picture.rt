@@ -2,7 +2,7 @@
 use crate::lane_list::{has_lane, lanes_of};
 use tl_lanes::{Mask, WIDEST};
 use tl_remarks::Piece::{Byte, Text};
-use tl_remarks::{Page, Piece, Seen};
+use tl_remarks::{BeatFields, Piece, TextBuf};
 
 /// The number of lanes in a row.
 pub const ROW: usize = 16;
@@ -42,7 +42,7 @@ pub struct Picture<'a> {
 impl<'a> Picture<'a> {
     /// Returns the picture of a beat with these lanes, if it has a mask or data. `home` is the
     /// address that determines the lanes of the message's bytes.
-    pub fn of(beat: &Seen, lanes: &'a [u8], home: u64) -> Option<Picture<'a>> {
+    pub fn of(beat: &BeatFields, lanes: &'a [u8], home: u64) -> Option<Picture<'a>> {
         let (is_masked, has_data) = (beat.is_masked(), beat.carries_data());
         if !is_masked && !has_data {
             return None;
@@ -94,7 +94,7 @@ impl<'a> Picture<'a> {
     }
 
     /// Writes the numbers of `count` lanes from `from` on, highest first.
-    fn put_numbers(&self, out: &mut Page, from: usize, count: usize) {
+    fn put_numbers(&self, out: &mut TextBuf, from: usize, count: usize) {
         let room = self.blanks().len().saturating_add(1);
         for back in 0..count {
             let lane = from.saturating_add(count - 1 - back);
@@ -103,7 +103,7 @@ impl<'a> Picture<'a> {
     }
 
     /// Writes the contents of these lanes.
-    fn put_lanes(&self, out: &mut Page, from: usize, count: usize) {
+    fn put_lanes(&self, out: &mut TextBuf, from: usize, count: usize) {
         let blanks = self.blanks();
         for back in 0..count {
             out.put_text(blanks);
@@ -113,7 +113,7 @@ impl<'a> Picture<'a> {
 
     /// Writes up to one row of lanes, from lane `from` on: their numbers, and below them their
     /// bytes.
-    fn put_row(&self, out: &mut Page, name: &str, from: usize) {
+    fn put_row(&self, out: &mut TextBuf, name: &str, from: usize) {
         let count = self.lanes.len().saturating_sub(from).min(ROW);
         out.put_text("    lane");
         self.put_numbers(out, from, count);
@@ -124,7 +124,7 @@ impl<'a> Picture<'a> {
     }
 
     /// Writes all lanes of a beat, highest first, in rows of 16.
-    fn put(&self, out: &mut Page, name: &str) {
+    fn put(&self, out: &mut TextBuf, name: &str) {
         for row in 0..ROWS {
             let from = (ROWS - 1 - row) * ROW;
             if from < self.lanes.len() {
@@ -136,7 +136,7 @@ impl<'a> Picture<'a> {
 
 /// Writes the picture of a beat with this name, of four letters, and these bytes on its lanes, if
 /// it has a mask or data. `home` is the address that determines the lanes of the message's bytes.
-pub fn put_picture(out: &mut Page, name: &str, beat: &Seen, lanes: &[u8], home: u64) {
+pub fn put_picture(out: &mut TextBuf, name: &str, beat: &BeatFields, lanes: &[u8], home: u64) {
     if let Some(picture) = Picture::of(beat, lanes, home) {
         picture.put(out, name);
     }

@@ -1,6 +1,6 @@
 //! The expected and the actual byte at a position of a line.
-use tl_remarks::Page;
 use tl_remarks::Piece::{Byte, Letter, Text};
+use tl_remarks::TextBuf;
 
 /// The text on the expected line 1.
 const HEADER: &str =
@@ -66,7 +66,7 @@ fn byte_name(byte: u8) -> &'static str {
 }
 
 /// Writes the byte at a position of a line.
-fn put_found(out: &mut Page, line: &[u8], at: usize) {
+fn put_found(out: &mut TextBuf, line: &[u8], at: usize) {
     let Some(byte) = line.get(at) else {
         return out.put_text(", but the line ends here");
     };
@@ -101,7 +101,7 @@ fn field_at(form: &[u8], at: usize) -> &'static str {
 }
 
 /// Writes the expected byte at a position of a line of this form, and the actual one.
-pub fn put_expected(out: &mut Page, line: &[u8], form: &[u8], at: usize) {
+pub fn put_expected(out: &mut TextBuf, line: &[u8], form: &[u8], at: usize) {
     let sentence = match form.get(at) {
         Some(b' ') => "expected a space",
         Some(_) => "expected a digit, 0 to 9 or a to f, of the field #",
@@ -115,7 +115,7 @@ pub fn put_expected(out: &mut Page, line: &[u8], form: &[u8], at: usize) {
 }
 
 /// Writes the digits that are allowed at a position of a line of this form, and the actual one.
-pub fn put_range(out: &mut Page, line: &[u8], form: &[u8], at: usize, largest: u8) {
+pub fn put_range(out: &mut TextBuf, line: &[u8], form: &[u8], at: usize, largest: u8) {
     let field = Text(field_at(form, at));
     out.say(
         "expected a digit from 0 to #, of the field #",
@@ -125,7 +125,7 @@ pub fn put_range(out: &mut Page, line: &[u8], form: &[u8], at: usize, largest: u
 }
 
 /// Writes that a line does not begin with the letter of a channel, and its first byte.
-pub fn put_no_channel(out: &mut Page, line: &[u8]) {
+pub fn put_no_channel(out: &mut TextBuf, line: &[u8]) {
     out.put_text("expected a channel's letter, A to E");
     match line.first() {
         None => out.put_text(": the line is blank, and a trace has no blank lines"),
@@ -137,7 +137,7 @@ pub fn put_no_channel(out: &mut Page, line: &[u8]) {
 
 /// Writes the expected line 1, and why this line is not a valid header, if its beginning or end
 /// shows that.
-pub fn put_no_header(out: &mut Page, line: &[u8]) {
+pub fn put_no_header(out: &mut TextBuf, line: &[u8]) {
     out.put_text(HEADER);
     for (begin, why) in NO_HEADERS {
         if line.starts_with(begin) {
@@ -151,7 +151,7 @@ pub fn put_no_header(out: &mut Page, line: &[u8]) {
 }
 
 /// Writes that a line ends with an invisible byte, if it does.
-pub fn put_blank_end(out: &mut Page, last: u8) {
+pub fn put_blank_end(out: &mut TextBuf, last: u8) {
     if let b' ' | b'\t' | b'\r' = last {
         out.say("; the line ends with #", &[Text(byte_name(last))]);
     }

@@ -1,18 +1,18 @@
 //! The sentence on the outcome of one line.
 use crate::alike::Alike;
-use crate::course::{Came, Course};
-use crate::fate::Fate;
+use crate::beat_outcome::BeatOutcome;
+use crate::channel_position::{ChannelPosition, FarProgress};
 use crate::faults::put_beat_fault;
+use crate::line_report::place;
 use crate::requests::Requests;
-use crate::story::place;
-use crate::walk::{Brought, Walk};
+use crate::trace_position::{LineResult, TracePosition};
 use crate::words::{put_fields, source_of};
 use tl_msg::{SideFault, Verdict};
 use tl_remarks::Piece::{Coloured, Id, Length, Letter, Number, Text};
-use tl_remarks::{Colour, Message, Page, Piece, Seen};
+use tl_remarks::{BeatFields, Colour, Message, Piece, TextBuf};
 
 /// Writes why a beat of A waits: its source is busy with its last request.
-fn put_busy(out: &mut Page, beat: &Seen, requests: &Requests) {
+fn put_busy(out: &mut TextBuf, beat: &BeatFields, requests: &Requests) {
     let (sentence, line) = match requests.last(beat.source) {
         Some(request) => (
             "source # still waits for the response to its request in line #",
@@ -35,7 +35,7 @@ fn put_busy(out: &mut Page, beat: &Seen, requests: &Requests) {
 
 /// Writes that no request has the source of a beat of D, and names the first request that waits for
 /// a response.
-fn put_none_sent(out: &mut Page, beat: &Seen, first_open: Option<Message>) {
+fn put_none_sent(out: &mut TextBuf, beat: &BeatFields, first_open: Option<Message>) {
     out.put_text(": send one on A, or mend the source");
     if let Some(request) = first_open {
         let waits = "; the first request that waits is of source #, in line #";
@@ -45,7 +45,7 @@ fn put_none_sent(out: &mut Page, beat: &Seen, first_open: Option<Message>) {
 }
 
 /// Writes why no request with the source of a beat of D waits for a response.
-fn put_none_waits(out: &mut Page, beat: &Seen, requests: &Requests) {
+fn put_none_waits(out: &mut TextBuf, beat: &BeatFields, requests: &Requests) {
     if let Some(held) = requests.held.request {
         out.put_text(": that in line ");
         held.put(out);
@@ -58,7 +58,7 @@ fn put_none_waits(out: &mut Page, beat: &Seen, requests: &Requests) {
 }
 
 /// Writes why a beat of D waits: no request of its source that waits for a response has arrived.
-fn put_no_request(out: &mut Page, beat: &Seen, requests: &Requests) {
+fn put_no_request(out: &mut TextBuf, beat: &BeatFields, requests: &Requests) {
     let source = source_of(beat);
     if let Some(request) = requests.open(Some(beat.source)) {
         out.say(
@@ -72,7 +72,7 @@ fn put_no_request(out: &mut Page, beat: &Seen, requests: &Requests) {
 }
 
 /// Writes why a beat of D is refused: its size is not that of this request.
-fn put_mismatch(out: &mut Page, beat: &Seen, open: Option<Message>) {
+fn put_mismatch(out: &mut TextBuf, beat: &BeatFields, open: Option<Message>) {
     let size = Length(beat.size);
     match open {
         Some(request) => out.say(
@@ -88,10 +88,10 @@ fn put_mismatch(out: &mut Page, beat: &Seen, open: Option<Message>) {
 
 /// Writes why the next near beat was not accepted.
 fn put_fault_sentence(
-    out: &mut Page,
-    beat: &Seen,
+    out: &mut TextBuf,
+    beat: &BeatFields,
     fault: SideFault,
-    walk: &Walk,
+    walk: &ChannelPosition,
     requests: &Requests,
 ) {
     match fault {
@@ -102,9 +102,9 @@ fn put_fault_sentence(
     }
 }
 
-impl Brought {
+impl FarProgress {
     /// Writes which far beats the beat completed, counted from 0.
-    pub fn put_far(&self, out: &mut Page) {
+    pub fn put_far(&self, out: &mut TextBuf) {
         let (first, last) = (self.from as u64, (self.to as u64).saturating_sub(1));
         if first == last {
             out.put_text(", far beat ");
@@ -116,56 +116,69 @@ impl Brought {
 }
 
 /// Writes that the only beat of a message was accepted, and its far beats.
-fn put_accepted(out: &mut Page, brought: &Brought) {
+fn put_accepted(out: &mut TextBuf, brought: &FarProgress) {
     out.put_text(": ");
     out.put_coloured(Colour::Green, "accepted");
     brought.put_far(out);
 }
 
-impl Course {
+impl TracePosition {
     /// Writes why a beat was not accepted.
-    pub fn put_fault_sentence(&self, out: &mut Page, beat: &Seen, fault: SideFault) {
+    pub fn put_fault_sentence(&self, out: &mut TextBuf, beat: &BeatFields, fault: SideFault) {
         put_fault_sentence(out, beat, fault, &self.walk, &self.requests);
     }
 
     /// Writes why a beat was not accepted, after the word for its status.
-    fn put_held(&self, out: &mut Page, beat: &Seen, fault: SideFault, word: Piece<'static>) {
+    fn put_held(
+        &self,
+        out: &mut TextBuf,
+        beat: &BeatFields,
+        fault: SideFault,
+        word: Piece<'static>,
+    ) {
         let number = Number(fault.number() as u64);
         out.say(": #, # #: ", &[word, number, Text(fault.name())]);
         self.put_fault_sentence(out, beat, fault);
     }
 
     /// Writes that a beat was not offered, and why.
-    fn put_not_offered(&self, out: &mut Page, beat: &Seen) {
+    fn put_not_offered(&self, out: &mut TextBuf, beat: &BeatFields) {
         out.put_text(": not offered, since ");
         self.stop_of(beat.letter).unwrap_or_default().put(out);
     }
 
     /// Writes the outcome of a beat.
-    fn put_fate(&self, out: &mut Page, beat: &Seen, came: &Came) {
+    fn put_fate(&self, out: &mut TextBuf, beat: &BeatFields, came: &LineResult) {
         match came.fate {
-            Fate::Accepted => put_accepted(out, &self.walk.brought),
-            Fate::Refused(fault) => self.put_held(
+            BeatOutcome::Accepted => put_accepted(out, &self.walk.brought),
+            BeatOutcome::Refused(fault) => self.put_held(
                 out,
                 beat,
                 fault,
                 Coloured(Colour::Red, "refused"),
             ),
-            Fate::Waiting(fault) => self.put_held(
+            BeatOutcome::Waiting(fault) => self.put_held(
                 out,
                 beat,
                 fault,
                 Coloured(Colour::Yellow, "waiting"),
             ),
-            Fate::NotOffered => self.put_not_offered(out, beat),
+            BeatOutcome::NotOffered => self.put_not_offered(out, beat),
         }
     }
 
     /// Writes the fields of a beat and its outcome. The sentences on the beats of a message share
     /// most of their text.
-    fn put_beat(&self, out: &mut Page, alike: &mut Vec<Alike>, beat: &Seen, came: &Came) {
+    fn put_beat(
+        &self,
+        out: &mut TextBuf,
+        alike: &mut Vec<Alike>,
+        beat: &BeatFields,
+        came: &LineResult,
+    ) {
         let walk = &self.walk;
-        let is_one_of_several = matches!(came.fate, Fate::Accepted) & (walk.brought.beats > 1);
+        let is_one_of_several = matches!(came.fate, BeatOutcome::Accepted)
+            & (walk.brought.beats > 1);
         match alike.get_mut(place(beat.letter)) {
             Some(alike) if is_one_of_several => {
                 alike.put(out, beat, &walk.brought, walk.first_line);
@@ -178,7 +191,13 @@ impl Course {
     }
 
     /// Writes the outcome of the last line's beat, to follow the number of the line.
-    pub fn put_line(&self, out: &mut Page, alike: &mut Vec<Alike>, beat: &Seen, came: &Came) {
+    pub fn put_line(
+        &self,
+        out: &mut TextBuf,
+        alike: &mut Vec<Alike>,
+        beat: &BeatFields,
+        came: &LineResult,
+    ) {
         self.put_beat(out, alike, beat, came);
         match came.answers {
             0 => out.put_text("\n"),
@@ -188,7 +207,7 @@ impl Course {
 
     /// If the lines of the channel end within a burst, writes that, and how many of its beats
     /// exist.
-    pub fn put_cut(&self, out: &mut Page) {
+    pub fn put_cut(&self, out: &mut TextBuf) {
         let walk = &self.walk;
         if let Verdict::Cut { .. } = walk.verdict {
             out.say(

@@ -1,9 +1,9 @@
 //! The lines that are shown, in their order.
-use crate::look::Choice;
-use crate::story::{Fares, LETTERS, Story};
+use crate::display_options::LineFilter;
+use crate::line_report::{BeatStatus, LETTERS, LineReport};
 use tl_msg::SourceId;
-use tl_remarks::Page;
 use tl_remarks::Piece::Number;
+use tl_remarks::TextBuf;
 
 /// The entry of a line that is shown, or of several lines whose beats were not offered.
 #[derive(Clone, Copy, Default)]
@@ -13,7 +13,9 @@ pub struct Item {
     /// The number of the line, or of the first and of the last of several lines.
     pub line: u64,
     pub last: u64,
-    pub fares: Fares,
+    pub fares: BeatStatus,
+    /// The line of the first beat of its message; 0 if its beat was not accepted.
+    pub message: u64,
     /// The positions, in the whole text, of the beginning and the end of the sentence, and of the
     /// end of the remarks on the line, which come after it.
     pub from: usize,
@@ -61,7 +63,7 @@ impl Run {
     }
 
     /// Writes which lines these are, and that their beats were not offered.
-    fn put(&self, out: &mut Page) {
+    fn put(&self, out: &mut TextBuf) {
         out.say(
             "lines # to #, # beats: not offered",
             &[
@@ -73,14 +75,14 @@ impl Run {
     }
 }
 
-impl Choice {
+impl LineFilter {
     /// Returns whether a line, whose beat has this source, is shown.
     pub fn shows(&self, line: &Item, source: SourceId, has_remarks: bool) -> bool {
         let is_of_source = match self.source {
             Some(wanted) => line.letter != b'E' && source == wanted,
             None => true,
         };
-        let is_problem = has_remarks || line.fares != Fares::Accepted;
+        let is_problem = has_remarks || line.fares != BeatStatus::Accepted;
         is_of_source
             && self.from.unwrap_or(0) <= line.line
             && line.line <= self.to.unwrap_or(u64::MAX)
@@ -89,7 +91,7 @@ impl Choice {
     }
 }
 
-impl Story {
+impl LineReport {
     /// Writes one sentence on several lines whose beats were not offered.
     fn put_several(&mut self) {
         self.run.put(&mut self.page);

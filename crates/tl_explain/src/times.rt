@@ -3,7 +3,7 @@
 ghost use Rattle.std.specs.Prelude.{◌≤◌, length};
 
 use std::alloc::Global;
-use tl_remarks::Page;
+use tl_remarks::TextBuf;
 use tl_trace::line_end;
 
 /// The largest number of digits of a time before its decimal point, and after it.
@@ -152,7 +152,7 @@ pub struct Times {
 impl Times {
     /// Returns the times in a text that `check_times` accepts, at the position before the first
     /// beat. An empty text has no times. Records in the page if the allocator fails.
-    pub fn new(alloc: Global, text: &[u8], page: &mut Page) -> Times {
+    pub fn new(alloc: Global, text: &[u8], page: &mut TextBuf) -> Times {
         let mut times = Times {
             text: Vec::new(alloc),
             from: 0,

@@ -7,8 +7,8 @@ use crate::places::{put_expected, put_no_channel, put_no_header, put_range};
 use arrayvec::ArrayVec;
 use std::alloc::{AllocError, Global};
 use tl_lanes::WIDEST_POWER;
-use tl_remarks::Page;
 use tl_remarks::Piece::{Number, Text};
+use tl_remarks::TextBuf;
 use tl_trace::{Header, LONGEST_LINE, TraceFault, TraceKind, header_of_text, line_end};
 
 /// The number of bytes of a line that are shown: the length of the longest line of a trace, so that
@@ -35,7 +35,7 @@ fn line_at(text: &[u8], number: u64) -> &[u8] {
 /// A trace of one line, for trying bytes in it.
 #[derive(Drop)]
 struct Trial {
-    trace: Page,
+    trace: TextBuf,
     /// The position of the line.
     start: usize,
 }
@@ -43,7 +43,7 @@ struct Trial {
 impl Trial {
     /// Returns the trace with this header and a line of this form.
     fn new(alloc: Global, header: &[u8], form: &[u8]) -> Trial {
-        let mut trace = Page::new(alloc, false);
+        let mut trace = TextBuf::new(alloc, false);
         trace.put_bytes(header);
         trace.put_bytes(b"\n");
         let start = trace.len();
@@ -95,7 +95,7 @@ fn same_bytes(line: &[u8], text: &[u8]) -> usize {
 }
 
 /// Returns the length of the longest common beginning of a line and a valid header.
-fn header_place(out: &mut Page, alloc: Global, line: &[u8]) -> usize {
+fn header_place(out: &mut TextBuf, alloc: Global, line: &[u8]) -> usize {
     let mut most = 0;
     for i in 0..2 * WIDTHS * WIDTHS {
         let header = Header {
@@ -115,7 +115,7 @@ fn header_place(out: &mut Page, alloc: Global, line: &[u8]) -> usize {
 
 /// Writes the first bytes of a line. A byte that is not printable ASCII is written as a question
 /// mark.
-fn put_shown(out: &mut Page, line: &[u8]) {
+fn put_shown(out: &mut TextBuf, line: &[u8]) {
     out.put_text("    ");
     for byte in line.get(..SHOWN).unwrap_or(line) {
         out.put_bytes(&[match *byte {
@@ -127,7 +127,7 @@ fn put_shown(out: &mut Page, line: &[u8]) {
 }
 
 /// Writes a line, and below it a mark under this position.
-fn put_marked(out: &mut Page, line: &[u8], at: usize) {
+fn put_marked(out: &mut TextBuf, line: &[u8], at: usize) {
     out.put_text("\n");
     put_shown(out, line);
     out.put_text("    ");
@@ -139,7 +139,13 @@ fn put_marked(out: &mut Page, line: &[u8], at: usize) {
 
 /// Returns the first position at which a line does not fit this form, and the largest digit that is
 /// allowed there.
-fn bad_place(out: &mut Page, alloc: Global, text: &[u8], line: &[u8], form: &[u8]) -> (usize, u8) {
+fn bad_place(
+    out: &mut TextBuf,
+    alloc: Global,
+    text: &[u8],
+    line: &[u8],
+    form: &[u8],
+) -> (usize, u8) {
     let mut trial = Trial::new(alloc, line_at(text, 1), form);
     out.out_of_memory |= trial.trace.out_of_memory;
     let at = trial.bad_place(alloc, line, form.len());
@@ -149,7 +155,7 @@ fn bad_place(out: &mut Page, alloc: Global, text: &[u8], line: &[u8], form: &[u8
 /// Returns the position of a line's fault, and the largest digit that is allowed there. The form is
 /// empty if the line has none.
 fn place_of(
-    out: &mut Page,
+    out: &mut TextBuf,
     alloc: Global,
     text: &[u8],
     line: &[u8],
@@ -165,7 +171,7 @@ fn place_of(
 
 /// Writes what was expected in a line of this form. Returns the position of its fault.
 fn put_fault(
-    out: &mut Page,
+    out: &mut TextBuf,
     alloc: Global,
     text: &[u8],
     line: &[u8],
@@ -194,7 +200,7 @@ fn form_at(text: &[u8], number: u64, line: &[u8]) -> ArrayVec<u8, LONGEST_LINE> 
 }
 
 /// Writes the first bytes of a line as a string.
-fn put_line_string(out: &mut Page, line: &[u8]) {
+fn put_line_string(out: &mut TextBuf, line: &[u8]) {
     put_string(out, line.get(..SHOWN).unwrap_or(line));
 }
 
@@ -207,9 +213,9 @@ pub fn fault_record(alloc: Global, text: &[u8], fault: &TraceFault) -> Result<Ve
     let line = line_at(text, fault.line);
     let form = form_at(text, fault.line, line);
     let form = form.as_slice().trim_ascii_end();
-    let mut said = Page::new(alloc, false);
+    let mut said = TextBuf::new(alloc, false);
     let at = put_fault(&mut said, alloc, text, line, form, fault.kind);
-    let mut out = Page::new(alloc, false);
+    let mut out = TextBuf::new(alloc, false);
     let number = fault.number() as u64;
     out.say(
         "{\"line\":#,\"fault\":{\"number\":#,\"name\":\"#\",\"said\":",
@@ -235,7 +241,7 @@ pub fn show_fault(alloc: Global, text: &[u8], fault: &TraceFault) -> Result<Vec<
     let line = line_at(text, fault.line);
     let form = form_at(text, fault.line, line);
     let form = form.as_slice().trim_ascii_end();
-    let mut out = Page::new(alloc, false);
+    let mut out = TextBuf::new(alloc, false);
     let number = fault.number() as u64;
     out.say(
         "line #: # #: ",

@@ -1,9 +1,9 @@
 //! A beat in words.
 use tl_remarks::Piece::{self, Id, Name, Opcode, Text};
-use tl_remarks::{Page, Seen};
+use tl_remarks::{BeatFields, TextBuf};
 
 /// Returns the message's name, as the standard spells it.
-pub fn name_of(beat: &Seen) -> Piece<'static> {
+pub fn name_of(beat: &BeatFields) -> Piece<'static> {
     match beat.kind {
         Some(kind) => Name(kind),
         None if beat.letter == b'E' => Text("GrantAck"),
@@ -12,12 +12,12 @@ pub fn name_of(beat: &Seen) -> Piece<'static> {
 }
 
 /// Returns a beat's source.
-pub fn source_of(beat: &Seen) -> Piece<'static> {
+pub fn source_of(beat: &BeatFields) -> Piece<'static> {
     Id(beat.source, beat.version)
 }
 
 /// Returns the words for a beat that is denied or corrupt.
-fn flags_of(beat: &Seen) -> &'static str {
+fn flags_of(beat: &BeatFields) -> &'static str {
     match (beat.denied, beat.corrupt) {
         (false, false) => "",
         (true, false) => ", denied",
@@ -27,7 +27,7 @@ fn flags_of(beat: &Seen) -> &'static str {
 }
 
 /// Writes, after a colon, a beat's channel, its message, and the fields that identify it.
-fn put_head(out: &mut Page, beat: &Seen) {
+fn put_head(out: &mut TextBuf, beat: &BeatFields) {
     out.put_bytes(&[b':', b' ', beat.letter, b' ']);
     out.put(name_of(beat));
     if beat.letter == b'E' {
@@ -45,7 +45,7 @@ fn put_head(out: &mut Page, beat: &Seen) {
 }
 
 /// Writes the same, and whether the beat is denied or corrupt.
-pub fn put_fields(out: &mut Page, beat: &Seen) {
+pub fn put_fields(out: &mut TextBuf, beat: &BeatFields) {
     put_head(out, beat);
     out.put_text(flags_of(beat));
 }

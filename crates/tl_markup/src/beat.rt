@@ -1,14 +1,14 @@
 //! A beat with its lanes.
 use crate::text::{ascii, put_escaped};
 use tl_explain::{Cell, Drawing, Drawn, Picture, ROW};
-use tl_remarks::Page;
 use tl_remarks::Piece::{Byte, Number, Text};
+use tl_remarks::TextBuf;
 
 /// The number of lanes in a row of a narrow column.
 const NARROW_ROW: usize = 8;
 
 /// Writes a lane.
-fn put_cell(out: &mut Page, cell: Cell) {
+fn put_cell(out: &mut TextBuf, cell: Cell) {
     match cell {
         Cell::Byte(byte) => {
             out.put_text("<td>");
@@ -23,7 +23,7 @@ fn put_cell(out: &mut Page, cell: Cell) {
 }
 
 /// Writes the lanes of a picture, highest first. The style breaks them into rows.
-fn put_cells(out: &mut Page, picture: &Picture<'_>) {
+fn put_cells(out: &mut TextBuf, picture: &Picture<'_>) {
     let width = picture.lanes.len();
     for back in 0..width {
         put_cell(out, picture.cell(width - 1 - back));
@@ -32,7 +32,7 @@ fn put_cells(out: &mut Page, picture: &Picture<'_>) {
 
 /// Writes which bytes of its message a beat has on `width` lanes: the index of the first byte, its
 /// lane, and the number of bytes.
-fn put_bytes(out: &mut Page, drawn: &Drawn, width: usize) {
+fn put_bytes(out: &mut TextBuf, drawn: &Drawn, width: usize) {
     let first = (drawn.home.unwrap_or(0) as usize).wrapping_add(drawn.first_byte);
     let length = 1usize.wrapping_shl(drawn.beat.size as u32);
     out.say(
@@ -48,7 +48,7 @@ fn put_bytes(out: &mut Page, drawn: &Drawn, width: usize) {
 
 /// Ends the tag of a table with its number of lanes, and the number of lanes in a row of a narrow
 /// column and of a wide one.
-fn put_row_style(out: &mut Page, width: usize) {
+fn put_row_style(out: &mut TextBuf, width: usize) {
     let (narrow, wide) = (width.min(NARROW_ROW), width.min(ROW));
     out.say(
         " style=\"--width:#;--row:#;--wide:#\"><tbody><tr>",
@@ -61,7 +61,7 @@ fn put_row_style(out: &mut Page, width: usize) {
 }
 
 /// Writes the lanes of a beat, if it has any to show.
-fn put_lanes(out: &mut Page, drawing: &Drawing, drawn: &Drawn) {
+fn put_lanes(out: &mut TextBuf, drawing: &Drawing, drawn: &Drawn) {
     let Some(picture) = drawing.picture(drawn) else {
         return;
     };
@@ -76,7 +76,7 @@ fn put_lanes(out: &mut Page, drawing: &Drawing, drawn: &Drawn) {
 }
 
 /// Writes a beat: its line, and its lanes if it has any to show.
-pub fn put_beat(out: &mut Page, drawing: &Drawing, drawn: &Drawn) {
+pub fn put_beat(out: &mut TextBuf, drawing: &Drawing, drawn: &Drawn) {
     let side = Text(if drawn.is_far { "far" } else { "near" });
     out.say(
         "<figure class=\"#\"><figcaption><span>#</span> <code>",

@@ -1,25 +1,26 @@
 //! Whole pages for a browser.
 use crate::row::put_rows;
 use crate::sentence::put_paragraphs;
-use crate::style::{BEGINNING, END, LEGEND, SCRIPT, STYLE};
+use crate::style::{BEGINNING, END, FOLD, LEGEND, SCRIPT, STYLE};
 use crate::summary::{put_answer, put_columns, put_heads, put_problems};
 use crate::text::{ascii, put_escaped};
 use std::alloc::{AllocError, Global};
-use tl_explain::Scene;
-use tl_remarks::Page;
+use tl_explain::PageModel;
+use tl_remarks::TextBuf;
 
 /// Returns a page up to its contents.
-fn begun(alloc: Global) -> Page {
-    let mut out = Page::new(alloc, false);
+fn begun(alloc: Global) -> TextBuf {
+    let mut out = TextBuf::new(alloc, false);
     out.put_bytes(BEGINNING);
     out.put_bytes(STYLE);
     out
 }
 
 /// Writes the contents of a page, and the part after them.
-fn put_scene(out: &mut Page, scene: &Scene) {
+fn put_scene(out: &mut TextBuf, scene: &PageModel) {
     put_answer(out, scene);
     put_problems(out, scene);
+    out.put_bytes(FOLD);
     put_columns(out, scene);
     put_heads(out, scene);
     out.put_text("<div class=\"row\">");
@@ -32,7 +33,7 @@ fn put_scene(out: &mut Page, scene: &Scene) {
 }
 
 /// Returns the page of a trace. Errors: `AllocError` if the allocator fails.
-pub fn markup_of(alloc: Global, scene: Scene) -> Result<Vec<u8>, AllocError> {
+pub fn markup_of(alloc: Global, scene: PageModel) -> Result<Vec<u8>, AllocError> {
     let mut out = begun(alloc);
     put_scene(&mut out, &scene);
     drop(scene);

@@ -1,11 +1,11 @@
 //! Sentences in which lines are links.
 use crate::text::{ascii, halves, put_escaped};
-use tl_explain::Scene;
-use tl_remarks::Page;
+use tl_explain::PageModel;
 use tl_remarks::Piece::Number;
+use tl_remarks::TextBuf;
 
 /// Writes a link to a line.
-pub fn put_link(out: &mut Page, line: u64) {
+pub fn put_link(out: &mut TextBuf, line: u64) {
     out.put_text("<a href=\"#line-");
     out.say("#\">line #</a>", &[Number(line), Number(line)]);
 }
@@ -26,7 +26,7 @@ fn number_in(text: &str) -> (u64, usize) {
 
 /// Writes `line ` before a text. If the text begins with the number of a line on the page, writes
 /// that number as a link. Returns the rest of the text.
-fn put_line<'a>(out: &mut Page, scene: &Scene, text: &'a str) -> &'a str {
+fn put_line<'a>(out: &mut TextBuf, scene: &PageModel, text: &'a str) -> &'a str {
     let (line, digits) = number_in(text);
     if !scene.ties(line).is_shown {
         out.put_text("line ");
@@ -37,7 +37,7 @@ fn put_line<'a>(out: &mut Page, scene: &Scene, text: &'a str) -> &'a str {
 }
 
 /// Writes a sentence in which each line on the page is a link.
-pub fn put_sentence(out: &mut Page, scene: &Scene, sentence: &str) {
+pub fn put_sentence(out: &mut TextBuf, scene: &PageModel, sentence: &str) {
     let mut rest = sentence;
     for _ in 0..sentence.len() {
         let (before, after) = halves(rest, "line ");
@@ -50,7 +50,7 @@ pub fn put_sentence(out: &mut Page, scene: &Scene, sentence: &str) {
 }
 
 /// Writes sentences, one per line, as paragraphs with this beginning.
-pub fn put_paragraphs(out: &mut Page, scene: &Scene, begin: &'static str, sentences: &[u8]) {
+pub fn put_paragraphs(out: &mut TextBuf, scene: &PageModel, begin: &'static str, sentences: &[u8]) {
     for sentence in ascii(sentences).lines() {
         out.put_text(begin);
         put_sentence(out, scene, sentence.trim_ascii());

@@ -29,25 +29,33 @@ pub const STYLE: &[u8] = br#"<style>
 * { box-sizing: border-box; margin: 0; }
 body { font: 14px/1.45 system-ui, sans-serif; color: var(--ink); background: var(--paper); padding: 1.5rem; }
 h1 { font-size: 1.35rem; font-weight: 600; }
+header { display: grid; grid-template: auto 1fr / 1fr auto; gap: .5rem 2rem; margin-bottom: .75rem; }
+.overview { font-size: 1rem; max-width: 60rem; } .answer { grid-area: 1 / 2 / 3; margin: 0; }
 small, figcaption, .legend { color: var(--faint); font-weight: 400; }
 code, pre, td { font-family: ui-monospace, monospace; }
 pre { margin: .75rem 0 1.25rem; font-size: 13px; overflow-x: auto; }
 .fault { color: var(--bad); }
 a { color: inherit; text-decoration-color: var(--faint); text-underline-offset: .15em; }
 main { --cell: 1.45rem; --column: 13.5rem; width: max(100%, calc(var(--count) * (var(--column) + .75rem))); }
-.row { display: grid; grid-template-columns: repeat(var(--count), minmax(var(--column), 34rem)); gap: .75rem; align-items: start; margin-bottom: .75rem; content-visibility: auto; contain-intrinsic-size: auto 9rem; }
+.row { display: grid; grid-template-columns: repeat(var(--count), minmax(var(--column), 34rem)); gap: .4rem .75rem; align-items: start; margin-bottom: .4rem; content-visibility: auto; contain-intrinsic-size: auto 4rem; }
 .heads { position: sticky; top: 0; z-index: 1; background: var(--paper); border-bottom: 1px solid var(--line); content-visibility: visible; padding: .4rem 0; }
 h2 { font-size: 1.1rem; font-weight: 600; }
 h2 small { font-size: .85rem; margin-left: .4rem; }
 .A { grid-column: var(--A); } .B { grid-column: var(--B); } .C { grid-column: var(--C); } .D { grid-column: var(--D); } .E { grid-column: var(--E); }
 .problems { margin: .75rem 0 1.25rem; } .problems h2 { font-size: 1rem; } .problems ul { padding-left: 1.2rem; max-height: 12rem; overflow-y: auto; }
-.beat { container-type: inline-size; --tint: oklch(var(--light) var(--strength) calc(var(--hue) * 150)); --rim: oklch(var(--edge) .13 calc(var(--hue) * 150)); background: var(--card); border: 1px solid var(--line); border-left: 4px solid var(--rim, var(--line)); border-radius: 6px; padding: .55rem .75rem .65rem; scroll-margin-top: 4rem; transition: opacity .15s; }
-.beat:not([data-exchange]) { border-left-color: var(--line); --tint: var(--line); }
-h3 { font-size: .95rem; font-weight: 600; display: flex; flex-wrap: wrap; justify-content: space-between; gap: 0 1rem; }
-.fields { color: var(--faint); }
+.fold { margin-bottom: .75rem; }
+button { font: inherit; color: inherit; background: var(--card); border: 1px solid var(--line); border-radius: 6px; padding: .1rem .6rem; }
+.message { container-type: inline-size; --tint: oklch(var(--light) var(--strength) calc(var(--hue) * 150)); --rim: oklch(var(--edge) .13 calc(var(--hue) * 150)); background: var(--card); border: 1px solid var(--line); border-left: 4px solid var(--rim, var(--line)); border-radius: 6px; padding: 0 .75rem; transition: opacity .15s; }
+.message:not([data-exchange]) { border-left-color: var(--line); --tint: var(--line); }
+summary { margin: 0 -.75rem; padding: .3rem .75rem; cursor: pointer; }
+.beat { padding-bottom: .65rem; scroll-margin-top: 7rem; }
+.beat + .beat { border-top: 1px solid var(--line); padding-top: .4rem; }
+h3 { font-size: .95rem; font-weight: 600; display: inline; }
+h3 small { float: right; margin-left: .5rem; }
+.fields { color: var(--faint); font-size: 13px; }
 .refused { border-color: var(--bad); } .refused .came { color: var(--bad); }
 .waits { border-color: var(--slow); } .waits .came, .remark, .cut { color: var(--slow); }
-.beat.refused:not([data-exchange]) { border-left-color: var(--bad); } .beat.waits:not([data-exchange]) { border-left-color: var(--slow); }
+.message.refused:not([data-exchange]) { border-left-color: var(--bad); } .message.waits:not([data-exchange]) { border-left-color: var(--slow); }
 .not-offered, .run { color: var(--faint); }
 .run { grid-column: 1 / -1; border: 1px dashed var(--line); border-radius: 6px; padding: .55rem .75rem; }
 .remark { border-top: 1px solid var(--line); margin-top: .5rem; padding-top: .4rem; }
@@ -55,7 +63,7 @@ h3 { font-size: .95rem; font-weight: 600; display: flex; flex-wrap: wrap; justif
 figure { margin-top: .45rem; }
 figcaption { display: flex; gap: .5rem; align-items: baseline; font-size: 12px; }
 figcaption code { overflow: hidden; white-space: nowrap; text-overflow: ellipsis; font-size: 11px; }
-.beat:focus figcaption code { white-space: normal; overflow-wrap: anywhere; }
+.message:focus-within figcaption code { white-space: normal; overflow-wrap: anywhere; }
 em { color: var(--bad); font-style: normal; font-weight: 600; }
 table, tr { display: contents; }
 tbody { display: grid; grid-template-columns: repeat(var(--row), calc(var(--cell) - 2px)); justify-content: end; gap: 2px; margin-top: .15rem; counter-reset: lane var(--width); }
@@ -65,7 +73,7 @@ td::before { content: counter(lane); display: block; font-size: 9px; color: var(
 .empty::after { content: "\2022"; } .idle::after { content: "\00b7"; color: var(--faint); }
 .idle, .masked, .wrong { background: none; border-color: var(--line); }
 .masked { color: var(--faint); border-style: dashed; } .wrong { color: var(--bad); border-color: var(--bad); }
-.following .beat:not(.lit) { opacity: .45; }
+.following .message:not(.lit) { opacity: .45; }
 .here { outline: 2px solid var(--ink); font-weight: 700; }
 :focus-visible, :target { outline: 2px solid var(--focus); outline-offset: 2px; }
 output { position: fixed; right: 1.5rem; bottom: 1.5rem; background: var(--ink); color: var(--paper); padding: .35rem .7rem; border-radius: 6px; }
@@ -78,7 +86,8 @@ output:empty { display: none; }
   body { font-size: 10px; padding: 0; } main { --cell: 1.3rem; zoom: .8; }
   .row { content-visibility: visible; break-inside: avoid; } .heads { position: static; }
   * { print-color-adjust: exact; } output { display: none; }
-  figcaption code { white-space: normal; overflow-wrap: anywhere; } .problems ul { max-height: none; }
+  figcaption code { white-space: normal; overflow-wrap: anywhere; } .problems ul { max-height: none; } .fold { display: none; }
+  .message::details-content { content-visibility: visible; }
 }
 @media (prefers-reduced-motion: reduce) { * { transition: none; } }
 </style>
@@ -86,16 +95,21 @@ output:empty { display: none; }
 <body>
 "#;
 
+/// The control that opens or closes all messages. The script shows it.
+pub const FOLD: &[u8] =
+    br#"<p class="fold" hidden><button type="button">Open all</button> <button type="button">Close all</button></p>
+"#;
+
 /// The legend of the marks on lanes, and help for navigation.
 pub const LEGEND: &[u8] = br#"</main>
-<footer class="legend"><p>Lanes are highest first, each byte below its number. Beats count from 0. Beats of one exchange have the same colour.
+<footer class="legend"><p>Lanes are highest first, each byte below its number. Beats count from 0. A message and its response have the same colour.
 <span class="mark sample">7f</span> a byte <span class="mark sample">&bull;</span> active, without data <span class="mark">&middot;</span> not active <span class="mark">--</span> left out by the mask <span class="mark">!!</span> in the mask, but not active</p>
-<p>Point at a byte, or press Left and Right on a beat, to follow it across the bridge; Up and Down go along a channel. Click or press Enter to keep the highlight, and Escape to clear it.</p></footer>
+<p>Click a message, or press Enter on it, to open or close it. Point at a byte, or press Left and Right on an open message, to follow the byte across the bridge; Up and Down go along a channel. Click a byte to keep the highlight, and press Escape to clear it.</p></footer>
 <output aria-live="polite"></output>
 "#;
 
-/// The script that follows a byte to the other side, and a message to its response. Links work
-/// without it.
+/// The script that follows a byte to the other side, and a message to its response, and that opens
+/// or closes all messages. Links and single messages work without it.
 pub const SCRIPT: &[u8] = br#"<script>
 (() => {
   const all = (of, what) => [...of.querySelectorAll(what)];
@@ -107,9 +121,9 @@ pub const SCRIPT: &[u8] = br#"<script>
     }
     return found;
   };
-  const beats = all(document, ".beat");
-  const exchanges = groups(beats, "exchange");
-  const messages = groups(all(document, "table"), "message");
+  const messages = all(document, ".message");
+  const exchanges = groups(messages, "exchange");
+  const tables = groups(all(document, "table"), "message");
   const output = document.querySelector("output");
   let lit = [], pinned = null, at = null;
 
@@ -135,7 +149,7 @@ pub const SCRIPT: &[u8] = br#"<script>
     const here = place(table), offset = here.of(cell), byte = here.first + offset;
     if (offset >= here.count) return;
     const lanes = [];
-    for (const other of messages.get(table.dataset.message)) {
+    for (const other of tables.get(table.dataset.message)) {
       const there = place(other);
       if (byte < there.first || byte >= there.first + there.count) continue;
       const found = there.on(byte);
@@ -146,10 +160,10 @@ pub const SCRIPT: &[u8] = br#"<script>
   };
   const show = element => {
     clear();
-    const beat = element?.closest?.(".beat");
-    if (!beat) return;
-    for (const other of exchanges.get(beat.dataset.exchange) ?? [beat]) light(other, "lit");
-    document.body.classList.toggle("following", exchanges.has(beat.dataset.exchange));
+    const message = element?.closest?.(".message");
+    if (!message) return;
+    for (const other of exchanges.get(message.dataset.exchange) ?? [message]) light(other, "lit");
+    document.body.classList.toggle("following", exchanges.has(message.dataset.exchange));
     const cell = element.closest("td");
     if (cell) follow(cell);
   };
@@ -157,26 +171,29 @@ pub const SCRIPT: &[u8] = br#"<script>
 
   document.addEventListener("pointerover", event => { if (!pinned) show(event.target); });
   document.addEventListener("focusin", event => { at = null; if (!pinned) show(event.target); });
-  document.addEventListener("click", event => { if (!event.target.closest("a")) pin(pinned ? null : event.target); });
+  document.addEventListener("click", event => { if (!event.target.closest("a, summary")) pin(pinned ? null : event.target); });
   document.addEventListener("keydown", event => {
-    const beat = document.activeElement?.closest(".beat");
+    const message = document.activeElement?.closest(".message");
     if (event.key === "Escape") pin(null);
-    if (!beat || event.target.closest("a")) return;
+    if (!message || event.target.closest("a")) return;
     const step = { ArrowLeft: -1, ArrowUp: -1, ArrowRight: 1, ArrowDown: 1 }[event.key];
-    if (event.key === "Enter") pin(pinned ? null : at ?? beat);
-    else if (step) {
-      event.preventDefault();
-      if (event.key === "ArrowLeft" || event.key === "ArrowRight") {
-        const cells = all(beat, "td");
-        at = cells[Math.max(0, Math.min(cells.length - 1, cells.indexOf(at) + step))];
-        pinned = null;
-        show(at ?? beat);
-      } else {
-        const same = beats.filter(other => "ABCDE".split("").some(name => other.classList.contains(name) && beat.classList.contains(name)));
-        same[same.indexOf(beat) + step]?.focus();
-      }
+    if (!step) return;
+    event.preventDefault();
+    if (event.key === "ArrowLeft" || event.key === "ArrowRight") {
+      const cells = message.open ? all(message, "td") : [];
+      at = cells[Math.max(0, Math.min(cells.length - 1, cells.indexOf(at) + step))];
+      pinned = null;
+      show(at ?? message);
+    } else {
+      const same = messages.filter(other => "ABCDE".split("").some(name => other.classList.contains(name) && message.classList.contains(name)));
+      same[same.indexOf(message) + step]?.querySelector("summary").focus();
     }
   });
+
+  document.querySelector(".fold").hidden = false;
+  all(document, ".fold button").forEach((button, at) => button.addEventListener("click", () => {
+    for (const message of messages) message.open = at === 0;
+  }));
 })();
 </script>
 "#;

@@ -1,9 +1,9 @@
 //! The parts of a page on the whole trace.
 use crate::sentence::{put_link, put_sentence};
 use crate::text::{ascii, halves, put_escaped};
-use tl_explain::{Fares, Item, Scene};
-use tl_remarks::Page;
+use tl_explain::{BeatStatus, Item, PageModel};
 use tl_remarks::Piece::{Letter, Number, Text};
+use tl_remarks::TextBuf;
 
 /// The channels: the letter of each, the text before its report in an answer, and the direction of
 /// its beats.
@@ -16,7 +16,7 @@ const CHANNELS: &[(u8, &str, &str); 5] = &[
 ];
 
 /// Returns whether the channel with this letter has a line on the page.
-fn is_shown(scene: &Scene, letter: u8) -> bool {
+fn is_shown(scene: &PageModel, letter: u8) -> bool {
     for item in &scene.items {
         if (item.line == item.last) & (item.letter == letter) {
             return true;
@@ -26,7 +26,7 @@ fn is_shown(scene: &Scene, letter: u8) -> bool {
 }
 
 /// Writes the column of each channel that has a line.
-pub fn put_columns(out: &mut Page, scene: &Scene) {
+pub fn put_columns(out: &mut TextBuf, scene: &PageModel) {
     let mut count = 0u64;
     out.put_text("<main style=\"");
     for (letter, _, _) in CHANNELS {
@@ -39,7 +39,7 @@ pub fn put_columns(out: &mut Page, scene: &Scene) {
 }
 
 /// Writes the head of a channel: its direction, and its verdict, from the report after this mark.
-fn put_head(out: &mut Page, answer: &str, letter: u8, mark: &str, way: &str) {
+fn put_head(out: &mut TextBuf, answer: &str, letter: u8, mark: &str, way: &str) {
     let (_, report) = halves(answer, mark);
     out.say(
         "<h2 class=\"#\"># <small>#, ",
@@ -50,7 +50,7 @@ fn put_head(out: &mut Page, answer: &str, letter: u8, mark: &str, way: &str) {
 }
 
 /// Writes the heads of the channels that have a line.
-pub fn put_heads(out: &mut Page, scene: &Scene) {
+pub fn put_heads(out: &mut TextBuf, scene: &PageModel) {
     let answer = ascii(&scene.answer.text);
     out.put_text("<div class=\"heads row\">");
     for (letter, mark, way) in CHANNELS {
@@ -61,9 +61,11 @@ pub fn put_heads(out: &mut Page, scene: &Scene) {
     out.put_text("</div>");
 }
 
-/// Writes the answer to the trace, and beside it the contents of the header.
-pub fn put_answer(out: &mut Page, scene: &Scene) {
-    out.put_text("<header><h1>What happened to each beat</h1><pre class=\"answer\">");
+/// Writes the sentences on the whole trace, and its answer.
+pub fn put_answer(out: &mut TextBuf, scene: &PageModel) {
+    out.put_text("<header><h1>What happened to each beat</h1><p class=\"overview\">");
+    put_sentence(out, scene, ascii(scene.overview()));
+    out.put_text("</p><pre class=\"answer\">");
     put_escaped(out, ascii(&scene.answer.text));
     out.put_text("</pre></header>");
 }
@@ -73,9 +75,9 @@ const MOST_LISTED: usize = 200;
 
 /// Writes the fault of a line and the remarks on it, each as an item of a list. Returns the number
 /// of items.
-fn put_problems_of(out: &mut Page, scene: &Scene, item: &Item) -> usize {
+fn put_problems_of(out: &mut TextBuf, scene: &PageModel, item: &Item) -> usize {
     let mut count = 0usize;
-    if matches!(item.fares, Fares::Refused | Fares::Waits) {
+    if matches!(item.fares, BeatStatus::Refused | BeatStatus::Waits) {
         out.put_text("<li>");
         put_sentence(out, scene, ascii(scene.sentence(item)).trim_ascii());
         out.put_text("</li>");
@@ -94,7 +96,7 @@ fn put_problems_of(out: &mut Page, scene: &Scene, item: &Item) -> usize {
 
 /// Writes a list of the faults and remarks of all lines, or that there are none. A list ends after
 /// the line with which it reaches `MOST_LISTED` items, and then says that there may be others.
-pub fn put_problems(out: &mut Page, scene: &Scene) {
+pub fn put_problems(out: &mut TextBuf, scene: &PageModel) {
     let mut count = 0usize;
     out.put_text("<nav class=\"problems\"><h2>Faults and remarks</h2><ul>");
     for item in &scene.items {

@@ -1,8 +1,8 @@
 //! Text without markup.
-use tl_remarks::Page;
+use tl_remarks::TextBuf;
 
 /// Writes any text, escaped so that none of it is read as markup.
-pub fn put_escaped(out: &mut Page, text: &str) {
+pub fn put_escaped(out: &mut TextBuf, text: &str) {
     if tl_escape::put_escaped(&mut out.text, text.as_bytes()).is_err() {
         out.out_of_memory = true;
     }

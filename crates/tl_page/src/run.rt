@@ -8,7 +8,9 @@ use crate::fault::ExplainFault;
 use std::alloc::{AllocError, Global};
 use std::io::{Read, Write};
 use tl_answer::{TextFault, read_all, write_all};
-use tl_explain::{Look, check_times, explain_to, fault_record, records_to, scene_of, show_fault};
+use tl_explain::{
+    DisplayOptions, check_times, explain_to, fault_record, page_model_of, records_to, show_fault,
+};
 use tl_markup::{fault_markup, markup_of};
 use tl_trace::TraceFault;
 
@@ -17,7 +19,7 @@ use tl_trace::TraceFault;
 fn show<W: Write>(
     alloc: Global,
     text: &[u8],
-    look: &Look,
+    look: &DisplayOptions,
     times: &[u8],
     writer: &mut W,
 ) -> Result<bool, TextFault>
@@ -28,7 +30,7 @@ fn show<W: Write>(
         (IsUntold false text.now (W.contents writer.old) (W.contents writer.new)) }
 {
     if look.page {
-        let scene = scene_of::<W>(alloc, text, look, times, writer)?;
+        let scene = page_model_of::<W>(alloc, text, look, times, writer)?;
         let all_done = scene.answer.all_done;
         let page = markup_of(alloc, scene)?;
         write_all(writer, &page)?;
@@ -46,7 +48,7 @@ fn shown_fault(
     alloc: Global,
     text: &[u8],
     fault: &TraceFault,
-    look: &Look,
+    look: &DisplayOptions,
 ) -> Result<Vec<u8>, AllocError> {
     if look.json && !look.page {
         return fault_record(alloc, text, fault);
@@ -84,7 +86,7 @@ pub fn run_explain<R: Read, W: Write>(
     alloc: Global,
     reader: &mut R,
     writer: &mut W,
-    look: &Look,
+    look: &DisplayOptions,
     times: Option<&[u8]>,
 ) -> Result<bool, ExplainFault>
     ensures { ExplainsText look.now.page look.now.json (R.remaining reader.old) (R.remaining reader.new)

@@ -3,19 +3,19 @@
 //! these and other sentences are written.
 #![tactic(auto)]
 
+mod beat_fields;
 mod exchange;
 mod fits;
 mod in_order;
 mod lines;
 mod notes;
-mod page;
 mod remark;
-mod seen;
 mod sentences;
+mod text_buf;
 
+pub use beat_fields::{BeatFields, Describe, beat_fields_of};
 pub use lines::Cursor;
 pub use notes::{accepted, notes_of};
-pub use page::{Colour, Page, Piece};
 pub use remark::{Exchange, Message, Noted, Remark, Rule};
-pub use seen::{Seen, Told, seen_of};
 pub use sentences::{put_remark, put_sentence_of};
+pub use text_buf::{Colour, Piece, TextBuf};

@@ -1,12 +1,12 @@
 //! From the beats of a script to remarks.
 ghost use Rattle.tl_lanes.specs.Lanes.{IsWidth};
 
+use crate::beat_fields::{BeatFields, Describe, beat_fields_of};
 use crate::exchange::judge;
 use crate::fits::N_TO_B;
 use crate::in_order::{Stops, judge_in_order};
 use crate::lines::Cursor;
 use crate::remark::{Exchange, Message, Noted, Remark, Rule};
-use crate::seen::{Seen, Told, seen_of};
 use std::alloc::Global;
 use tl_msg::{Beat, ChA, ChB, ChC, ChD, ChE, Kind, Verdict};
 use tl_trace::Script;
@@ -26,7 +26,7 @@ struct Notes {
 /// Returns the letter of the channel of the first message in the exchange that a beat belongs to: a
 /// request on A and its response on D, a probe or request on B and its response on C, a release on
 /// C and its ReleaseAck on D, or a Grant on D and its GrantAck on E.
-fn asked_on(beat: &Seen) -> u8 {
+fn asked_on(beat: &BeatFields) -> u8 {
     match (beat.letter, beat.kind) {
         (b'E', _) => b'D',
         (_, Some(Kind::Release | Kind::ReleaseData | Kind::ReleaseAck)) => b'C',
@@ -36,7 +36,7 @@ fn asked_on(beat: &Seen) -> u8 {
 }
 
 /// Returns the message of a beat, in the exchange whose first message is on channel `asked_on`.
-fn message_of(beat: &Seen, line: u64, asked_on: u8) -> Message {
+fn message_of(beat: &BeatFields, line: u64, asked_on: u8) -> Message {
     Message {
         line,
         letter: beat.letter,
@@ -57,7 +57,7 @@ fn message_of(beat: &Seen, line: u64, asked_on: u8) -> Message {
 
 /// Returns the rule that a beat breaks, independent of the beats before and after it. A message
 /// without data has only one beat.
-fn rule_alone(beat: &Seen) -> Option<Rule> {
+fn rule_alone(beat: &BeatFields) -> Option<Rule> {
     match beat.kind {
         Some(Kind::AcquirePerm) if beat.param == N_TO_B => Some(Rule::PermToRead),
         Some(Kind::ReleaseAck) if beat.denied => Some(Rule::DeniedAck),
@@ -79,7 +79,7 @@ impl Notes {
 
     /// Adds a beat, and if `begins` is true the message that it begins. A Grant is also added as a
     /// message that needs a response.
-    fn add_beat(&mut self, beat: &Seen, line: u64, begins: bool) {
+    fn add_beat(&mut self, beat: &BeatFields, line: u64, begins: bool) {
         let message = message_of(beat, line, asked_on(beat));
         self.noted.push_remark(rule_alone(beat), &message, &message);
         if begins {
@@ -92,7 +92,7 @@ impl Notes {
 
     /// Records that a channel stops at this beat, and the message that it begins if `begins` is
     /// true.
-    fn add_stop(&mut self, beat: &Seen, line: u64, begins: bool) {
+    fn add_stop(&mut self, beat: &BeatFields, line: u64, begins: bool) {
         if let Some(stop) = self.stops.get_mut(beat.letter.wrapping_sub(b'A') as usize) {
             *stop = line;
         }
@@ -157,7 +157,7 @@ pub fn accepted(verdict: &Verdict) -> usize {
 }
 
 /// Adds the accepted beats of a channel.
-fn add_channel<K: Told, const W: usize>(
+fn add_channel<K: Describe, const W: usize>(
     notes: &mut Notes,
     letters: &[u8],
     verdict: &Verdict,
@@ -167,7 +167,7 @@ fn add_channel<K: Told, const W: usize>(
     let mut left = 0usize;
     let stop = accepted(verdict).min(beats.len());
     for at in 0..stop {
-        let seen = seen_of::<K, W>(&beats[at], 1);
+        let seen = beat_fields_of::<K, W>(&beats[at], 1);
         cursor.seek(letters, seen.letter);
         let begins = left == 0;
         if begins {
@@ -177,7 +177,7 @@ fn add_channel<K: Told, const W: usize>(
         notes.add_beat(&seen, cursor.line(), begins);
     }
     if let Some(beat) = beats.get(stop) {
-        let seen = seen_of::<K, W>(beat, 1);
+        let seen = beat_fields_of::<K, W>(beat, 1);
         cursor.seek(letters, seen.letter);
         notes.add_stop(&seen, cursor.line(), left == 0);
     }

@@ -1,7 +1,7 @@
 //! The sentences of remarks.
-use crate::page::Piece::{self, Coloured, Id, Name, Number, Text};
-use crate::page::{Colour, Page};
 use crate::remark::{Message, Remark, Rule};
+use crate::text_buf::Piece::{self, Coloured, Id, Name, Number, Text};
+use crate::text_buf::{Colour, TextBuf};
 use tl_msg::Kind;
 
 /// The params of an Acquire, of a Grant or a probe, and of a report, as the standard spells them.
@@ -104,7 +104,7 @@ fn pieces_of(remark: &Remark, version: u8) -> [Piece<'static>; 5] {
 
 /// Writes the sentence of a remark. The `version` of the trace determines the number of digits of
 /// an id.
-pub fn put_sentence_of(out: &mut Page, remark: &Remark, version: u8) {
+pub fn put_sentence_of(out: &mut TextBuf, remark: &Remark, version: u8) {
     let sentence = match remark.rule {
         Rule::NotAnswered if is_before(remark) => NOT_BEFORE,
         rule => SENTENCES[rule as usize],
@@ -113,7 +113,7 @@ pub fn put_sentence_of(out: &mut Page, remark: &Remark, version: u8) {
 }
 
 /// Writes a remark as a line. The `version` of the trace determines the number of digits of an id.
-pub fn put_remark(out: &mut Page, remark: &Remark, version: u8) {
+pub fn put_remark(out: &mut TextBuf, remark: &Remark, version: u8) {
     out.say("    #: ", &[Coloured(Colour::Yellow, "remark")]);
     put_sentence_of(out, remark, version);
     out.put_text("\n");

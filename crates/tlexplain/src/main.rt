@@ -11,7 +11,7 @@ use std::fs::File;
 use std::io::{self, IsTerminal, Stdin};
 use std::process::ExitCode;
 use tl_answer::{FaultLine, TextFault, exit_status, read_all};
-use tl_explain::{FAULTS, Look, TimesFault, meaning};
+use tl_explain::{DisplayOptions, FAULTS, TimesFault, meaning};
 use tl_page::{ExplainFault, run_explain};
 use words::{Wish, not_utf8, wish_of};
 
@@ -90,9 +90,9 @@ fn explain(
     rt: &HostRuntime,
     file: Option<&str>,
     times: Option<&[u8]>,
-    look: &Look,
+    look: &DisplayOptions,
 ) -> Result<bool, ExplainFault> {
-    let look = Look {
+    let look = DisplayOptions {
         colour: has_colours(rt),
         ..*look
     };

@@ -3,7 +3,7 @@ use clap::builder::ValueParser;
 use clap::error::{Error, ErrorKind};
 use clap::{Arg, ArgAction, ArgMatches, Command};
 use std::alloc::{AllocError, Global};
-use tl_explain::{Choice, Look};
+use tl_explain::{DisplayOptions, LineFilter};
 
 /// The program's version.
 const VERSION: &str = "0.7.0";
@@ -20,7 +20,7 @@ pub enum Wish<'a> {
     Explain {
         file: Option<&'a str>,
         times: Option<&'a str>,
-        look: Look,
+        look: DisplayOptions,
     },
     /// Print the meaning of each fault.
     Faults,
@@ -182,15 +182,15 @@ fn channel_of(matches: &ArgMatches<'_>) -> Option<u8> {
 }
 
 /// Returns the options of the explanation, with only the lines of this source, if there is one.
-fn look_of(matches: &ArgMatches<'_>, source: Option<u16>) -> Look {
-    Look {
+fn look_of(matches: &ArgMatches<'_>, source: Option<u16>) -> DisplayOptions {
+    DisplayOptions {
         lanes: matches.get_flag("lanes"),
         page: matches.get_flag("html"),
         json: matches.get_flag("json"),
         colour: false,
         in_order: matches.get_flag("in-order") || matches.contains_id("times"),
         remarks: !matches.get_flag("no-remarks"),
-        choice: Choice {
+        choice: LineFilter {
             only_problems: matches.contains_id("only"),
             from: matches.get_one::<u64>("from"),
             to: matches.get_one::<u64>("to"),

@@ -1,4 +1,4 @@
-use Rattle.tl_explain.specs.Inner.Telling.{Continues}
+use Rattle.tl_explain.specs.Inner.Explanation.{Continues}
 use Rattle.tl_explain.proofs.explain.tell_all.Given as goal
 
 abbrev pub invariant-loop-at : goal.invariant-loop-at

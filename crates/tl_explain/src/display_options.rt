@@ -3,7 +3,7 @@ use tl_msg::SourceId;
 
 /// The options for the display of the sentences, and the choice of lines.
 #[derive(Clone, Copy, Default)]
-pub struct Look {
+pub struct DisplayOptions {
     /// Whether each beat has a picture of its lanes.
     pub lanes: bool,
     /// Whether a page is requested instead of text. A page shows the lanes of each beat.
@@ -17,13 +17,13 @@ pub struct Look {
     /// Whether the lines are in the order of time.
     pub in_order: bool,
     /// Which lines are shown.
-    pub choice: Choice,
+    pub choice: LineFilter,
 }
 
 /// The lines that are shown: those that satisfy all conditions, so all lines if there is no
 /// condition.
 #[derive(Clone, Copy, Default)]
-pub struct Choice {
+pub struct LineFilter {
     /// Only lines whose beat was not accepted, or that have remarks.
     pub only_problems: bool,
     /// Only lines from this number on.

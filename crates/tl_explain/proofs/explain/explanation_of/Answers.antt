@@ -3,7 +3,7 @@ use Rattle.std.proofs.KnownBytes.{Keeps-refl}
 use Rattle.tl_trace.specs.Faults.{HasHeader}
 use Rattle.tl_answer.proofs.Headers.{last_client, no_header}
 use Rattle.tl_explain.specs.Explained.{IsUntold}
-use Rattle.tl_explain.proofs.explain.telling_of.Goals as goal
+use Rattle.tl_explain.proofs.explain.explanation_of.Goals as goal
 
 pub returns-in_default : goal.returns-in_default
 returns-in_default g c =

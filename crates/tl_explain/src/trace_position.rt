@@ -1,26 +1,26 @@
 //! The position in the lines of a text.
+use crate::beat_outcome::BeatOutcome;
+use crate::channel_position::ChannelPosition;
 use crate::count::Count;
-use crate::fate::Fate;
 use crate::held::Stop;
+use crate::line_report::place;
 use crate::requests::Requests;
-use crate::story::place;
-use crate::walk::Walk;
 use std::alloc::Global;
 use tl_msg::Verdict;
-use tl_remarks::Seen;
+use tl_remarks::BeatFields;
 use tl_trace::Header;
 
 /// The outcome of a near beat.
 #[derive(Clone, Copy)]
-pub struct Came {
-    pub fate: Fate,
+pub struct LineResult {
+    pub fate: BeatOutcome,
     /// The line of the request whose response it begins; 0 if there is none.
     pub answers: u64,
 }
 
 /// The position in the lines of a text.
 #[derive(Drop)]
-pub struct Course {
+pub struct TracePosition {
     /// The requests of A, and the responses to them.
     pub requests: Requests,
     /// The lines at which channels stopped, in order, and whether the allocator failed for one.
@@ -28,8 +28,8 @@ pub struct Course {
     pub out_of_memory: bool,
     /// The positions in the channels, from A to E, except the channel of the last line: that
     /// position is in `walk`, which belongs to no channel before the first line.
-    walks: [Walk; 5],
-    pub walk: Walk,
+    walks: [ChannelPosition; 5],
+    pub walk: ChannelPosition,
     /// The bytes of both buses.
     pub client: usize,
     pub manager: usize,
@@ -38,7 +38,7 @@ pub struct Course {
     pub count: Count,
 }
 
-impl Course {
+impl TracePosition {
     /// Returns the position before line 2 of a text with this header. `verdicts` are those of the
     /// channels, from A to E.
     pub fn new(
@@ -46,21 +46,21 @@ impl Course {
         header: &Header,
         verdicts: &[Verdict; 5],
         requests: Requests,
-    ) -> Course {
+    ) -> TracePosition {
         let [on_a, on_b, on_c, on_d, on_e] = verdicts;
         let (c, m) = (header.client, header.manager);
-        Course {
+        TracePosition {
             requests,
             stops: Vec::new(alloc),
             out_of_memory: false,
             walks: [
-                Walk::new(b'A', on_a, c, m),
-                Walk::new(b'B', on_b, m, c),
-                Walk::new(b'C', on_c, c, m),
-                Walk::new(b'D', on_d, m, c),
-                Walk::new(b'E', on_e, c, 1),
+                ChannelPosition::new(b'A', on_a, c, m),
+                ChannelPosition::new(b'B', on_b, m, c),
+                ChannelPosition::new(b'C', on_c, c, m),
+                ChannelPosition::new(b'D', on_d, m, c),
+                ChannelPosition::new(b'E', on_e, c, 1),
             ],
-            walk: Walk::new(b' ', &Verdict::Done { near: 0, far: 0 }, 1, 1),
+            walk: ChannelPosition::new(b' ', &Verdict::Done { near: 0, far: 0 }, 1, 1),
             client: c,
             manager: m,
             line: 1,
@@ -69,7 +69,7 @@ impl Course {
     }
 
     /// Selects the channel with this letter.
-    pub fn turn_to(&mut self, letter: u8) {
+    pub fn select_channel(&mut self, letter: u8) {
         if letter == self.walk.letter {
             return;
         }
@@ -84,9 +84,9 @@ impl Course {
 
     /// Advances to the next line, which has this letter.
     pub fn begin_line(&mut self, letter: u8) {
-        self.turn_to(letter);
+        self.select_channel(letter);
         self.line = self.line.saturating_add(1);
-        self.count.go_up();
+        self.count.increment();
     }
 
     /// Records that the channel stops at the next near beat, with this status.
@@ -110,10 +110,10 @@ impl Course {
     }
 
     /// Advances by the channel's next near beat. Returns its outcome.
-    pub fn advance(&mut self, beat: &Seen) -> Came {
+    pub fn advance(&mut self, beat: &BeatFields) -> LineResult {
         let fate = self.walk.fate();
         let mut answers = 0;
-        if let Fate::Accepted = fate {
+        if let BeatOutcome::Accepted = fate {
             self.walk.accept(beat, self.line);
             if let Some(request) = self.requests.answered_in(self.line) {
                 self.walk.home = request.address;
@@ -122,12 +122,12 @@ impl Course {
         } else if let Some(how) = fate.how() {
             self.stop(how);
         }
-        Came { fate, answers }
+        LineResult { fate, answers }
     }
 
     /// Returns the address that determines the lanes of the next near beat. It is not known for a
     /// response that was not accepted.
-    pub fn near_home(&self, beat: &Seen, accepted: bool) -> Option<u64> {
+    pub fn near_home(&self, beat: &BeatFields, accepted: bool) -> Option<u64> {
         match (beat.letter, accepted) {
             (b'D', true) => Some(self.walk.home),
             (b'D', false) => None,

@@ -73,17 +73,17 @@ fn decimal(number: u64) -> u8 {
 /// A text buffer that is written incrementally. Allocation failures are recorded and reported once,
 /// at the end.
 #[derive(Drop)]
-pub struct Page {
+pub struct TextBuf {
     /// The text that was written, without the parts that were removed.
     pub text: Vec<u8>,
     has_colours: bool,
     pub out_of_memory: bool,
 }
 
-impl Page {
+impl TextBuf {
     /// Creates an empty buffer. If `has_colours` is true, coloured pieces have their colours.
-    pub fn new(alloc: Global, has_colours: bool) -> Page {
-        Page {
+    pub fn new(alloc: Global, has_colours: bool) -> TextBuf {
+        TextBuf {
             text: Vec::new(alloc),
             has_colours,
             out_of_memory: false,

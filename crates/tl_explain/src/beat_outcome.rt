@@ -2,12 +2,12 @@
 ghost use Rattle.std.specs.Prelude.{◌≡◌};
 ghost use Rattle.tl_explain.specs.Fates.{fate_beside, fate_of};
 
-use crate::story::Fares;
+use crate::line_report::BeatStatus;
 use tl_msg::{SideFault, Verdict};
 
 /// The outcome of a near beat.
 #[derive(Clone, Copy)]
-pub enum Fate {
+pub enum BeatOutcome {
     /// Its side accepted it.
     Accepted,
     /// It breaks a rule of the link, and is refused permanently.
@@ -18,50 +18,50 @@ pub enum Fate {
     NotOffered,
 }
 
-impl Fate {
+impl BeatOutcome {
     /// Returns the word for the status of a beat at which its channel stops.
     pub fn how(&self) -> Option<&'static str> {
         match self {
-            Fate::Refused(_) => Some("was refused"),
-            Fate::Waiting(_) => Some("waits"),
-            Fate::Accepted | Fate::NotOffered => None,
+            BeatOutcome::Refused(_) => Some("was refused"),
+            BeatOutcome::Waiting(_) => Some("waits"),
+            BeatOutcome::Accepted | BeatOutcome::NotOffered => None,
         }
     }
 
     /// Returns the status of a beat.
-    pub fn fares(&self) -> Fares {
+    pub fn fares(&self) -> BeatStatus {
         match self {
-            Fate::Accepted => Fares::Accepted,
-            Fate::Refused(_) => Fares::Refused,
-            Fate::Waiting(_) => Fares::Waits,
-            Fate::NotOffered => Fares::NotOffered,
+            BeatOutcome::Accepted => BeatStatus::Accepted,
+            BeatOutcome::Refused(_) => BeatStatus::Refused,
+            BeatOutcome::Waiting(_) => BeatStatus::Waits,
+            BeatOutcome::NotOffered => BeatStatus::NotOffered,
         }
     }
 }
 
 /// Returns the outcome of beat number `at` of a channel, if the channel stops at beat number `stop`
 /// with the outcome `fate`.
-fn fate_beside(at: u64, stop: u64, fate: Fate) -> Fate
+fn fate_beside(at: u64, stop: u64, fate: BeatOutcome) -> BeatOutcome
     ensures { result ≡ fate_beside at stop fate }
 {
     if at < stop {
-        Fate::Accepted
+        BeatOutcome::Accepted
     } else if at == stop {
         fate
     } else {
-        Fate::NotOffered
+        BeatOutcome::NotOffered
     }
 }
 
 /// Returns the outcome of beat number `at`, from 0, of a channel with this verdict.
-pub fn fate_at(at: u64, verdict: &Verdict) -> Fate
+pub fn fate_at(at: u64, verdict: &Verdict) -> BeatOutcome
     ensures { result ≡ fate_of at verdict.now }
 {
     match *verdict {
         Verdict::Done { near, .. } | Verdict::Cut { near, .. } => {
-            fate_beside(at, near, Fate::NotOffered)
+            fate_beside(at, near, BeatOutcome::NotOffered)
         }
-        Verdict::Refused { at: stop, fault } => fate_beside(at, stop, Fate::Refused(fault)),
-        Verdict::Waiting { at: stop, fault } => fate_beside(at, stop, Fate::Waiting(fault)),
+        Verdict::Refused { at: stop, fault } => fate_beside(at, stop, BeatOutcome::Refused(fault)),
+        Verdict::Waiting { at: stop, fault } => fate_beside(at, stop, BeatOutcome::Waiting(fault)),
     }
 }

@@ -6,19 +6,19 @@ ghost use Rattle.tl_answer.specs.Texts.{IsAnswer};
 ghost use Rattle.tl_stream.specs.Inputs.{most_bytes};
 ghost use Rattle.tl_explain.specs.Explained.{IsUntold};
 
+use crate::display_options::DisplayOptions;
 use crate::drawing::{Drawing, Drawn};
-use crate::explain::{Telling, telling_of};
-use crate::look::Look;
+use crate::explain::{Explanation, explanation_of};
+use crate::line_report::LineReport;
 use crate::shown::Item;
-use crate::story::Story;
 use std::alloc::{AllocError, Global};
 use std::io::Write;
 use tl_answer::{Answer, TextFault};
-use tl_remarks::{Exchange, Page};
+use tl_remarks::{Exchange, TextBuf};
 
 /// The messages that belong to the message of a line.
 #[derive(Clone, Copy, Default)]
-pub struct Ties {
+pub struct Links {
     /// The line of the message to which it responds, and of its response; 0 if there is none.
     pub asked_in: u64,
     pub answered_in: u64,
@@ -30,14 +30,16 @@ pub struct Ties {
 
 /// The contents of a page on a trace.
 #[derive(Drop)]
-pub struct Scene {
-    /// The text on the lines that are shown, and the position of each of them, in order.
-    said: Page,
+pub struct PageModel {
+    /// The text on the lines that are shown, and the position of each of them, in order. The
+    /// sentences on the whole trace begin at `lines_end`.
+    said: TextBuf,
+    lines_end: usize,
     pub items: Vec<Item>,
     /// The beats of all lines.
     pub drawing: Drawing,
     /// The related messages of each line from line 2 on.
-    ties: Vec<Ties>,
+    ties: Vec<Links>,
     /// The answer of a check.
     pub answer: Answer,
 }
@@ -52,7 +54,7 @@ fn place(line: u64) -> usize {
 }
 
 /// Records which messages and responses belong together.
-fn tie(ties: &mut [Ties], exchanges: &[Exchange]) {
+fn tie(ties: &mut [Links], exchanges: &[Exchange]) {
     for exchange in exchanges {
         if exchange.is_open() {
             break;
@@ -67,7 +69,7 @@ fn tie(ties: &mut [Ties], exchanges: &[Exchange]) {
 }
 
 /// Numbers the exchanges in the order of their first lines, from these drawn beats.
-fn number_all(ties: &mut [Ties], beats: &[Drawn]) {
+fn number_all(ties: &mut [Links], beats: &[Drawn]) {
     let mut number = 0u64;
     for beat in beats {
         if beat.is_far | (beat.first_byte != 0) {
@@ -84,7 +86,7 @@ fn number_all(ties: &mut [Ties], beats: &[Drawn]) {
 }
 
 /// Records which lines are shown.
-fn note_shown(ties: &mut [Ties], items: &[Item]) {
+fn note_shown(ties: &mut [Links], items: &[Item]) {
     for item in items {
         if let Some(line) = ties.get_mut(place(item.line)) {
             line.is_shown = true;
@@ -94,20 +96,20 @@ fn note_shown(ties: &mut [Ties], items: &[Item]) {
 
 /// Returns which messages belong together, for `lines` lines from line 2 on. Errors: `AllocError`
 /// if the allocator fails.
-pub fn tied(alloc: Global, lines: usize, exchanges: &[Exchange]) -> Result<Vec<Ties>, AllocError> {
-    let mut ties = vec![in alloc; Ties::default(); lines]?;
+pub fn tied(alloc: Global, lines: usize, exchanges: &[Exchange]) -> Result<Vec<Links>, AllocError> {
+    let mut ties = vec![in alloc; Links::default(); lines]?;
     tie(ties.as_mut_slice(), exchanges);
     Ok(ties)
 }
 
 /// Returns the messages that belong to the one that begins in this line.
-pub fn ties_at(ties: &[Ties], line: u64) -> Ties {
+pub fn ties_at(ties: &[Links], line: u64) -> Links {
     ties.get(place(line)).copied().unwrap_or_default()
 }
 
 /// Returns which messages belong together, for the lines from line 2 on. Errors: `AllocError` if
 /// the allocator fails, or failed for the story.
-fn ties_of(alloc: Global, story: &Story) -> Result<Vec<Ties>, AllocError> {
+fn ties_of(alloc: Global, story: &LineReport) -> Result<Vec<Links>, AllocError> {
     if story.page.out_of_memory || story.drawing.out_of_memory {
         return Err(AllocError);
     }
@@ -117,13 +119,13 @@ fn ties_of(alloc: Global, story: &Story) -> Result<Vec<Ties>, AllocError> {
     Ok(ties)
 }
 
-impl Scene {
+impl PageModel {
     /// Returns the text from `from` to `to`.
     fn part(&self, from: usize, to: usize) -> &[u8] {
         self.said.text.get(from..to).unwrap_or(&[])
     }
 
-    /// Returns the sentence on the lines of an item. [`Scene::remarks`] returns the remarks on
+    /// Returns the sentence on the lines of an item. [`PageModel::remarks`] returns the remarks on
     /// them, one per line.
     pub fn sentence(&self, item: &Item) -> &[u8] {
         self.part(item.from, item.to)
@@ -136,11 +138,16 @@ impl Scene {
     /// Returns the sentences on channels that end within a burst, one per line.
     pub fn cuts(&self) -> &[u8] {
         let from = self.items.last().map_or(0, |item| item.end);
-        self.said.end_from(from)
+        self.part(from, self.lines_end)
+    }
+
+    /// Returns the sentences on the whole trace: its messages, its faults, and its remarks.
+    pub fn overview(&self) -> &[u8] {
+        self.said.end_from(self.lines_end)
     }
 
     /// Returns the messages that belong together with the one that begins in this line.
-    pub fn ties(&self, line: u64) -> Ties {
+    pub fn ties(&self, line: u64) -> Links {
         ties_at(&self.ties, line)
     }
 
@@ -158,13 +165,16 @@ impl Scene {
 }
 
 /// Returns the contents of a page on a text that was explained completely.
-fn scene_with(alloc: Global, telling: Telling) -> Result<Scene, AllocError>
+fn scene_with(alloc: Global, telling: Explanation) -> Result<PageModel, AllocError>
     ensures { IfOk result (λ made. made.answer ≡ telling.answer) }
 {
-    let Telling { story, answer } = telling;
+    let Explanation { mut story, answer } = telling;
+    let lines_end = story.page.len();
+    story.put_overview();
     let ties = ties_of(alloc, &story)?;
-    Ok(Scene {
+    Ok(PageModel {
         said: story.page,
+        lines_end,
         items: story.items,
         drawing: story.drawing,
         ties,
@@ -177,13 +187,13 @@ fn scene_with(alloc: Global, telling: Telling) -> Result<Scene, AllocError>
 /// beat, or is empty.
 ///
 /// Errors: `Trace` with the text's first fault and its line, or `OutOfMemory`.
-pub fn scene_of<W: Write>(
+pub fn page_model_of<W: Write>(
     alloc: Global,
     text: &[u8],
-    look: &Look,
+    look: &DisplayOptions,
     times: &[u8],
     writer: &mut W,
-) -> Result<Scene, TextFault>
+) -> Result<PageModel, TextFault>
     requires few { length text.now ≤ most_bytes }
     ensures ok { IfOk result (λ made.
         IsAnswer text.now true made.answer.text.items made.answer.all_done) }
@@ -191,12 +201,12 @@ pub fn scene_of<W: Write>(
     ensures err { IfErr result
         (IsUntold true text.now (W.contents writer.old) (W.contents writer.new)) }
 {
-    let look = Look {
+    let look = DisplayOptions {
         colour: false,
         page: true,
         json: false,
         ..*look
     };
-    let telling = telling_of::<W>(alloc, text, &look, times, writer)?;
+    let telling = explanation_of::<W>(alloc, text, &look, times, writer)?;
     Ok(scene_with(alloc, telling)?)
 }

@@ -1,14 +1,14 @@
 //! The position in the lines of one channel.
 ghost use Rattle.std.specs.Prelude.{◌≤◌};
 
-use crate::fate::{Fate, fate_at};
+use crate::beat_outcome::{BeatOutcome, fate_at};
 use tl_lanes::MAX_SIZE;
 use tl_msg::Verdict;
-use tl_remarks::Seen;
+use tl_remarks::BeatFields;
 
 /// The position in the lines of one channel.
 #[derive(Clone, Copy)]
-pub struct Walk {
+pub struct ChannelPosition {
     /// The channel's letter, and its verdict.
     pub letter: u8,
     pub verdict: Verdict,
@@ -20,6 +20,8 @@ pub struct Walk {
     /// The number of complete far beats, and of those before the current or last message.
     pub far: usize,
     pub far_before: usize,
+    /// The number of messages of which a beat was accepted.
+    pub messages: u64,
     /// The number of accepted beats of the unfinished burst; 0 if there is none.
     pub index: u32,
     /// The number of bytes of the next far beat so far.
@@ -27,19 +29,19 @@ pub struct Walk {
     /// The number of beats of the current or last message.
     pub beats: usize,
     /// The first beat of the current or last message.
-    pub first: Seen,
+    pub first: BeatFields,
     /// The line of that beat.
     pub first_line: u64,
     /// The address that determines the lanes of that message's bytes: its own, and on D that of its
     /// request.
     pub home: u64,
     /// The result of the last accepted beat.
-    pub brought: Brought,
+    pub brought: FarProgress,
 }
 
 /// The result of an accepted beat.
 #[derive(Clone, Copy, Default)]
-pub struct Brought {
+pub struct FarProgress {
     /// The number of the beat in its message, from 1, and the number of beats of the message.
     pub beat: u32,
     pub beats: usize,
@@ -53,7 +55,7 @@ pub struct Brought {
     pub first_byte: usize,
 }
 
-impl Brought {
+impl FarProgress {
     /// Returns the number of the beat in its message, from 0.
     pub fn place(&self) -> u64 {
         (self.beat as u64).saturating_sub(1)
@@ -69,11 +71,11 @@ impl Brought {
     }
 }
 
-impl Walk {
+impl ChannelPosition {
     /// Returns the position before the first line of the channel with this letter and this verdict,
     /// from a bus of `w` bytes to one of `v`.
-    pub fn new(letter: u8, verdict: &Verdict, w: usize, v: usize) -> Walk {
-        Walk {
+    pub fn new(letter: u8, verdict: &Verdict, w: usize, v: usize) -> ChannelPosition {
+        ChannelPosition {
             letter,
             verdict: *verdict,
             w,
@@ -81,18 +83,19 @@ impl Walk {
             near: 0,
             far: 0,
             far_before: 0,
+            messages: 0,
             index: 0,
             staged: 0,
             beats: 0,
-            first: Seen::default(),
+            first: BeatFields::default(),
             first_line: 0,
             home: 0,
-            brought: Brought::default(),
+            brought: FarProgress::default(),
         }
     }
 
     /// Returns the outcome of the next near beat.
-    pub fn fate(&self) -> Fate {
+    pub fn fate(&self) -> BeatOutcome {
         fate_at(self.near as u64, &self.verdict)
     }
 
@@ -106,12 +109,13 @@ impl Walk {
     }
 
     /// Advances by the next near beat, which was accepted and is in this line. Returns its result.
-    pub fn accept(&mut self, beat: &Seen, line: u64) -> Brought {
+    pub fn accept(&mut self, beat: &BeatFields, line: u64) -> FarProgress {
         if self.index == 0 {
             self.first = *beat;
             self.first_line = line;
             self.home = beat.address;
             self.far_before = self.far;
+            self.messages = self.messages.saturating_add(1);
         }
         let (near, whole, count) = bytes(beat, self.w, self.v);
         let number = self.index.saturating_add(1);
@@ -122,7 +126,7 @@ impl Walk {
         self.staged = come % whole;
         self.beats = count;
         self.index = if (number as usize) < count { number } else { 0 };
-        self.brought = Brought {
+        self.brought = FarProgress {
             beat: number,
             beats: count,
             from,
@@ -138,7 +142,7 @@ impl Walk {
 /// Returns the number of bytes in an accepted beat on a bus of `w` bytes, in a far beat of its
 /// message on one of `v`, and the number of beats of its message. Without data, each beat counts as
 /// one byte.
-fn bytes(beat: &Seen, w: usize, v: usize) -> (usize, usize, usize)
+fn bytes(beat: &BeatFields, w: usize, v: usize) -> (usize, usize, usize)
     ensures { 1 ≤ result.1 }
 {
     if beat.size > MAX_SIZE || !beat.carries_data() {

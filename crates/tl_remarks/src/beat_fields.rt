@@ -9,7 +9,7 @@ use tl_trace::HeadText;
 
 /// The fields of a beat, without its lanes. A field that its channel does not have is 0.
 #[derive(Clone, Copy, Default)]
-pub struct Seen {
+pub struct BeatFields {
     /// The version of its trace, which determines the number of digits of an id.
     pub version: u8,
     /// `A` to `E`.
@@ -29,15 +29,15 @@ pub struct Seen {
 }
 
 /// A channel whose beats can be described in sentences.
-pub trait Told: HeadText {
+pub trait Describe: HeadText {
     /// Returns the fields of a head.
-    fn seen(head: Self::Head) -> Seen;
+    fn seen(head: Self::Head) -> BeatFields;
 }
 
 // The fields of a head of A, B or C, whose heads have the same fields.
 macro_rules! seen_with {
     ($letter:literal, $kind_on:path, $head:ident) => {
-        Seen {
+        BeatFields {
             letter: $letter,
             kind: $kind_on($head.opcode),
             opcode: $head.opcode,
@@ -45,32 +45,32 @@ macro_rules! seen_with {
             size: $head.size,
             source: $head.source,
             address: $head.address,
-            ..Seen::default()
+            ..BeatFields::default()
         }
     };
 }
 
-impl Told for ChA {
-    fn seen(head: HeadA) -> Seen {
+impl Describe for ChA {
+    fn seen(head: HeadA) -> BeatFields {
         seen_with!(b'A', Kind::on_a, head)
     }
 }
 
-impl Told for ChB {
-    fn seen(head: HeadB) -> Seen {
+impl Describe for ChB {
+    fn seen(head: HeadB) -> BeatFields {
         seen_with!(b'B', Kind::on_b, head)
     }
 }
 
-impl Told for ChC {
-    fn seen(head: HeadC) -> Seen {
+impl Describe for ChC {
+    fn seen(head: HeadC) -> BeatFields {
         seen_with!(b'C', Kind::on_c, head)
     }
 }
 
-impl Told for ChD {
-    fn seen(head: HeadD) -> Seen {
-        Seen {
+impl Describe for ChD {
+    fn seen(head: HeadD) -> BeatFields {
+        BeatFields {
             letter: b'D',
             kind: Kind::on_d(head.opcode),
             opcode: head.opcode,
@@ -79,24 +79,24 @@ impl Told for ChD {
             source: head.source,
             sink: head.sink,
             denied: head.denied,
-            ..Seen::default()
+            ..BeatFields::default()
         }
     }
 }
 
-impl Told for ChE {
-    fn seen(head: HeadE) -> Seen {
-        Seen {
+impl Describe for ChE {
+    fn seen(head: HeadE) -> BeatFields {
+        BeatFields {
             letter: b'E',
             sink: head.sink,
-            ..Seen::default()
+            ..BeatFields::default()
         }
     }
 }
 
 /// Returns the fields of a beat of a trace of this version.
-pub fn seen_of<K: Told, const W: usize>(beat: &Beat<K, W>, version: u8) -> Seen {
-    Seen {
+pub fn beat_fields_of<K: Describe, const W: usize>(beat: &Beat<K, W>, version: u8) -> BeatFields {
+    BeatFields {
         version,
         mask: beat.mask,
         corrupt: beat.corrupt,
@@ -104,7 +104,7 @@ pub fn seen_of<K: Told, const W: usize>(beat: &Beat<K, W>, version: u8) -> Seen 
     }
 }
 
-impl Seen {
+impl BeatFields {
     /// Returns whether its message carries data.
     pub fn carries_data(&self) -> bool {
         self.kind.is_some_and(Kind::carries_data)

@@ -1,22 +1,22 @@
 //! The sentences on the lines of a text, written line by line.
 use crate::alike::Alike;
-use crate::course::Course;
+use crate::beat_outcome::BeatOutcome;
+use crate::display_options::{DisplayOptions, LineFilter};
 use crate::drawing::{Drawing, Drawn};
-use crate::fate::Fate;
-use crate::look::{Choice, Look};
+use crate::page_model::{Links, tied, ties_at};
 use crate::picture::put_picture;
 use crate::requests::{HeldPair, Requests};
-use crate::scene::{Ties, tied, ties_at};
 use crate::shown::{Item, Run};
 use crate::times::Times;
+use crate::trace_position::TracePosition;
 use std::alloc::Global;
 use tl_msg::Verdict;
-use tl_remarks::{Noted, Page, Remark, Seen, put_remark};
+use tl_remarks::{BeatFields, Noted, Remark, TextBuf, put_remark};
 use tl_trace::Header;
 
 /// The status of the beat of a line.
 #[derive(Clone, Copy, PartialEq, Eq, Default)]
-pub enum Fares {
+pub enum BeatStatus {
     #[default]
     Accepted,
     /// It breaks a rule, and its channel stopped at it.
@@ -29,22 +29,24 @@ pub enum Fares {
 
 /// The sentences on the lines of a text, written line by line.
 #[derive(Drop)]
-pub struct Story {
+pub struct LineReport {
     /// The text on the lines that are shown.
-    pub page: Page,
+    pub page: TextBuf,
     /// The position in the lines.
-    pub course: Course,
+    pub course: TracePosition,
     pub times: Times,
     /// The version of the trace.
     pub version: u8,
     /// Which lines are shown.
-    choice: Choice,
+    choice: LineFilter,
     /// Whether each beat has a picture of its lanes.
     has_lanes: bool,
     /// Whether the output is JSON; if so, the related messages of each line from line 2 on.
     is_json: bool,
-    ties: Vec<Ties>,
-    /// The remarks on the messages, and the number of those up to the current line.
+    ties: Vec<Links>,
+    /// Whether remarks were requested, the remarks on the messages, and the number of those up to
+    /// the current line.
+    pub has_remarks: bool,
     pub remarks: Vec<Remark>,
     remarks_passed: usize,
     /// The first letter of each line from line 2 on.
@@ -77,7 +79,7 @@ pub fn line_in(lines: &[u8], number: usize, length: usize) -> &[u8] {
     lines.get(from..from.saturating_add(length)).unwrap_or(&[])
 }
 
-impl Story {
+impl LineReport {
     /// Creates the story of a text with this header; no line has been written yet. Its lines have
     /// these letters, its channels these verdicts, and its messages these remarks and exchanges. An
     /// allocation failure, here or recorded in one of these, is recorded in the story.
@@ -85,25 +87,26 @@ impl Story {
     pub fn new(
         alloc: Global,
         header: &Header,
-        look: &Look,
+        look: &DisplayOptions,
         verdicts: &[Verdict; 5],
-        letters: Page,
+        letters: TextBuf,
         noted: Noted,
         held: HeldPair,
         times: &[u8],
-    ) -> Story {
+    ) -> LineReport {
         let out_of_memory = letters.out_of_memory | noted.out_of_memory;
         let requests = Requests::new(noted.exchanges, noted.ties, look.in_order, held);
-        let mut page = Page::new(alloc, look.colour);
-        let mut story = Story {
+        let mut page = TextBuf::new(alloc, look.colour);
+        let mut story = LineReport {
             times: Times::new(alloc, times, &mut page),
             page,
-            course: Course::new(alloc, header, verdicts, requests),
+            course: TracePosition::new(alloc, header, verdicts, requests),
             version: header.version,
             choice: look.choice,
             has_lanes: look.lanes && !look.page,
             is_json: look.json,
             ties: Vec::new(alloc),
+            has_remarks: look.remarks,
             remarks: noted.remarks,
             remarks_passed: 0,
             letters: letters.text,
@@ -134,7 +137,7 @@ impl Story {
 
     /// Returns the messages that belong to the one of the last accepted beat, if the output is
     /// JSON.
-    pub fn ties_of_message(&self) -> Ties {
+    pub fn ties_of_message(&self) -> Links {
         ties_at(&self.ties, self.course.walk.first_line)
     }
 
@@ -169,10 +172,15 @@ impl Story {
 
     /// Writes the outcome of the channel's next near beat, which has these bytes on its lanes, if
     /// the line is shown. Returns whether it was accepted.
-    pub fn put_near(&mut self, beat: &Seen, lanes: &[u8]) -> bool {
+    pub fn put_near(&mut self, beat: &BeatFields, lanes: &[u8]) -> bool {
         let came = self.course.advance(beat);
-        let accepted = matches!(came.fate, Fate::Accepted);
+        let accepted = matches!(came.fate, BeatOutcome::Accepted);
         self.item.fares = came.fate.fares();
+        self.item.message = if accepted {
+            self.course.walk.first_line
+        } else {
+            0
+        };
         self.is_shown = self
             .choice
             .shows(&self.item, beat.source, self.next_remark().is_some());
@@ -204,7 +212,7 @@ impl Story {
     /// Returns whether a sentence begins with the line. A beat that was not offered continues the
     /// sentence of such beats right before it. Any other beat ends that sentence.
     fn begins_sentence(&mut self) -> bool {
-        if self.item.fares == Fares::NotOffered {
+        if self.item.fares == BeatStatus::NotOffered {
             return self.run.count == 0;
         }
         if self.run.count != 0 {
@@ -214,7 +222,7 @@ impl Story {
     }
 
     /// Adds the next near beat, whose line is kept, to the drawing.
-    pub fn draw_near(&mut self, beat: &Seen, lanes: &[u8], accepted: bool) {
+    pub fn draw_near(&mut self, beat: &BeatFields, lanes: &[u8], accepted: bool) {
         let (message, first_byte) = if accepted {
             (
                 self.course.walk.first_line,
@@ -233,7 +241,7 @@ impl Story {
         self.drawing.add(&drawn, lanes, &self.lines);
     }
 
-    /// Returns whether the far beats are shown. [`Story::shows_far_lanes`] returns whether their
+    /// Returns whether the far beats are shown. [`LineReport::shows_far_lanes`] returns whether their
     /// lanes are.
     pub fn shows_far(&self) -> bool {
         self.is_shown || self.drawing.is_wanted
@@ -256,7 +264,7 @@ impl Story {
 
     /// Adds the same far beat to the JSON object or the drawing, or writes the picture of its
     /// lanes.
-    pub fn put_far_lanes(&mut self, number: usize, length: usize, beat: &Seen, lanes: &[u8]) {
+    pub fn put_far_lanes(&mut self, number: usize, length: usize, beat: &BeatFields, lanes: &[u8]) {
         if self.is_json {
             return self.add_far(number, length, beat, lanes);
         }
@@ -328,7 +336,7 @@ impl Story {
         if !self.is_shown {
             return;
         }
-        if self.item.fares != Fares::NotOffered {
+        if self.item.fares != BeatStatus::NotOffered {
             return self.note(self.item);
         }
         if self.run.count == 1 {
@@ -346,7 +354,7 @@ impl Story {
         }
         self.end_run();
         for letter in LETTERS {
-            self.course.turn_to(*letter);
+            self.course.select_channel(*letter);
             self.course.put_cut(&mut self.page);
         }
     }
