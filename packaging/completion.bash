@@ -9,8 +9,8 @@ _tlbridge() {
         ;;
     *tlbridge-trace)
         words="--link --client --manager --link-pattern --client-pattern --manager-pattern --field --struct --clock --reset --width
-            --client-clock --client-reset --client-width --manager-clock --manager-reset --manager-width --trace --times --far --beats
-            --compare --ignore-unmasked --program --unknown-zero --from --to --trace-version --no-count --quiet --help"
+            --client-clock --client-reset --client-width --manager-clock --manager-reset --manager-width --trace --times --html --tlexplain --far
+            --beats --compare --ignore-unmasked --program --unknown-zero --from --to --trace-version --no-count --quiet --help"
         ;;
     *)
         words="run check --help --version"
@@ -25,7 +25,8 @@ _tlbridge() {
     --channel) words="A B C D E" ;;
     --width | --*-width) words=$widths ;;
     --trace-version) words="1 2" ;;
-    --program | --write-trace | --trace | --times | --far | --beats) words='' ;;
+    --program | --write-trace | --trace | --times | --tlexplain | --far | --beats) words='' ;;
+    --html) [[ $1 != *tlbridge-trace ]] || words='' ;;
     esac
     mapfile -t COMPREPLY < <(compgen -W "$words" -- "$word")
     case $before in

@@ -1,8 +1,10 @@
 """Writes a bench in SystemVerilog: the adapter of adapter.sv under the names of a convention, traffic, monitors, and a dump.
 
-    bench.py CONVENTION icarus|verilator DUMP BUG [scoreboard] > bench.sv
+    bench.py CONVENTION icarus|verilator DUMP [scoreboard] > bench.sv
+    bench.py structs
 
-With the convention `bridge` the design is rtl/tl_bridge.sv itself, and BUG is not read.
+With the convention `bridge` the design is rtl/tl_bridge.sv itself. The second form prints the fields of the structs of the convention
+`struct`, one struct a line, as the option --struct of tlbridge-trace takes them.
 """
 import sys
 
@@ -20,9 +22,12 @@ WIDTHS = {"c": 8, "m": 4}
 CLOCKS = {
     "rocket": ("auto_in_clock", "auto_in_reset", "auto_out_clock", "auto_out_reset"),
     "spinal": ("up_clk", "up_reset", "down_clk", "down_reset"),
+    "struct": ("up_clk", "up_reset", "down_clk", "down_reset"),
     "bridge": ("client_clock", "client_reset", "manager_clock", "manager_reset"),
 }
 LINK_SIZES = ".ADDRESS_BITS(32), .SOURCE_BITS(6), .SINK_BITS(4)"
+# The structs of a link in the convention `struct`, by its link and whether it is an input of the design.
+STRUCTS = {("c", True): "up_req", ("c", False): "up_rsp", ("m", False): "down_req", ("m", True): "down_rsp"}
 OTHER_CLOCKS = ("s_clk", "s_rst", "m_clk", "m_rst")
 
 
@@ -41,7 +46,7 @@ def name_of(convention, side, channel, field):
         return f"auto_{'in' if side == 'c' else 'out'}_{channel}_{'' if held else 'bits_'}{field}"
     if convention == "spinal":
         return f"io_{'up' if side == 'c' else 'down'}_{channel}_{'' if held else 'payload_'}{field}"
-    if convention == "pattern":
+    if convention in ("pattern", "scope"):
         return f"{'Slv' if side == 'c' else 'Mst'}{channel.upper()}__{ {'valid': 'VLD', 'ready': 'RDY'}.get(field, field.upper())}"
     if convention == "bridge":
         return f"{'client' if side == 'c' else 'manager'}_{channel}_{field}"
@@ -56,23 +61,60 @@ def connected(names):
     return ", ".join(f".{port}({name})" for port, name in names)
 
 
-def design(convention, bug):
+def members(side, is_input):
+    return [(f"{channel}_{field}", bits) for of, channel, field, bits, inward in signals() if (of, inward) == (side, is_input)]
+
+
+def design(convention):
     """Returns the adapter with the ports of the convention, or nothing if the design is tl_bridge."""
     if convention == "bridge":
         return ""
     clocks = CLOCKS.get(convention, OTHER_CLOCKS)
+    inner = list(zip(("cclk", "crst", "mclk", "mrst"), clocks))
+    if convention == "struct":
+        return struct_design(clocks, inner)
     ports = [f"input {clock}" for clock in clocks]
     ports += [declared("input" if is_input else "output", bits, name_of(convention, side, channel, field)) for side, channel, field, bits, is_input in signals()]
     if convention == "rocket":
         ports.append("input [6:0] auto_in_a_bits_user_amba_prot")
-    inner = list(zip(("cclk", "crst", "mclk", "mrst"), clocks))
     inner += [(f"{side}_{channel}_{field}", name_of(convention, side, channel, field)) for side, channel, field, _, _ in signals()]
-    return f"module Dut({', '.join(ports)});\n  adapter #({bug}) inner({connected(inner)});\nendmodule\n"
+    taps = "".join(tap(convention, side, clocks) for side in "cm") if convention == "scope" else ""
+    modules = "".join(tap_module(side) for side in "cm") if convention == "scope" else ""
+    return f"{modules}module Dut({', '.join(ports)});\n  adapter inner({connected(inner)});\n{taps}endmodule\n"
+
+
+def tap_module(side):
+    """A scope that has the signals of a link by the names of the channels and fields alone."""
+    ports = [declared("input", bits, f"{channel}_{field}") for of, channel, field, bits, _ in signals() if of == side]
+    return f"module {side}_tap(input clock, input reset, {', '.join(ports)});\nendmodule\n"
+
+
+def tap(convention, side, clocks):
+    ports = [("clock", clocks[0 if side == "c" else 2]), ("reset", clocks[1 if side == "c" else 3])]
+    ports += [(f"{channel}_{field}", name_of(convention, of, channel, field)) for of, channel, field, _, _ in signals() if of == side]
+    return f"  {side}_tap {'up' if side == 'c' else 'down'}({connected(ports)});\n"
+
+
+def struct_design(clocks, inner):
+    """The adapter with a packed struct for each direction of each link."""
+    lines = ["package link_pkg;"]
+    lines += [f"  typedef struct packed {{ {' '.join(declared('logic', bits, name) + ';' for name, bits in members(*of))} }} {name}_t;" for of, name in STRUCTS.items()]
+    ports = [f"input {clock}" for clock in clocks]
+    ports += [f"{'input' if is_input else 'output'} {name}_t {name}" for (_, is_input), name in STRUCTS.items()]
+    lines += ["endpackage", f"module Dut import link_pkg::*; ({', '.join(ports)});"]
+    for (side, is_input), struct in STRUCTS.items():
+        inside = [f"inside_{side}_{name}" for name, _ in members(side, is_input)]
+        lines += [f"  {declared('wire', bits, name)};" for name, (_, bits) in zip(inside, members(side, is_input))]
+        lines.append(f"  assign {{{', '.join(inside)}}} = {struct};" if is_input else f"  assign {struct} = {{{', '.join(inside)}}};")
+    inner += [(f"{side}_{channel}_{field}", f"inside_{side}_{channel}_{field}") for side, channel, field, _, _ in signals()]
+    return "\n".join([*lines, f"  adapter inner({connected(inner)});", "endmodule\n"])
 
 
 def instances(convention, with_scoreboard):
     clocks = list(zip(CLOCKS.get(convention, OTHER_CLOCKS), ("cclk", "crst", "mclk", "mrst")))
     names = [(name_of(convention, side, channel, field), f"{side}_{channel}_{field}") for side, channel, field, _, _ in signals()]
+    if convention == "struct":
+        names = [(struct, f"{{{', '.join(f'{side}_{name}' for name, _ in members(side, is_input))}}}") for (side, is_input), struct in STRUCTS.items()]
     if convention == "rocket":
         names.append(("auto_in_a_bits_user_amba_prot", "7'd0"))
     kind = "Dut"
@@ -196,13 +238,17 @@ endmodule"""
 
 
 def main():
-    convention, simulator, dump, bug = sys.argv[1:5]
-    print(design(convention, bug))
+    if sys.argv[1:] == ["structs"]:
+        for of in STRUCTS:
+            print(",".join(f"{name}:{bits}" for name, bits in members(*of)))
+        return
+    convention, simulator, dump = sys.argv[1:4]
+    print(design(convention))
     print("`timescale 1ns/1ps\nmodule top;")
     print("  reg cclk = 0, mclk = 0, crst = 1, mrst = 1;\n  always #5 cclk = !cclk;\n  always #7 mclk = !mclk;\n  real noise = 0.5; string word = \"x\"; event unused;")
     for side, channel, field, bits, is_input in signals():
         print("  " + declared("reg" if is_input else "wire", bits, f"{side}_{channel}_{field}", " = 0" if is_input and field in ("valid", "ready") else "") + ";")
-    print("\n".join(instances(convention, "scoreboard" in sys.argv[5:])))
+    print("\n".join(instances(convention, "scoreboard" in sys.argv[4:])))
     print(TRAFFIC.replace("XX", "64'bx" if simulator == "icarus" else "64'h0123456789abcdef").replace("DUMP", dump))
 
 

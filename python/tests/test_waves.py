@@ -1,7 +1,8 @@
-"""What tlbridge-trace makes of small waveforms written by hand. No simulator is needed."""
+"""The output of tlbridge-trace for small waveforms that are written by hand. No simulator is needed."""
 import contextlib
 import gzip
 import io
+import json
 import os
 import random
 import re
@@ -10,12 +11,14 @@ import subprocess
 import sys
 import tempfile
 import unittest
+from html.parser import HTMLParser
 from pathlib import Path
+from unittest import mock
 
 sys.path.insert(0, str(Path(__file__).resolve().parent.parent))
 from tlbridge import run as runs  # noqa: E402
 from tlbridge.flow import LinkFlow  # noqa: E402
-from tlbridge.waves import command, links, vcd  # noqa: E402
+from tlbridge.waves import command, links, page, vcd  # noqa: E402
 from tlbridge.waves.sampling import active_lanes, hexadecimal  # noqa: E402
 
 A = [("valid", 1), ("ready", 1), ("opcode", 3), ("param", 3), ("size", 4), ("source", 4), ("address", 32), ("mask", 0), ("data", -1), ("corrupt", 1)]
@@ -241,6 +244,10 @@ class Names(Case):
     def test_no_link(self):
         self.refused("$scope module top $end\n$var wire 1 ! clk $end\n$upscope $end\n$enddefinitions $end\n#0\n1!\n", "no TileLink link")
 
+    def test_no_link_in_an_extended_dump(self):
+        said = self.refused("$scope module top $end\n$var port 1 <0 a $end\n$upscope $end\n$enddefinitions $end\n#0\n$dumpports\npU 0 6 <0\n$end\n", "no TileLink link")
+        self.assertIn("extended VCD ($dumpports), which is not read", said)
+
     def test_one_link_alone(self):
         self.refused(simple().text(), "name both", "--client", "in", status=2)
 
@@ -357,7 +364,7 @@ class Sampling(Case):
 
     def test_missing_clock(self):
         text = "\n".join(line for line in simple().text().splitlines() if " clock " not in line)
-        self.refused(text, "the dump has no clock beside it or above it", "--client", "in", "--manager", "out", status=2)
+        self.refused(text, "the dump has no clock in its scope or above it", "--client", "in", "--manager", "out", status=2)
         self.refused(text, "the dump has no clock 'tick'", "--client", "in", "--manager", "out", "--clock", "tick", status=2)
         status, out, _ = self.run_tool(text)
         self.assertEqual(status, 0)
@@ -587,6 +594,24 @@ class Forms(Case):
         self.assertEqual((status, out), (0, NEAR), said)
         self.refused((self.folder / "a.fst").read_bytes()[:40], "fst2vcd could not read it")
 
+    def test_fst_with_many_messages(self):
+        """fst2vcd does not stop because nobody reads its messages, and they are shown if it fails."""
+        (self.folder / "as.vcd").write_text(simple().text())
+        for status in (0, 1):
+            (self.folder / "fst2vcd").write_text(f"#!/bin/sh\nyes 'a damaged block' | head -c 300000 >&2\ncat '{self.folder}/as.vcd'\nexit {status}\n")
+            (self.folder / "fst2vcd").chmod(0o755)
+            kept = os.environ["PATH"]
+            os.environ["PATH"] = f"{self.folder}{os.pathsep}{kept}"
+            try:
+                got, out, said = self.run_tool(bytes(400), "--link", "in", "--quiet")
+            finally:
+                os.environ["PATH"] = kept
+            if status:
+                self.assertEqual(got, 3)
+                self.assertIn("fst2vcd could not read it: a damaged block", said)
+            else:
+                self.assertEqual((got, out[1:], said), (0, [LOW, FAR[2]], ""))
+
     def test_codes_like_keywords(self):
         """Codes may begin as times, values and keywords do."""
         wave = simple()
@@ -726,7 +751,7 @@ def mutated(text, source, first=0):
 
 
 def plain_beats(text):
-    """The near beats of `simple("rocket")`, or of what became of it, read word by word in the plainest way."""
+    """The near beats of `simple("rocket")`, or of a changed copy, read word by word in the plainest way."""
     words, codes = iter(text.split()), {}
     for word in words:
         if word == b"$enddefinitions":
@@ -1133,7 +1158,7 @@ class LongRuns(Case):
 
 
 class Outstanding(unittest.TestCase):
-    """What is outstanding on a link of 4 bytes, after each beat."""
+    """The outstanding bursts and requests on a link of 4 bytes, after each beat."""
 
     A = "0000000000001000 f 00000000 0"
     CASES = {
@@ -1171,7 +1196,7 @@ class Outstanding(unittest.TestCase):
                 self.assertTrue(flow.is_quiet())
 
     def test_answers_to_nothing(self):
-        """A response whose request was never seen is told from others."""
+        """A response whose request was never seen is distinguished from others."""
         flow = LinkFlow(4, 2)
         for line in ("D 0 0 2 01 00 0 00000000 0", "D 6 0 2 01 00 0 00000000 0", "C 4 0 2 01 0000000000001000 00000000 0", "E 05"):
             self.assertTrue(flow.beat(line), line)
@@ -1199,7 +1224,7 @@ class OneLink(Case):
         self.refused(simple().text(), "name both links", "--link", "in", "--client", "in", status=2)
 
     def test_a_response_without_its_request_is_kept(self):
-        """Of one link nothing is judged here, so nothing is left out of a dump that begins at time 0."""
+        """With one link nothing is judged here, so nothing is left out of a dump that begins at time 0."""
         wave = Wave()
         wave.begin()
         wave.time(5)
@@ -1208,7 +1233,7 @@ class OneLink(Case):
         self.assertEqual(self.run_tool(wave.text(), "--link", "in")[1][1:], ["D 0 0 0 00 00 0 0000000000000000 0"])
 
     def test_either_side_may_be_the_design(self):
-        """Of a Verilated model the outputs change as the clock rises. Only if both sides do, inputs do."""
+        """The outputs of a Verilated model change as the clock rises. Only if both sides do, inputs do."""
         text = simple().text().replace("$scope module top", "$scope module TOP")
         said = self.run_tool(text, "--link", "in")[2]
         self.assertIn("an input that a C++ bench drives, changes as the clock rises", said)
@@ -1222,6 +1247,305 @@ class OneLink(Case):
         text = wave.text()
         said = self.run_tool(text, "--link", "in")[2]
         self.assertNotIn("C++", said)
+
+
+ROOT = Path(__file__).resolve().parents[2]
+GET_PAGE = ROOT / "examples" / "get.html"
+# Prints a stored page as tlexplain would, and leaves its words, the times and the trace in a file.
+STAND_IN = """#!{python}
+import json, os, sys
+from pathlib import Path
+mode, option, times, trace = sys.argv[1:]
+with open({seen!r}, "a") as seen:
+    print(json.dumps([mode, option, Path(times).read_text(), Path(trace).read_text().splitlines()]), file=seen)
+sys.stdout.write(Path({page!r}).read_text())
+sys.stdout.flush()
+print("tlexplain: said", file=sys.stderr, flush=True)
+if {status} < 0:
+    os.kill(os.getpid(), -{status})
+sys.exit({status})
+"""
+
+
+class Markup(HTMLParser):
+    """The elements of a page, and whether each is closed by its own end."""
+
+    def __init__(self, text):
+        super().__init__()
+        self.open, self.items, self.is_closed = [], [], True
+        self.feed(text)
+        self.close()
+        self.is_closed &= not self.open
+
+    def handle_starttag(self, tag, attributes):
+        if tag not in ("meta", "link"):
+            self.open.append((tag, dict(attributes).get("class")))
+        if tag == "li" and ("aside", "notes") in self.open:
+            self.items.append("")
+
+    def handle_endtag(self, tag):
+        self.is_closed &= bool(self.open) and self.open.pop()[0] == tag
+
+    def handle_data(self, data):
+        if self.open and self.open[-1][0] == "li" and ("aside", "notes") in self.open:
+            self.items[-1] += data
+
+
+class Page(Case):
+    """--html, with a stand-in for tlexplain."""
+
+    NOTES = re.compile(r'<aside class="notes"><h2>Notes of tlbridge-trace</h2><ul>.*?</ul></aside>')
+
+    def stand_in(self, status=0, shown=GET_PAGE, name="stand-in", seen="seen"):
+        path = self.folder / name
+        path.write_text(STAND_IN.format(python=sys.executable, seen=str(self.folder / seen), page=str(shown), status=status))
+        path.chmod(0o755)
+        return str(path)
+
+    def made(self, text, *words, status=0, program=None, name="dump.vcd", to="up.html"):
+        """Runs --html. Returns the page, if there is one, what was printed, and what was said."""
+        got, out, said = self.run_tool(text, "--html", str(self.folder / to), "--tlexplain", program or self.stand_in(), *words, name=name)
+        self.assertEqual(got, status, said)
+        path = self.folder / to
+        return path.read_text() if path.is_file() else None, out, said
+
+    def seen(self):
+        return [json.loads(line) for line in (self.folder / "seen").read_text().splitlines()]
+
+    def test_one_link(self):
+        """tlexplain gets the trace and its times. The notes are below the header, and the rest of the page is as tlexplain wrote it."""
+        text, out, said = self.made(simple().text(), "--link", "in")
+        self.assertEqual(out, [])
+        self.assertIn("tlexplain: said\n", said)
+        self.assertEqual(self.seen(), [["--html", "--times", "10\n20\n", ["tilelink-trace 1 client 8 manager 8", LOW, FAR[2]]]])
+        self.assertRegex(text, r"</header><aside class=\"notes\">.*</aside><nav ")
+        self.assertEqual(self.NOTES.sub("", text).replace(page.STYLE.decode(), ""), GET_PAGE.read_text())
+        markup = Markup(text)
+        self.assertTrue(markup.is_closed)
+        self.assertEqual(markup.items, [f"{self.folder / 'dump.vcd'}: top.in, time 0 to 30, in units of 1ns",
+                                        "top.in: AD, 8 bytes, clock top.clock, reset top.reset"])
+        for text in markup.items[1:]:
+            self.assertIn(f"tlbridge-trace: {text}\n", said)
+
+    def test_standard_input(self):
+        with mock.patch.object(sys, "stdin", io.TextIOWrapper(io.BytesIO(simple().text().encode()))), contextlib.redirect_stderr(io.StringIO()):
+            status = command.main(["-", "--link", "in", "--html", str(self.folder / "up.html"), "--tlexplain", self.stand_in()])
+        self.assertEqual((status, Markup((self.folder / "up.html").read_text()).items[0]), (0, "standard input: top.in, time 0 to 30, in units of 1ns"))
+
+    def test_two_links(self):
+        text, _, _ = self.made(simple().text(), "--client", "in", "--manager", "out", "--trace", str(self.folder / "trace"))
+        self.assertEqual(self.seen(), [["--html", "--times", "10\n20\n", NEAR]])
+        self.assertEqual((self.folder / "trace").read_text().splitlines(), NEAR)
+        items = Markup(text).items
+        self.assertIn(": top.in and top.out, time 0 to 30", items[0])
+        self.assertEqual([item.split(",")[0] for item in items[1:]], ["top.in: AD", "top.out: AD"])
+
+    def test_style(self):
+        """It has a class of its own, the colours of the page, and rules for print; it uses nothing that the page's policy forbids."""
+        style = page.STYLE.decode()
+        for selector in re.findall(r"([^{}<>]+)\{[^{}]*\}", style.replace("<style>", "").replace("@media print {", "")):
+            self.assertTrue(selector.strip().startswith(".notes"), selector)
+        self.assertNotIn("notes", GET_PAGE.read_text())
+        self.assertNotRegex(style, r"#[0-9a-f]{3}|url\(|@import")
+        for name in re.findall(r"var\((--\w+)", style):
+            self.assertEqual(GET_PAGE.read_text().count(f" {name}: "), 2, name)  # light and dark
+        self.assertRegex(style, r"@media print \{ \.notes .* max-height: none; \} \}")
+
+    def test_notes_are_escaped(self):
+        wave = Wave(scope="a<b>&amp;\x1b\xff")
+        wave.begin()
+        wave.time(10, clock=1)
+        text, _, _ = self.made(wave.text(), "--link", "in", name="<i> & \"dump\".vcd")
+        notes = self.NOTES.search(text)[0]
+        self.assertIn("&lt;i&gt; &amp; \"dump\".vcd: a&lt;b&gt;&amp;amp;\\x1b\xff.in, time", notes)
+        self.assertEqual(set(re.findall(r"</?(\w+)", notes)), {"aside", "h2", "ul", "li"})
+        self.assertNotIn("\x1b", text)
+        self.assertEqual(len(Markup(text).items), 3)
+
+    def test_a_bench_in_cpp(self):
+        """The first note, after the line that names the dump, is the one without which the page misleads."""
+        text, _, _ = self.made(simple().text().replace("$scope module top", "$scope module TOP"), "--link", "in")
+        self.assertRegex(Markup(text).items[1], r"^TOP\.in_\w+, an input that a C\+\+ bench drives, changes as the clock rises, .*the dump does not show what the edge saw")
+
+    def test_quiet(self):
+        """It prints no notes, and the page has them."""
+        text, out, said = self.made(simple().text(), "--link", "in", "--quiet")
+        self.assertEqual((out, said), ([], "tlexplain: said\n"))
+        self.assertEqual(len(Markup(text).items), 2)
+
+    def test_statuses(self):
+        """0 and 1 of tlexplain are answers. On 3 its page shows the fault, if it wrote one. Nothing else is a page."""
+        empty = self.folder / "empty"
+        empty.write_text("")
+        for status, shown, wanted, words in ((1, GET_PAGE, 0, ""), (3, GET_PAGE, 3, "ended with status 3: PAGE shows the fault"), (3, empty, 3, "ended with status 3: PAGE was not written"),
+                                             (0, empty, 4, "ended with status 0: PAGE was not written"), (2, GET_PAGE, 4, "ended with status 2: PAGE was not written"),
+                                             (4, GET_PAGE, 4, "ended with status 4: PAGE was not written"), (70, empty, 4, "ended with status 70: PAGE was not written"),
+                                             (-9, GET_PAGE, 4, "ended with signal 9: PAGE was not written")):
+            with self.subTest((status, shown.name)):
+                (self.folder / "up.html").unlink(missing_ok=True)
+                text, _, said = self.made(simple().text(), "--link", "in", status=wanted, program=self.stand_in(status, shown))
+                self.assertIn(words.replace("PAGE", str(self.folder / "up.html")), said)
+                self.assertIn("tlexplain: said\n", said)
+                self.assertEqual(text is not None, not words or "shows" in words)
+                if text is not None:
+                    self.assertEqual(len(Markup(text).items), 2)
+
+    def test_no_program(self):
+        """It is missed before the dump is read."""
+        with mock.patch.object(command, "open_wave", side_effect=AssertionError):
+            for words in ((str(self.folder / "none"),), (str(self.folder),), ("no-such-tlexplain",)):
+                self.refused("", f"--tlexplain {words[0]}: there is no program of this name", "--link", "in", "--html", "up.html", "--tlexplain", *words, status=4)
+            with mock.patch.object(page, "find_program", return_value=None):
+                said = self.refused("", "--html needs the program tlexplain, and none was found", "--link", "in", "--html", "up.html", status=4)
+            self.assertIn("build it in a clone with ./tlexplain --version, or name it with --tlexplain", said)
+            self.refused("", "name the links", "--html", "up.html", status=2)
+        path = Path(self.stand_in())
+        path.write_text("no program")
+        _, _, said = self.made(simple().text(), "--link", "in", status=4, program=str(path))
+        self.assertIn(f"{path}: Exec format error", said)
+
+    def test_no_file_for_the_page(self):
+        _, _, said = self.made(simple().text(), "--link", "in", status=4, to="none/up.html")
+        self.assertIn("up.html: No such file or directory", said)
+
+    def tree(self, package, *folders):
+        """A copy of the script and of the package, in folders with a space in their names, and a dump."""
+        top = self.folder / "a tree"
+        shutil.copytree(ROOT / "python" / "tlbridge", top / package / "tlbridge", ignore=shutil.ignore_patterns("__pycache__"))
+        for folder in folders:
+            (top / folder).mkdir(parents=True, exist_ok=True)
+        (self.folder / "the dump.vcd").write_text(simple().text())
+        shutil.copy(ROOT / "tlbridge-trace", top / folders[0])
+        return top
+
+    def called(self, script, path=""):
+        words = [sys.executable, str(script), "the dump.vcd", "--link", "in", "--html", "the page.html", "--quiet"]
+        done = subprocess.run(words, cwd=self.folder, capture_output=True, text=True, check=False, env={**os.environ, "PATH": f"{self.folder}/nothing:{path}"})
+        made = (self.folder / "the page.html")
+        has_notes = made.is_file() and len(Markup(made.read_text()).items) == 2
+        made.unlink(missing_ok=True)
+        return done.returncode, has_notes, done.stderr
+
+    def test_installed(self):
+        """The program next to the script, and otherwise the one in PATH."""
+        top = self.tree("share/tlbridge/python", "bin", "elsewhere")
+        shutil.move(self.stand_in(), top / "elsewhere" / "tlexplain")
+        self.assertEqual(self.called(top / "bin" / "tlbridge-trace")[:2], (4, False))
+        self.assertEqual(self.called(top / "bin" / "tlbridge-trace", top / "elsewhere"), (0, True, "tlexplain: said\n"))
+        shutil.move(self.stand_in(1, seen="seen next to the script"), top / "bin" / "tlexplain")
+        self.assertEqual(self.called(top / "bin" / "tlbridge-trace", top / "elsewhere"), (0, True, "tlexplain: said\n"))
+        self.assertEqual(self.called(top / "bin" / "tlbridge-trace"), (0, True, "tlexplain: said\n"))
+        self.assertEqual([len(self.seen()), len((self.folder / "seen next to the script").read_text().splitlines())], [1, 2])
+
+    def test_clone(self):
+        """The program of a clone is used if it is built; its wrapper, which would build it first, is not called."""
+        top = self.tree("python", ".", "crates/tlexplain/out", "elsewhere")
+        shutil.move(self.stand_in(70, seen="wrapper"), top / "tlexplain")
+        status, _, said = self.called(top / "tlbridge-trace")
+        self.assertEqual(status, 4)
+        self.assertIn("build it in a clone with ./tlexplain --version", said)
+        _, _, said = self.made(simple().text(), "--link", "in", status=4, program=str(top / "tlexplain"))
+        self.assertIn("tlexplain is not built yet: run ", said)
+        shutil.move(self.stand_in(), top / "elsewhere" / "tlexplain")
+        self.assertEqual(self.called(top / "tlbridge-trace", top / "elsewhere")[:2], (0, True))
+        shutil.move(self.stand_in(seen="built"), top / "crates" / "tlexplain" / "out" / "tlexplain")
+        self.assertEqual(self.called(top / "tlbridge-trace", top / "elsewhere")[:2], (0, True))
+        self.made(simple().text(), "--link", "in", program=str(top / "tlexplain"))
+        self.assertEqual([len(self.seen()), len((self.folder / "built").read_text().splitlines()), (self.folder / "wrapper").exists()], [1, 2, False])
+
+    def test_no_place_for_the_notes(self):
+        """The page is written as it is. Without --quiet the notes were printed; with it they are printed now."""
+        other = self.folder / "other.html"
+        for without in ("</head>", "</header>"):
+            other.write_text(GET_PAGE.read_text().replace(without, "<p>"))
+            for words in ((), ("--quiet",)):
+                with self.subTest((without, words)):
+                    text, _, said = self.made(simple().text(), "--link", "in", *words, program=self.stand_in(0, other))
+                    self.assertEqual(text, other.read_text())
+                    self.assertIn("up.html: the notes are not on this page, since ", said)
+                    self.assertEqual(said.count("top.in: AD, 8 bytes, clock top.clock"), 1)
+
+    def test_long_page(self):
+        """Its end is copied as it is."""
+        other = self.folder / "other.html"
+        other.write_text(GET_PAGE.read_text() + "<!-- " + "long " * page.HEAD_BYTES + "-->")
+        text, _, _ = self.made(simple().text(), "--link", "in", program=self.stand_in(0, other))
+        self.assertEqual(self.NOTES.sub("", text).replace(page.STYLE.decode(), ""), other.read_text())
+
+    def test_parts(self):
+        """Each part of a run has its page, which says so, and all notes are on each."""
+        with mock.patch.object(runs, "PART_BYTES", 300):
+            first, _, said = self.made(Crossing(10).text(), "--client", "in", "--manager", "out")
+        self.assertIn(f"part 2 of the run, from time 410 to 770, is in {self.folder / 'up.2.html'}", said)
+        self.assertEqual([len(trace) for _, _, _, trace in self.seen()], [9, 9, 5])
+        self.assertEqual([times.split()[0] for _, _, times, _ in self.seen()], ["10", "410", "810"])
+        pages = [Markup(text).items for text in (first, *((self.folder / f"up.{number}.html").read_text() for number in (2, 3)))]
+        ends = ["time 0 to 370, in units of 1ns, part 1 of 3 of the run", "time 410 to 770, in units of 1ns, part 2 of 3 of the run",
+                "time 810 to 970, in units of 1ns, part 3 of 3 of the run"]
+        self.assertEqual([items[0].split(", ", 1)[1] for items in pages], ends)
+        self.assertEqual([items[1:] for items in pages], [pages[0][1:]] * 3)
+        self.assertFalse((self.folder / "up.4.html").exists())
+
+    def test_too_long(self):
+        for most, patched in ((600, "page"), (4096 + 600, "runs")):
+            made = Crossing(1)
+            if patched == "runs":  # a request that is never answered
+                made.read(100, 15, drop=(1, 2, 3))
+            for number in range(2, 20):
+                made.read(100 * number, number % 8)
+            with self.subTest(patched), mock.patch.object(runs, "PART_BYTES", 300), mock.patch.object({"page": page, "runs": runs}[patched], "MOST_BYTES", most):
+                text, out, said = self.made(made.text(), "--client", "in", "--manager", "out", status=4)
+                self.assertEqual((text, out), (None, []))
+                self.assertIn("too long for a page: choose a part of the run with --from and --to", said)
+                self.assertFalse((self.folder / "seen").exists())
+
+    def test_from_and_to(self):
+        text, _, _ = self.made(Crossing(6).text(), "--client", "in", "--manager", "out", "--from", "160", "--to", "290")
+        items = Markup(text).items
+        self.assertIn(", time 170 to 290,", items[0])
+        self.assertTrue(any(item.startswith("--from 160: begins at time 170") for item in items), items)
+        self.assertEqual(self.seen()[0][2].split(), ["210", "250"])
+
+    def test_with_a_comparison(self):
+        """Both are done, and the status is that of the comparison."""
+        program = self.folder / "same"
+        program.write_text(SAME_WIDTH.replace("{python}", sys.executable))
+        program.chmod(0o755)
+        made = Crossing(2)
+        for wanted in (0, 1):
+            (self.folder / "up.html").unlink(missing_ok=True)
+            text, out, _ = self.made(made.text(), "--client", "in", "--manager", "out", "--compare", "--program", str(program), status=wanted)
+            self.assertEqual(out[1], f"A: done: {2 + wanted} near beats, {2 + wanted} far beats expected")
+            self.assertEqual(len(Markup(text).items), 3 + wanted)
+            made.read(200, 2, drop=(3,))
+
+    def test_no_beat(self):
+        wave = Wave()
+        wave.begin()
+        wave.time(10, clock=1)
+        text, _, _ = self.made(wave.text(), "--link", "in")
+        self.assertEqual(self.seen(), [["--html", "--times", "", ["tilelink-trace 1 client 8 manager 8"]]])
+        self.assertEqual(Markup(text).items[1], "no beat was accepted")
+
+    def test_many_notes(self):
+        printed = []
+        notes = page.Notes(printed.append)
+        for number in range(page.MOST_NOTES + 7):
+            notes(f"note {number}")
+        self.assertEqual((len(printed), len(notes.texts())), (page.MOST_NOTES + 7, page.MOST_NOTES + 1))
+        self.assertEqual(notes.texts()[-2:], [f"note {page.MOST_NOTES - 1}", "7 more notes are left out here"])
+
+    def test_with_the_program(self):
+        program = os.environ.get("TLEXPLAIN") or str(ROOT / "crates" / "tlexplain" / "out" / "tlexplain")
+        if not os.path.isfile(program):
+            self.skipTest("tlexplain is not built, and TLEXPLAIN does not name it")
+        dump = (ROOT / "examples" / "waves" / "dump.vcd").read_bytes()
+        for links_named, count in ((("--link", "dut.up"), 4), (("--client", "dut.up", "--manager", "dut.down"), 7)):
+            text, out, said = self.made(dump, *links_named, "--trace", str(self.folder / "trace"), "--times", str(self.folder / "times"), program=program)
+            self.assertEqual((out, len(Markup(text).items), Markup(text).is_closed), ([], count, True), said)
+            plain = subprocess.run([program, "--html", "--times", str(self.folder / "times"), str(self.folder / "trace")], stdout=subprocess.PIPE, text=True, check=False).stdout
+            self.assertEqual(self.NOTES.sub("", text).replace(page.STYLE.decode(), ""), plain)
+            self.assertIn("time 105", text)
 
 
 class Example(Case):

@@ -42,16 +42,10 @@ def program_of(given: Optional[str], note: Callable[[str], None]) -> str:
     """Finds tlbridge: the named one, the one installed with this package, built in this repository, or in PATH; otherwise the unverified model."""
     if given:
         return _no_wrapper(Path(given)) or given
-    here = Path(__file__).resolve().parents
-    folders = [here[2], *([here[4] / "bin"] if len(here) > 4 else [])]  # of a clone, and of an installed tree
-    found = shutil.which("tlbridge")
-    for path in [folder / "tlbridge" for folder in folders] + ([Path(found)] if found else []):
-        if _is_program(path):
-            program = _built(path.resolve())
-            if program:
-                return str(program)
-    model = shutil.which("tlbridge-model")
-    for path in [folder / "tlbridge-model" for folder in folders] + ([Path(model)] if model else []):
+    program = find_program("tlbridge")
+    if program:
+        return program
+    for path in _places_of("tlbridge-model"):
         if _is_program(path):
             note(MODEL_NOTE)
             return str(path)
@@ -59,23 +53,39 @@ def program_of(given: Optional[str], note: Callable[[str], None]) -> str:
                   "./tlbridge --version, or name it with --program", 2)
 
 
+def find_program(name: str) -> Optional[str]:
+    """Finds the verified program of this name: the one installed with this package, built in this repository, or in PATH."""
+    for path in _places_of(name):
+        program = built_program(path.resolve()) if _is_program(path) else None
+        if program:
+            return str(program)
+    return None
+
+
+def _places_of(name: str) -> List[Path]:
+    here = Path(__file__).resolve().parents
+    folders = [here[2], *([here[4] / "bin"] if len(here) > 4 else [])]  # of a clone, and of an installed tree
+    found = shutil.which(name)
+    return [folder / name for folder in folders] + ([Path(found)] if found else [])
+
+
 def _is_program(path: Path) -> bool:
     return path.is_file() and os.access(str(path), os.X_OK)
 
 
-def _built(path: Path) -> Optional[Path]:
+def built_program(path: Path) -> Optional[Path]:
     """Returns the program itself. The wrapper of the repository would first prove and build it, which takes long and prints nothing here."""
-    crate = path.parent / "crates" / "tlbridge"
-    if path.name != "tlbridge" or not crate.is_dir():
+    crate = path.parent / "crates" / path.name
+    if path.name not in ("tlbridge", "tlexplain") or not crate.is_dir():
         return path
-    program = crate / "out" / "tlbridge"
+    program = crate / "out" / path.name
     return program if _is_program(program) else None
 
 
 def _no_wrapper(path: Path) -> Optional[str]:
     if not _is_program(path):
         return None
-    program = _built(path.resolve())
+    program = built_program(path.resolve())
     if program is None:
         raise Failure(f"{path} is not built yet: run {path} --version, which proves and builds it, or name the unverified model with "
                       f"--program {path.with_name('tlbridge-model')}", 2)

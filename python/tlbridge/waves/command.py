@@ -2,6 +2,7 @@
 
     tlbridge-trace DUMP                                          lists the TileLink links of a VCD, a .vcd.gz or an FST file
     tlbridge-trace DUMP --link LINK > TRACE                      writes the beats of one link as a trace, for tlexplain
+    tlbridge-trace DUMP --link LINK --html PAGE                  writes the page of that trace, with times and notes, for a browser
     tlbridge-trace DUMP --client LINK --manager LINK > TRACE     writes the near beats of both links as a trace
     tlbridge-trace DUMP --client LINK --manager LINK --compare   reports whether the design's far beats are as expected
 
@@ -12,13 +13,14 @@ from __future__ import annotations
 import argparse
 import os
 import sys
-from typing import IO, Dict, List, Optional, Sequence, Set, Tuple
+from typing import IO, Callable, Dict, List, Optional, Sequence, Set, Tuple
 
 from ..beats import CHANNELS, FIELDS
 from ..flow import FROM_CLIENT, WIDTHS
 from ..judge import Judge, Places, program_of
-from ..run import Ended, Failure, Part, Row, Run
+from ..run import MOST_BYTES, Ended, Failure, Part, Row, Run
 from .links import Layout, Link, Signals, adopt_clock, by_pattern, choose, find_clocks, find_links, is_wanted, layout_of, names_of_pattern
+from .page import Notes, Pages, tlexplain_of, too_long
 from .sampling import Count, Sampler, Watch
 from .vcd import Reader, Variable, open_wave
 
@@ -29,7 +31,7 @@ exit status:
   1  with --compare, a channel is not done, or a far beat differs, is missing or is unexpected
   2  there is nothing to compare, or a wrong command line: no such link, no clock, no program
   3  the dump cannot be understood, or holds no TileLink link
-  4  a file cannot be read or written
+  4  a file cannot be read or written, or there is no fst2vcd for an FST file, or no tlexplain for --html
 """
 
 
@@ -38,7 +40,7 @@ def note(text: str) -> None:
 
 
 def nothing(text: str) -> None:
-    """Takes a note of a quiet run."""
+    """Discards a note, for --quiet."""
 
 
 # ---- the command line
@@ -74,6 +76,8 @@ def command_line() -> argparse.ArgumentParser:
     outputs = words.add_argument_group("outputs")
     outputs.add_argument("--trace", metavar="FILE", help="write the trace to FILE, and the later parts of the run to FILE.2, FILE.3, ..")
     outputs.add_argument("--times", metavar="FILE", help="write the simulation time of each beat of the trace, line by line")
+    outputs.add_argument("--html", metavar="PAGE", help="write the page of tlexplain --html to PAGE, with the time of each line and with the notes")
+    outputs.add_argument("--tlexplain", metavar="PROGRAM", help="the program that makes the page [default: tlexplain, installed with this or in PATH]")
     outputs.add_argument("--far", metavar="FILE", help="write the far beats of the design, as `tlbridge run` writes the expected ones")
     outputs.add_argument("--beats", metavar="STEM", help="write STEM.client.beats, STEM.manager.beats and their .times, as tl_trace_monitor does")
     outputs.add_argument("--compare", action="store_true", help="ask tlbridge for the expected far beats, and report what differs")
@@ -92,7 +96,7 @@ def sides_of(words: argparse.Namespace) -> Tuple[str, ...]:
     """The links that are named: none, one, or a client's and a manager's."""
     named = {side for side in ("link", "client", "manager") if getattr(words, side) or getattr(words, f"{side}_pattern")}
     if not named:
-        if words.compare or words.far or words.trace or words.beats or words.times:
+        if words.compare or words.far or words.trace or words.beats or words.times or words.html:
             raise Failure("name the links, with --client and --manager, or one with --link; without other options the links are listed", 2)
         return ()
     if named == {"link"}:
@@ -167,8 +171,9 @@ def list_links(words: argparse.Namespace, reader: Reader, links: List[Link], sig
     halves = [link for link in links if link.is_half]
     links = [link for link in links if not link.is_half]
     if not links and not halves:
+        extended = " It is an extended VCD ($dumpports), which is not read: dump with $dumpvars." if set(reader.kinds) == {"port"} else ""
         raise Failure(f"{words.dump}: no TileLink link is among its {sum(reader.kinds.values())} variables in {reader.scopes} scopes: "
-                      "--link-pattern, --client-pattern and --manager-pattern say how its signals are named")
+                      f"--link-pattern, --client-pattern and --manager-pattern say how its signals are named.{extended}")
     watches = watches_of(words, links, signals)
     is_counted = bool(watches) and not words.no_count
     sampler = Sampler(reader, list(watches.values()) if is_counted else [])
@@ -189,7 +194,7 @@ def list_links(words: argparse.Namespace, reader: Reader, links: List[Link], sig
     if halves:
         print(f"one direction each, joined by + as in --client A+B: {few([link.name for link in halves], 12)}")
     if is_counted and not words.quiet:
-        tell(reader, sampler, None)
+        tell(reader, sampler, None, note)
     return 0
 
 
@@ -220,20 +225,20 @@ def watches_of(words: argparse.Namespace, links: Sequence[Link], signals: Signal
     return watches
 
 
-# ---- what a reader has to know before he trusts the beats
+# ---- what a reader has to know before trusting the beats
 
 
-def tell(reader: Reader, sampler: Sampler, run: Optional[Run]) -> None:
+def tell(reader: Reader, sampler: Sampler, run: Optional[Run], told: Callable[[str], None]) -> None:
     for text in reader.notes:
-        note(text)
+        told(text)
     if sampler.begin:
-        note(f"the dump begins at time {sampler.begin}: beats before it are missing")
+        told(f"the dump begins at time {sampler.begin}: beats before it are missing")
     if run is None:
         for off, on in sampler.gaps:
-            note(f"nothing was dumped from time {off} to {on}: beats of that time are missing")
+            told(f"nothing was dumped from time {off} to {on}: beats of that time are missing")
     for watch in sampler.watches:
         for text in remarks_of(watch, run is None):
-            note(text)
+            told(text)
 
 
 def remarks_of(watch: Watch, is_list: bool) -> List[str]:
@@ -264,14 +269,14 @@ def counted(link: Link, count: Count, what: str) -> List[str]:
     return [f"{link.name}: {count.count} {what}, first {count.first[1]} at time {count.first[0]}"] if count.first else []
 
 
-def tell_links(links: Sequence[Link]) -> None:
+def tell_links(links: Sequence[Link], told: Callable[[str], None]) -> None:
     for link in links:
         reset = f"reset {reset_of(link)}" if link.reset else "no reset"
-        note(f"{link.name}: {channels_of(link)}, {link.width} bytes, clock {link.clock.name if link.clock else 'none'}, {reset}")
+        told(f"{link.name}: {channels_of(link)}, {link.width} bytes, clock {link.clock.name if link.clock else 'none'}, {reset}")
         for text in link.notes:
-            note(f"{link.name}: {text}")
+            told(f"{link.name}: {text}")
         if link.ignored:
-            note(f"{link.name}: ignored: {few(sorted(link.ignored), 6)}")
+            told(f"{link.name}: ignored: {few(sorted(link.ignored), 6)}")
 
 
 def driven_by(link: Link, near: str, tops: Set[bytes]) -> Dict[bytes, str]:
@@ -328,9 +333,9 @@ class MonitorRun(Run):
 class Outputs:
     """Writes and judges the parts of a run."""
 
-    def __init__(self, words: argparse.Namespace, judge: Optional[Judge]):
-        self.words, self.judge = words, judge
-        self.is_trace_shown = not words.trace and not words.compare
+    def __init__(self, words: argparse.Namespace, judge: Optional[Judge], pages: Optional[Pages], told: Callable[[str], None]):
+        self.words, self.judge, self.pages, self._told = words, judge, pages, told
+        self.is_trace_shown = not words.trace and not words.compare and not words.html
 
     def part(self, part: Part) -> None:
         words = self.words
@@ -344,16 +349,18 @@ class Outputs:
         if self.is_trace_shown and part.number == 1:
             part.write_trace(sys.stdout)
             sys.stdout.flush()
+        if self.pages:
+            self.pages.add(part)
         if self.judge:
             self.judge.part(part)
 
     def _tell(self, part: Part, end: str) -> None:
         files = [path + end for path in (self.words.trace, self.words.times, self.words.far) if path]
+        files += [self.pages.name(part.number)] if self.pages else []
         where = f"is in {' and '.join(files)}" if files else "follows"
         if self.is_trace_shown:
             where = "is not written, since a trace is one part: --trace FILE writes each part to a file"
-        if not self.words.quiet:
-            note(f"part {part.number} of the run, from time {part.begin} to {part.end}, {where}")
+        self._told(f"part {part.number} of the run, from time {part.begin} to {part.end}, {where}")
 
 
 def version_for(words: argparse.Namespace, links: Sequence[Link]) -> int:
@@ -366,14 +373,15 @@ def version_for(words: argparse.Namespace, links: Sequence[Link]) -> int:
 def trace(words: argparse.Namespace, sides: Sequence[str], reader: Reader, all_links: Sequence[Link], signals: Signals, renamed: Dict[str, str]) -> int:
     links = [link_of(words, side, all_links, signals, renamed) for side in sides]
     version, is_one = version_for(words, links), len(links) == 1
-    told = nothing if words.quiet else note
+    printed = nothing if words.quiet else note
+    told, doubts = Notes(printed), Notes(printed)  # what happens in the course of the run, and what the whole dump leaves in doubt
     if not is_one and links[0].key() == links[1].key():
         told("both links are the same wires")
-    if not words.quiet:
-        tell_links(links)
+    tell_links(links, told)
     client, manager = links[0].width, links[-1].width
     judge = Judge(program_of(words.program, note), (client, manager), WavePlaces(), told, words.ignore_unmasked) if words.compare else None
-    outputs = Outputs(words, judge)
+    pages = Pages(words.html, tlexplain_of(words.tlexplain)) if words.html else None
+    outputs = Outputs(words, judge, pages, told)
     run = MonitorRun(version, client, None if is_one else manager, outputs.part, told, words.first, words.last)
     try:
         if words.beats:
@@ -389,19 +397,36 @@ def trace(words: argparse.Namespace, sides: Sequence[str], reader: Reader, all_l
             run.finish(sampler.end)
         except Ended as ended:
             unjudged = str(ended)
-        if not words.quiet:
-            tell(reader, sampler, run)
+        tell(reader, sampler, run, doubts)
         if not run.beats:
-            told("no beat was accepted")
+            doubts("no beat was accepted")
         if unjudged:
             note(unjudged)
-        if judge is None:
-            return 2 if unjudged else 0
-        parts = f", judged in {run.parts} parts" if run.parts > 1 else ""
-        print(f"the dump covers time {sampler.begin or 0} to {sampler.end}, in units of {reader.timescale or 'its own'}{parts}")
-        return judge.report(print) or (2 if unjudged else 0)
+        status = 2 if unjudged else 0
+        if judge is not None:
+            parts = f", judged in {run.parts} parts" if run.parts > 1 else ""
+            print(f"the dump covers time {sampler.begin or 0} to {sampler.end}, in units of {reader.timescale or 'its own'}{parts}")
+            status = judge.report(print) or status
+        if pages is not None:
+            if unjudged:
+                raise too_long(f"the trace has more than {MOST_BYTES} bytes without a quiet moment")
+            source = f"{'standard input' if words.dump == '-' else words.dump}: {' and '.join(link.name for link in links)}"
+            write_pages(pages, source, reader.timescale, doubts.texts() + told.texts(), words.quiet)
+        return status
     finally:
         run.close()
+        if pages is not None:
+            pages.close()
+
+
+def write_pages(pages: Pages, source: str, unit: str, notes: Sequence[str], is_quiet: bool) -> None:
+    """Writes the pages. If one has no place for the notes, they are printed also with --quiet."""
+    missing: List[str] = []
+    try:
+        pages.write(source, unit, notes, missing.append)
+    finally:
+        for text in [*missing, *(notes if missing and is_quiet else ())]:
+            note(text)
 
 
 def main(arguments: Optional[Sequence[str]] = None) -> int:
@@ -412,6 +437,8 @@ def main(arguments: Optional[Sequence[str]] = None) -> int:
         layouts = [layout_of(text) for text in words.struct]
         if words.compare:
             program_of(words.program, nothing)  # before a long dump is read
+        if words.html:
+            tlexplain_of(words.tlexplain)
         reader = opened(words, renamed, layouts)
         links, signals = find_links(reader.variables, layouts)
         if sides:

@@ -224,12 +224,12 @@ def find_links(variables: Iterable[Variable], layouts: Sequence[Layout] = ()) ->
 
 
 def _is_link(link: Link) -> bool:
-    """Whether it is one, or one direction of one; channels that are none are removed."""
+    """Returns whether these signals form a link, or one direction of a link. Removes channels that do not belong to one."""
     link.is_half = link.stem == "" and _is_half(link)
     if link.is_half:
         return True
     for letter, names in list(link.channels.items()):
-        # one field by its name alone, as `data_valid`, makes no channel
+        # a single field that only its name suggests, as `data_valid`, is not a channel
         whole = {"valid", "ready"} if letter == "E" else {"valid", "ready", "opcode"}
         if not whole <= set(names) and not ({"valid", "opcode"} <= set(names) and (link.stem == "" or link.stem.endswith("_"))):
             del link.channels[letter]
@@ -379,7 +379,7 @@ def words_of(name: str) -> List[str]:
 
 
 def find_clock(link: Link, signals: Signals, pattern: Pattern[str], what: str) -> Tuple[Optional[Signal], str]:
-    """Returns the signal that by its name belongs to the link, beside it or above it; or None, and why."""
+    """Returns the signal that by its name belongs to the link, in its scope or above it; or None, and why."""
     stem = words_of(link.stem)
     heads = [head for head in (stem, stem[1:], stem[:1], stem[-1:]) if head]
     scope = link.scope
@@ -395,7 +395,7 @@ def find_clock(link: Link, signals: Signals, pattern: Pattern[str], what: str) -
         if here:
             return None, f"more than one {what} is there ({', '.join(sorted(signal.name for signal in here.values())[:6])})"
         if not scope:
-            return None, f"the dump has no {what} beside it or above it"
+            return None, f"the dump has no {what} in its scope or above it"
         scope = scope[:-1]
 
 

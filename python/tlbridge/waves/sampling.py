@@ -61,7 +61,7 @@ class Port:
         self.accepted = 0
         self.unknown = {"valid": Count(), "ready": Count()}
         self.names = NUMBERS[letter]
-        # the codes of these fields, if each is a variable of its own, and no value is too large for a trace
+        # the codes of these fields, if each is a separate variable, and no value is too large for a trace
         self.plain = [(code, signals[name].bits) for name in self.names if name in signals and (code := signals[name].code) is not None]
         if "size" in signals and signals["size"].bits > 4 or letter == "D" and "param" in signals and signals["param"].bits > 2:
             self.plain = []

@@ -10,6 +10,7 @@ import gzip
 import re
 import subprocess
 import sys
+import tempfile
 import time
 import zlib
 from shutil import which
@@ -77,7 +78,9 @@ def open_wave(path: str) -> Tuple[IO[bytes], Feeder, int]:
         file.close()
         if which("fst2vcd") is None:
             raise Failure(f"{path}: an FST file is read by the program fst2vcd, which is not in PATH: install gtkwave, or dump a VCD", 4)
-        feeder = subprocess.Popen(["fst2vcd", "-f", path], stdout=subprocess.PIPE, stderr=subprocess.PIPE)
+        said = tempfile.TemporaryFile()  # a pipe that is read at the end could be full before, and stop fst2vcd
+        feeder = subprocess.Popen(["fst2vcd", "-f", path], stdout=subprocess.PIPE, stderr=said)
+        feeder.stderr = said
         assert feeder.stdout is not None
         return feeder.stdout, feeder, 0
     if head[:4] in (b"\x89HDF", b"LXT\0", b"VZT\0") or b"\0" in head:
@@ -268,8 +271,10 @@ class Reader:
     def _ended(self) -> None:
         if self.feeder:
             assert self.feeder.stderr is not None
-            said = self.feeder.stderr.read().decode("latin-1").strip()
-            if self.feeder.wait() != 0 or (self.line == 0 and said):
+            status = self.feeder.wait()
+            self.feeder.stderr.seek(0)
+            said = self.feeder.stderr.read(4096).decode("latin-1").strip()
+            if status != 0 or (self.line == 0 and said):
                 raise Failure(f"{self.name}: fst2vcd could not read it{': ' + shown(said.splitlines()[0], 200) if said else ''}")
 
     def _tokens(self, block: bytes, codes: FrozenSet[bytes]) -> List[bytes]:
