@@ -4,7 +4,7 @@
 //
 // Two clocks with periods in picoseconds that wander by DRIFT percent and jitter; `single` gives both links the client's clock. With stalls each
 // valid and ready is drawn with a chance that changes now and then; without, each is 1 as soon as it may be. A request waits until its source is
-// free. A response waits until its request has arrived, and may come in the same cycle unless `later` is said. With `steady` a valid stays
+// free. A response waits until its request has arrived, and may come in the same cycle unless `later` is given. With `steady` a valid stays
 // until ready. Where valid is 0, all fields are noise.
 //
 // Checked in each cycle: a far beat stays until it is taken; no valid or ready of the bridge changes with an input in a cycle (neither with

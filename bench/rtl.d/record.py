@@ -3,7 +3,7 @@
 
     record.py
 
-It writes recorded/NAME.trace, the near beats, and recorded/NAME.far, what the bridge delivered, beside this file. Needs iverilog.
+It writes recorded/NAME.trace, the near beats, and recorded/NAME.far, what the bridge delivered, in the folder of this file. It needs iverilog.
 """
 import importlib.machinery
 import importlib.util

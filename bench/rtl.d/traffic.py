@@ -2,7 +2,7 @@
 """Random lawful traffic as a trace: traffic.py CLIENT MANAGER BEATS SEED [words below].
 
 Near beats until there are BEATS of them, or three times as many far ones. Lanes without a byte hold anything; masks of PutPartialData, corrupt,
-denied, params and ids are random. Every request is answered, at some later place and in any order. --sources N draws from N sources alone: they
+denied, params and ids are random. Every request is answered, at some later place and in any order. --sources N draws from only N sources: they
 are used again at once, often while the rest of the last response is under way. --unique uses each source for one request on A only.
 """
 import argparse
@@ -27,8 +27,8 @@ def words():
     parser.add_argument("--outstanding", type=int, default=1 << 16, help="the most requests without a response at a time")
     parser.add_argument("--largest", type=int, default=12)
     parser.add_argument("--mix", default="5,5,2,2,1,1", help="shares of A, D, B, C, E, ReleaseAck")
-    parser.add_argument("--kind", type=int, help="this opcode alone on A and B, AccessAckData on D")
-    parser.add_argument("--size", type=int, help="this size alone")
+    parser.add_argument("--kind", type=int, help="only this opcode on A and B, AccessAckData on D")
+    parser.add_argument("--size", type=int, help="only this size")
     parser.add_argument("--source-bits", type=int, default=8)
     parser.add_argument("--sink-bits", type=int, default=8)
     parser.add_argument("--address-bits", type=int, default=64)

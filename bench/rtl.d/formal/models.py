@@ -7,6 +7,9 @@ from pathlib import Path
 from free_clocks import free_clocks
 
 
+SMALLER = "scorr; dc2"  # abc merges registers that are always alike, and rewrites logic
+
+
 class Failure(Exception):
     """Why there is no answer: what a tool printed last."""
 
@@ -30,17 +33,20 @@ def yosys(script, room):
 
 
 class Model:
-    """A netlist with assertions. `ticks` maps each clock to the input that says in which steps of time it has an edge."""
+    """A netlist with assertions. `ticks` maps each clock to the input that says in which steps of time it has an edge.
 
-    def __init__(self, room, top, files, parameters=(), defines=(), ticks=None, initial="any"):
+    The registers of the instances `design` begin with `initial`: "any" values or "zero". Initial values in their text are not used. Those of the
+    proof itself are: without them an assumption in a clocked block is false in the first step, and then everything holds.
+    """
+
+    def __init__(self, room, top, files, parameters=(), defines=(), ticks=None, initial="any", design="*"):
         self.room = Path(room)
         self.path = self.room / "model.aig"
         files = " ".join(map(str, files))
         sets = "".join(f"chparam -set {name} {value} {top}; " for name, value in dict(parameters).items())
         flags = "".join(f" -D{name}" for name in defines)
         zero = "setundef -zero -init; " if initial == "zero" else ""
-        forget = "setattr -unset init w:*.*; " if initial == "any" else ""  # what the design's registers begin with; the proof's own are at the top
-        yosys(f"read_verilog -sv -formal{flags} {files}; {sets}hierarchy -check -top {top}; proc; memory_map; flatten; {forget}opt -full; dffunmap; opt_clean; "
+        yosys(f"read_verilog -sv -formal{flags} {files}; {sets}hierarchy -check -top {top}; proc; memory_map; flatten; setattr -unset init w:{design}.*; opt -full; dffunmap; opt_clean; "
               f"select -write {self.room}/labels t:$assert; write_json {self.room}/clocked.json", room)
         netlist = self.room / "clocked.json"
         if ticks:
@@ -65,11 +71,11 @@ class Model:
             return ("bounded", int(bound[-1])), taken
         return ("open", said[-300:]), taken
 
-    def pdr(self, seconds):
-        return self.solve(f"pdr -T {seconds}", seconds)
+    def pdr(self, seconds, before="strash"):
+        return self.solve(f"{before}; pdr -T {max(1, round(seconds))}", seconds)
 
     def bounded(self, frames, seconds):
-        return self.solve(f"bmc3 -F {frames} -T {seconds}", seconds)
+        return self.solve(f"{SMALLER}; bmc3 -F {frames} -T {max(1, round(seconds))}", seconds)
 
     def reached(self, frames, seconds, prefix=""):
         """Returns the labels with this prefix whose assertion fails within `frames`, each looked at by itself, and the frame."""
@@ -77,7 +83,7 @@ class Model:
         for number, label in enumerate(self.labels):
             if not label.startswith(prefix):
                 continue
-            _, said = run(["yosys-abc", "-c", f"read_aiger {self.path}; fold; strash; cone -s -O {number}; bmc3 -F {frames} -T {seconds}"], 20 * seconds + 600)
+            _, said = run(["yosys-abc", "-c", f"read_aiger {self.path}; fold; strash; cone -s -O {number}; {SMALLER}; bmc3 -F {frames} -T {seconds}"], 20 * seconds + 600)
             failed = re.search(r"Output *\d+ of miter .* was asserted in frame *(\d+)", said)
             if failed:
                 found[label] = int(failed[1])
