@@ -9,7 +9,7 @@
        REFUSE_ERROR=E    how that read or write fails: by this errno (EIO by default), or, for 0, by moving no byte
        REFUSE_PIECE=B    each read and each write to standard output moves B bytes at most
        REFUSE_LOG=FD     one letter for each event goes to this descriptor: g a growth, n a growth within the start of a thread,
-                         s such a start, r a read, w a write to standard output; in upper case if it was refused
+                         s the start of a thread, r a read, w a write to standard output; in upper case if it was refused
 
    Without any of these, nothing fails. It uses the C library's own allocator and plain system calls. */
 #define _GNU_SOURCE

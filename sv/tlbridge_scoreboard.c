@@ -134,7 +134,7 @@ struct tl_scoreboard {
     suspect suspects[2]; /* of A on the client's link, of D on the manager's */
     uint64_t now;
     bool ended, no_memory, is_dead;
-    char *text; /* the messages that nobody has read: for each a time, then its characters and a zero */
+    char *text; /* the messages that were not read yet: for each a time, then its characters and a zero */
     size_t text_bytes, text_read, text_room;
 };
 
@@ -215,7 +215,7 @@ static void differs(tl_scoreboard *board, int channel, uint64_t time, const char
     if (board->differ[channel] <= MOST_LINES) add_line(board, time, line);
     if (board->differ[channel] == MOST_LINES) {
         char more[64];
-        snprintf(more, sizeof more, "further differences on %c are counted alone", 'A' + channel);
+        snprintf(more, sizeof more, "further differences on %c are only counted", 'A' + channel);
         add_line(board, time, more);
     }
 }
@@ -467,7 +467,7 @@ static void refused(tl_scoreboard *board, int channel, const entry *near, uint8_
     if (channel == A && message->came == 0) board->refused[near->beat.source] = true;
 }
 
-/* Recovers after a near beat that the bridge refused for good. If the beat can be corrected, the corrected one takes its place. A truncated
+/* Recovers after a near beat that the bridge refused permanently. If the beat can be corrected, the corrected one takes its place. A truncated
  * burst is filled up. A message that cannot be corrected is skipped. */
 static void recover(tl_scoreboard *board, int channel, entry *near, uint8_t answer) {
     message *message = &board->messages[channel];

@@ -9,7 +9,7 @@ static void fill_mask(tl_beat *beat, int lanes) {
     for (int lane = 0; lane < lanes; lane++) tl_mask_add(beat, (unsigned)lane);
 }
 
-/* Whether the mask has the bit of this lane alone. */
+/* Whether the mask has only the bit of this lane. */
 static bool has_one_lane(const tl_beat *beat, int lane) {
     uint64_t bit = (uint64_t)1 << lane % 64;
     return tl_mask_has(beat, (unsigned)lane) && beat->mask == (lane < 64 ? bit : 0) && beat->mask_high == (lane < 64 ? 0 : bit);
@@ -61,7 +61,7 @@ static void handles(void) {
     CHECK(open_both(&other, 1) == TL_OK);
     CHECK(open_both(&other, 0) == TL_RING_SIZE);
     without_sides(&other);
-    /* a second free, calls after it, and an open where one side is left */
+    /* a second free, calls after it, and an open with one side left */
     CALL(free_client)(&one.client);
     CALL(free_client)(&one.client);
     CHECK(!ready_a(&one.client) && ready_b(&one.manager) && CALL(pump_client)(&one.client) == 0);
@@ -277,7 +277,7 @@ static void refusals(void) {
     free_both(&bridge);
 }
 
-/* Two requests in flight whose sources differ above the eighth bit alone, Intent of one byte and of two: over a bridge on which nothing was
+/* Two requests in flight whose sources differ only above the eighth bit, Intent of one byte and of two: over a bridge on which nothing was
  * sent yet. */
 static void ids_of_16_bits(both_sides *bridge) {
     uint8_t lanes[MAX_LANES] = {0};
@@ -307,7 +307,7 @@ static void ids_of_16_bits(both_sides *bridge) {
     settle(bridge);
     CHECK(take[D](far_side(bridge, D), &beat, lanes) && same(&beat, &to_one));
     CHECK(take[A](far_side(bridge, A), &beat, lanes) && beat.source == other.source);
-    /* the other channels have ids, too */
+    /* the other channels also have ids */
     tl_beat probe = {.opcode = 6, .source = 0xff03, .mask = 1}, release = {.opcode = 6, .source = 0x03ff}, ack = {.sink = 0x0180};
     CHECK(offer[B](near_side(bridge, B), &probe, lanes) == TL_OK && offer[C](near_side(bridge, C), &release, lanes) == TL_OK && offer[E](near_side(bridge, E), &ack, lanes) == TL_OK);
     settle(bridge);
@@ -335,7 +335,7 @@ static void last_lanes(both_sides *bridge) {
         lanes[near_last] = 0;
         settle(bridge);
         CHECK(take[x](far_side(bridge, x), &far, far_lanes) && has_one_lane(&far, far_last) && far_lanes[far_last] == 0xa5);
-        /* the same of a whole beat, with its last byte alone in the mask: the last far beat has it */
+        /* the same of a whole beat, with only its last byte in the mask: the last far beat has it */
         uint8_t size = 0;
         while (1 << size < near_width[x]) size++;
         put = (tl_beat){.opcode = 1, .size = size, .source = 0x0012};
@@ -351,7 +351,7 @@ static void last_lanes(both_sides *bridge) {
     }
 }
 
-/* A test over a bridge of its own, on which nothing waits at the end. */
+/* Runs a test over a new bridge, on which nothing waits at the end. */
 static void over_new(void (*test)(both_sides *)) {
     both_sides bridge = {{0}, {0}};
     tl_standings all;
@@ -361,7 +361,7 @@ static void over_new(void (*test)(both_sides *)) {
     free_both(&bridge);
 }
 
-/* What waits, and where, of beats of E, of which each near beat makes one far beat. */
+/* The number of waiting beats of E in each buffer. Each near beat of E makes one far beat. */
 static void meetings(void) {
     both_sides bridge = {{0}, {0}};
     client_handle *client = &bridge.client;

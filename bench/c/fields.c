@@ -1,4 +1,4 @@
-/* Fields of one size that stand in another order in the library than in the header would show here: each has a value of its own.
+/* Fields of one size that are in a different order in the library and in the header would show here: each has a different value.
  *
  *     bench/make-library 8 4
  *     cc -Iinclude bench/c/fields.c out/libtlbridge_8_4.a && ./a.out
@@ -26,14 +26,14 @@ int main(void) {
     tl_beat intent = {.address = 0x1002, .mask = 0x0c, .source = 0x0203, .opcode = 5, .param = 1, .size = 1};
     CHECK(tl_8_4_offer_a(&client, &intent, lanes) == TL_OK && tl_8_4_settle(&client, &manager, &all) == TL_OK);
     CHECK(tl_8_4_take_a(&manager, &got, far) && memcmp(&got, &intent, sizeof got) == 0);
-    /* its HintAck, denied: source, sink and denied; and a ReleaseData: corrupt */
+    /* its HintAck, which is denied, with source and sink; and a ReleaseData that is corrupt */
     tl_beat answer = {.source = 0x0203, .sink = 0x0405, .opcode = 2, .size = 1, .denied = 1};
     CHECK(tl_8_4_offer_d(&manager, &answer, lanes) == TL_OK && tl_8_4_settle(&client, &manager, &all) == TL_OK);
     CHECK(tl_8_4_take_d(&client, &got, far) && memcmp(&got, &answer, sizeof got) == 0);
     tl_beat release = {.address = 0x2000, .source = 0x0607, .opcode = 7, .param = 3, .size = 2, .corrupt = 1};
     CHECK(tl_8_4_offer_c(&client, &release, lanes) == TL_OK && tl_8_4_settle(&client, &manager, &all) == TL_OK);
     CHECK(tl_8_4_take_c(&manager, &got, far) && memcmp(&got, &release, sizeof got) == 0 && memcmp(far, lanes, 4) == 0);
-    /* where beats wait, at each place another number: two beats of a ReleaseData of 32 bytes make four far beats, and each other one makes one */
+    /* a different number of beats waits in each buffer: two beats of a ReleaseData of 32 bytes make four far beats, every other beat makes one */
     tl_beat wide = {.address = 0x40, .source = 0x0809, .opcode = 7, .param = 3, .size = 5}, ack = {.sink = 0x0a0b};
     tl_beat probe = {.address = 0x80, .mask = 0x0f, .source = 1, .opcode = 6, .size = 2};
     for (int i = 0; i < 2; i++) CHECK(tl_8_4_offer_c(&client, &wide, lanes) == TL_OK && tl_8_4_settle(&client, &manager, &all) == TL_OK);

@@ -1,4 +1,4 @@
-/* What the tests of the calls have in common, for one pair of widths, -DCLIENT=8 -DMANAGER=4: checks that are counted, numbers drawn at
+/* Parts that the tests of the calls share, for one pair of widths, -DCLIENT=8 -DMANAGER=4: checks that are counted, numbers drawn at
  * random, and lawful messages with the plain layout of docs/SPECIFICATION.md. */
 #include "tlbridge.h"
 #include <stdio.h>
@@ -92,7 +92,7 @@ static void draw_message(message *m, int x, tl_id source, uint8_t size, uint64_t
         m->bytes[i] = (uint8_t)draw(256);
         m->on[i] = m->head.opcode != 1 || x > B || draw(2);
     }
-    /* corrupt is said of a whole near beat: it is set on all bytes of it */
+    /* corrupt belongs to a whole near beat: it is set on all bytes of it */
     int near_bytes = beat_bytes(m, near_width[x]);
     for (int i = 0; i < 1 << size; i += near_bytes) memset(m->bad + i, draw(4) == 0, (size_t)near_bytes);
 }

@@ -1,7 +1,7 @@
-/* The two sides of a bridge, each in a thread: a side that goes early, and random messages on all five channels, both ways at once, of which
+/* The two sides of a bridge, each in a thread: a side that is freed early, and random messages on all five channels, both ways at once, of which
  * each far beat is compared with the layout of docs/SPECIFICATION.md.
  *
- *     sides [MESSAGES]      on each channel, 20,000 where nothing is said
+ *     sides [MESSAGES]      on each channel [default: 20,000]
  *
  * Compiled with -DCLIENT=8 -DMANAGER=4 -pthread, as bench/library does. The last line counts the checks. */
 #include "sides.h"
@@ -50,7 +50,7 @@ static void a_side_goes(void) {
     CALL(free_manager)(manager);
 }
 
-/* The same in threads: the client's sends, and lets its side go while the manager's still takes. */
+/* The same in threads: the client's thread sends, and frees its side while the manager's thread still takes. */
 enum { LAST_BEATS = 500 };
 
 static void *send_and_go(void *argument) {
@@ -110,16 +110,16 @@ static void add(beat_list *list, const tl_beat *beat, const uint8_t *lanes, int 
     memcpy(last->lanes, lanes, (size_t)width);
 }
 
-/* What is offered on each channel, and what is due there by the layout of docs/SPECIFICATION.md. */
+/* The beats that are offered on each channel, and those that are due there by the layout of docs/SPECIFICATION.md. */
 static beat_list near[CHANNELS], due[CHANNELS];
 
-/* Lawful messages. The responses stand in the order of their requests, of which as many are under way as there are sources. */
+/* Lawful messages. The responses are in the order of their requests. As many requests are outstanding as there are sources. */
 static void draw_lists(int messages) {
     enum { SOURCES = 16 };
     message m;
     for (int i = 0; i < messages; i++) {
         uint8_t size = (uint8_t)(draw(64) ? draw(6) : draw(10));
-        /* four of them differ in their two highest bits alone */
+        /* four of them differ only in their two highest bits */
         tl_id source = (tl_id)(i % 4 + 0x4000 * (i % SOURCES / 4));
         uint64_t address = draw((uint64_t)1 << 40) << size;
         for (int x = A; x < CHANNELS; x++) {
@@ -141,7 +141,7 @@ static void draw_lists(int messages) {
     }
 }
 
-/* A side in its thread, and what became of it. */
+/* A side in its thread, and what happened to it. */
 typedef struct {
     void *handle;
     bool is_client;
@@ -169,7 +169,7 @@ static bool take_all(player *p) {
     return some;
 }
 
-/* Offers the next beat of each channel, where it is accepted now. */
+/* Offers the next beat of each channel on which it is accepted now. */
 static bool offer_all(player *p) {
     bool some = false;
     for (int x = A; x < CHANNELS; x++) {

@@ -1,5 +1,5 @@
 /* The call that answers a whole trace: the examples, each refusal, and each allocation refused in turn. Compiled with
- * -Wl,--wrap=malloc,--wrap=realloc, as bench/library does, and given the names of traces whose answers stand beside them. The last line
+ * -Wl,--wrap=malloc,--wrap=realloc, as bench/library does, and given the names of traces that have answers in the same folder. The last line
  * counts the checks. */
 #include "tlbridge.h"
 #include <stdio.h>
@@ -73,7 +73,7 @@ static void refusals(void) {
     refused("\n", 1, TL_HEADER, 1);
     refused("tilelink-trace 1 client 3 manager 4\n", 36, TL_HEADER, 1);
     refused("tilelink-trace 3 client 8 manager 4\n", 36, TL_HEADER, 1);
-    /* a link of 128 bytes is of version 2 alone */
+    /* only version 2 has a link of 128 bytes */
     refused("tilelink-trace 1 client 128 manager 4\n", 38, TL_HEADER, 1);
     refused("tilelink-trace 2 client 4 manager 256\n", 38, TL_HEADER, 1);
     refused("tilelink-trace 2 client 128 manager 4\nE 0x07\n", 45, TL_SHAPE, 2);
@@ -118,7 +118,7 @@ static size_t without_far_beats(const char *answer, size_t length, char *out) {
     return kept;
 }
 
-/* A trace that stands in a file, with its answer beside it. */
+/* A trace in a file, with its answer in the same folder. */
 static void example(const char *name) {
     char answer_name[512];
     size_t length = 0, due_length = 0;
@@ -141,7 +141,7 @@ static void example(const char *name) {
     CHECK(has_no_block(&answer));
     tl_answer_free(&answer);
     CHECK(has_no_block(&answer) && answer.line == 0);
-    /* the second call lets the first one's text go */
+    /* the second call frees the first one's text */
     CHECK(tl_answer_trace((const uint8_t *)text, length, 0, &answer) == TL_OK);
     CHECK(tl_answer_trace((const uint8_t *)text, length, 200, &answer) == TL_OK);
     CHECK(is_text(&answer, kept, kept_length) && answer.all_done == (done == 5));

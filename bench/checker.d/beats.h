@@ -8,7 +8,7 @@
 struct Link {
     unsigned number, width, address_bits, size_bits, source_bits, sink_bits, requests, respond_at_once, reuse_at_once, recover;
     Rules rules;
-    std::vector<unsigned> sources;  // those that beats use: some from both ends of the range, and two that differ in the highest bit alone
+    std::vector<unsigned> sources;  // those that beats use: some from both ends of the range, and two that differ only in the highest bit
 };
 
 inline std::mt19937_64 random_bits;

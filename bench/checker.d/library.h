@@ -13,7 +13,7 @@ struct Library {
     virtual ~Library() {}
     virtual void reset() = 0;
     virtual Verdict offer(Channel channel, const Beat &b) = 0;
-    static std::unique_ptr<Library> of(unsigned width);  // nothing where no library of this width is linked
+    static std::unique_ptr<Library> of(unsigned width);  // nothing if no library of this width is linked
 };
 
 #ifdef LIBRARIES

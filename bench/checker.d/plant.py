@@ -1,5 +1,5 @@
 #!/usr/bin/env python3
-"""plant.py BUGS CHECKER FOLDER     writes FOLDER/N/tl_checker.sv with the N-th bug of BUGS alone, and its name to FOLDER/N/name"""
+"""plant.py BUGS CHECKER FOLDER     writes FOLDER/N/tl_checker.sv with only the N-th bug of BUGS, and its name to FOLDER/N/name"""
 import os
 import sys
 

@@ -1,9 +1,9 @@
 #!/usr/bin/env python3
 """readable.py FILE ..     prints the adapter's files of examples/verilator as yosys reads them, with the planted bug `PLANTED
 
-yosys has no packages, assignment patterns, `return`, casts to a type, or $bits of a type. So the package's names stand outside of modules,
-those of the bugs with BUG_ before them; a pattern is a concatenation, since it names all fields in their order; and the bits of a type are a
-number. What is met beyond that, yosys refuses.
+yosys has no packages, assignment patterns, `return`, casts to a type, or $bits of a type. So the package's names are written outside of modules,
+and those of the bugs begin with BUG_. A pattern becomes a concatenation, since it names all fields in their order. The bits of a type become a
+number. yosys refuses anything else that it does not know.
 """
 import re
 import sys

@@ -1,4 +1,4 @@
-// The rules of one link, written from docs/SPECIFICATION.md alone: tables of names, bytes one by one, lists of accepted beats.
+// The rules of one link, written only from docs/SPECIFICATION.md: tables of names, bytes one by one, lists of accepted beats.
 #pragma once
 #include <cstdint>
 #include <map>
@@ -127,7 +127,7 @@ struct Rules {
     }
 };
 
-// Offers each beat of a cycle, and those that were not taken again after others were: a beat is taken where some order lets it.
+// Offers each beat of a cycle. After others were taken, it again offers those that were not. So a beat is taken if some order allows it.
 template <class Offer> void settle(const bool there[Channels], Fault faults[Channels], Offer offer) {
     bool taken[Channels] = {};
     for (int k = 0; k < Channels; k++) faults[k] = None;

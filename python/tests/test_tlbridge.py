@@ -2,7 +2,7 @@
 
     python3 -m unittest discover python/tests
 
-cocotb itself is not needed: the class Watched stands in for what the package and a test call of it.
+cocotb itself is not needed: the class Watched replaces the parts that the package and a test call.
 """
 import sys
 import threading
@@ -62,7 +62,7 @@ class Calls(unittest.TestCase):
             self.assertTrue(bridge.settle().drained)
 
     def test_each_beat_that_waits(self):
-        """What another channel's receive_all() moved into an inbox comes, too."""
+        """Beats that another channel's receive_all() moved into an inbox are also returned."""
         with Bridge(8, 4) as bridge:
             bridge.offer("A", GET)
             bridge.offer("E", Beat(sink=3))
@@ -227,7 +227,7 @@ class Board(unittest.TestCase):
         self.assertRegex(self.board.lines[0], r"^time 5: near A beat 0: opcode 4, size 2, source 0001, address 82: refused: 4 Unaligned: ")
 
     def test_busy_source(self):
-        """It is said although the response comes later."""
+        """It is reported although the response comes later."""
         get = Beat(opcode=4, size=2, source=1, address=0x80, mask=0xF)
         self.board.beat("client", "A", 10, get)
         self.board.beat("client", "A", 20, get)
@@ -235,7 +235,7 @@ class Board(unittest.TestCase):
         self.assertRegex(self.board.lines[0], r"^time 20: near A beat 1: source 0001: 8 SourceBusy: ")
 
     def test_source_of_this_cycle(self):
-        """A request may take its source in the cycle in which the response comes that frees it, in whatever order the two are told."""
+        """A request may take its source in the cycle of the response that frees it, in whatever order the two are reported."""
         get = Beat(opcode=4, size=2, source=1, address=0x80, mask=0xF)
         response = Beat(opcode=1, size=2, source=1, data=bytes(4))
         self.board.beat("client", "A", 10, get)
@@ -297,16 +297,16 @@ class Board(unittest.TestCase):
         self.assertEqual((self.board.end(), self.board.lines), (0, []))
 
     def test_many_differences(self):
-        """After 20 lines of a channel they are counted alone."""
+        """After 20 lines of a channel, further differences are only counted."""
         for sink in range(50):
             self.board.beat("client", "E", sink, Beat(sink=sink))
             self.board.beat("manager", "E", sink, Beat(sink=sink + 1))
         self.assertEqual(self.board.end(), 50)
         self.assertEqual(len(self.board.lines), 21)
-        self.assertEqual(self.board.lines[-1], "time 19: further differences on E are counted alone")
+        self.assertEqual(self.board.lines[-1], "time 19: further differences on E are only counted")
 
     def test_unmasked(self):
-        """PutPartialData with its first byte alone; the design drives another byte where no mask bit is."""
+        """PutPartialData with only its first byte; the design drives another byte on a lane without a mask bit."""
         for unmasked, differences in ((False, 0), (True, 1)):
             with self.subTest(unmasked=unmasked):
                 board = Scoreboard(8, 4, compare_unmasked=unmasked)
@@ -374,7 +374,7 @@ class Watched(unittest.TestCase):
                          (1, ["time 0: no beat was accepted on either link, so nothing was compared"]))
 
     def test_reset_amid(self):
-        """It ends what was in flight, and the traffic behind it is judged."""
+        """It ends what was in flight, and the traffic after it is judged."""
         asserted = {"reset": "1"}
         self.assertEqual(self.watch([self.CLIENT, asserted, asserted, self.CLIENT, self.MANAGER, self.ANSWERED, self.CAME]),
                          (0, ["time 2: reset of the client's link: 1 beats in flight on both links are not judged"]))

@@ -1,5 +1,5 @@
-"""Random lawful traffic on all five channels: its far beats are those of a bridge, and the scoreboard is told the beats of both links in
-any order of the two. It has no difference, and of a far beat with one field changed it names that field."""
+"""Random lawful traffic on all five channels: its far beats are those of a bridge, and the scoreboard gets the beats of both links in
+any order of the two. It reports no difference, and if one field of a far beat is changed, it names that field."""
 import random
 import unittest
 from dataclasses import replace
@@ -53,7 +53,7 @@ class Traffic:
         return Beat(**head, **own)
 
     def run(self, steps):
-        """Offers and takes at random; the links' lists say what came."""
+        """Offers and takes at random, and lists the beats of each link."""
         with Bridge(8, 4, ring=self.random.choice((1, 16, 4096))) as bridge:
             for _ in range(steps):
                 self.offer(bridge, self.random.choice("ABCDE"))
@@ -99,7 +99,7 @@ class Traffic:
 
 
 def judged(links, seed):
-    """The lines of a board, which is told the beats of both links in an order at random."""
+    """Returns the lines of a scoreboard that gets the beats of both links in a random order."""
     choose, board = random.Random(seed), Scoreboard(8, 4)
     waiting = {link: list(beats) for link, beats in links.items()}
     time = 0

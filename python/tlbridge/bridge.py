@@ -56,7 +56,7 @@ class Totals:
 
 
 class Side:
-    """One side of a bridge. Each side may be in a thread of its own. No call waits for the other side."""
+    """One side of a bridge. Each side may be in a different thread. No call waits for the other side."""
 
     def __init__(self, calls: "_Calls", name: str, width: int):
         self._calls, self._name, self.width = calls, name, width

@@ -1,4 +1,4 @@
-"""The output of `tlexplain --json` as typed records: what became of each line of a trace.
+"""The output of `tlexplain --json` as typed records: what happened to each line of a trace.
 
     with subprocess.Popen(["tlexplain", "--json", "link.trace"], stdout=subprocess.PIPE, text=True) as program:
         for record in explain.read(program.stdout):
@@ -18,7 +18,7 @@ Made = TypeVar("Made")
 
 @dataclass(frozen=True)
 class Fault:
-    """Why a beat was not accepted, or a text is no trace. `said` is a sentence, except in a summary."""
+    """Why a beat was not accepted, or why a text is not a trace. `said` is a sentence, except in a summary."""
 
     number: int
     name: str
@@ -117,7 +117,7 @@ class Summary:
 
 @dataclass(frozen=True)
 class BadTrace:
-    """A text that is no trace: its first faulty line, and the place of the fault there, counted from 0."""
+    """A text that is not a trace: its first faulty line, and the place of the fault there, counted from 0."""
 
     line: int
     fault: Fault
@@ -154,7 +154,7 @@ def _line(values: Dict[str, Any]) -> Line:
 
 
 def record_of(text: str) -> Record:
-    """Returns the record in a line of the output. Raises ValueError if it is none."""
+    """Returns the record in a line of the output. Raises ValueError if the line is not a record."""
     values = json.loads(text)
     if "summary" in values:
         summary = values["summary"]

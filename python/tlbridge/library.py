@@ -8,7 +8,7 @@ from typing import Optional
 
 VERSION = 6  # of the library whose structures are here
 
-# Answers that are no refusals in Python: of drained, and of finish.
+# Statuses of drained and finish that are not refusals in Python.
 NOT_TAKEN = 249
 NOT_SENT = 253
 

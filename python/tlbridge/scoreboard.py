@@ -49,7 +49,7 @@ class Scoreboard:
         self._board = c.c_void_p(self._library.tl_scoreboard_open(c.c_uint(client), c.c_uint(manager), c.c_uint(flags)))
         if not self._board:
             raise MissingLibrary(f"the library has no pair {client}:{manager}, or there is no memory; it has {pairs()}")
-        # at the program's end, too
+        # also when the program ends
         self._free = weakref.finalize(self, self._library.tl_scoreboard_free, self._board)
         self._widths = {"client": client, "manager": manager}
         self._on_message = on_message
@@ -118,7 +118,7 @@ class Scoreboard:
 
         A beat with unknown bits (x or z) is a difference, and a message names its fields. It is compared with 0 in their place. Nothing
         reads some unknown bits, which are 0 and no difference: on lanes without a byte of the message, in a byte whose mask bit is 0, and
-        in the sink of a response that is not a Grant. In valid, ready and reset an unknown bit is 0, too.
+        in the sink of a response that is not a Grant. In valid, ready and reset an unknown bit is also 0.
         """
         from cocotb.triggers import RisingEdge  # type: ignore[import]
         from cocotb.utils import get_sim_time  # type: ignore[import]

@@ -21,7 +21,7 @@ class Case:
 
 
 def started(events, first=100):
-    """The events behind a reset of both links at the beginning."""
+    """The events, after a reset of both links at the beginning."""
     return [reset(10, CLIENT, True), reset(10, MANAGER, True), reset(20, CLIENT, False), reset(20, MANAGER, False), *moved(events, first)]
 
 
@@ -90,7 +90,7 @@ def of_lost_beats(client, manager):
 
 
 def of_refused_beats(client, manager):
-    """A near beat breaks a rule; the traffic behind it is judged, of which one far beat of the same channel is wrong."""
+    """A near beat breaks a rule. The traffic after it is judged, and one far beat of the same channel in it is wrong."""
     for channel in "ABCD":
         for fault in (1, 2, 3, 4, 5, 6, 7, 10):
             place = "middle" if fault == 7 else "only"

@@ -1,7 +1,7 @@
 """Traffic of two TileLink links, with all five channels and the far beats that tlbridge-model gives, and mistakes in it.
 
 An event is a beat that a link accepts at a time, or a change of a link's reset. `exchange` makes lawful traffic; `changed`, `lost`, `doubled`
-plant a mistake in it, and `reported` says in which words a scoreboard has to report the difference, by the rules of docs/LIBRARY.md alone.
+plant a mistake in it, and `reported` says in which words a scoreboard has to report the difference, by nothing but the rules of docs/LIBRARY.md.
 """
 import random
 import sys
@@ -200,7 +200,7 @@ def shown(event, name, value):
 
 
 def reported(was, came):
-    """The line about a far beat that came so, and was due as it was."""
+    """Returns the line about a far beat that arrived as `came`, and was expected unchanged."""
     order = "opcode param size source sink address mask denied corrupt data".split()
     names = [name for name in order if name in FIELDS[was.channel].split() and was.value(name) != came.value(name)]
     said = "".join(f"; {name} got {shown(was, name, came.value(name))}, expected {shown(was, name, was.value(name))}" for name in names)
@@ -246,7 +246,7 @@ def spoilt(event, fault):
 
 
 def with_wrong_mask(event):
-    """PutPartialData may have any active lane, so a lane beside them is taken if there is one."""
+    """PutPartialData may have any active lane, so a lane next to them is set if there is one."""
     width, size = len(event.data), event.head["size"]
     beside = event.head["address"] % width ^ (1 << size) if 1 << size < width else None
     if event.head["opcode"] == 1 and beside is None:

@@ -111,7 +111,7 @@ class Link:
         return self.in_flight.get(beat.source, offered if offered is not None and offered.source == beat.source else None)
 
     def fault(self, channel, beat, accepted, offered):
-        """The fault of a beat; `offered` is the request of A that a response may answer beside those in flight."""
+        """The fault of a beat; `offered` is the request of A that a response may answer in addition to those in flight."""
         if self.head_changed(channel, beat):
             return "HeadChanged"
         if self.open[channel]:
@@ -245,7 +245,7 @@ class Checker:
         return self.hex(value, bits[name]) if name in bits else str(value)
 
     def words(self, channel, beat, fault, held, asked):
-        """The line of a report, behind its time and place."""
+        """The line of a report, after its time and place."""
         rest, answered = held
         name, width = name_of(channel, beat), self.settings.DATA_BYTES
         was = rest[0] if rest else answered

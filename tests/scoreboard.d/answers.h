@@ -1,4 +1,4 @@
-/* What each answer means: number, name, sentence. */
+/* The meaning of each status: number, name, sentence. */
 SAYS(0, "Ok", "it is done")
 SAYS(1, "Opcode", "the channel has no message with this opcode")
 SAYS(2, "Param", "the message has no such param")

@@ -1,4 +1,4 @@
-/* A board under each want of memory: each allocation is refused in turn, and each call afterwards, too. No call may crash, a board that could
+/* A scoreboard that runs out of memory at each point: each allocation fails in turn, and then each one from there on. No call may crash, a board that could
  * not note a beat or a line has a difference, and all memory is given back. Link with --wrap=malloc, calloc, realloc, free. */
 #include "tlbridge_scoreboard.h"
 #include <stdio.h>

@@ -231,7 +231,7 @@ static tl_standings standings_of(const bridge *all) {
     return (tl_standings){counts[A], counts[B], counts[C], counts[D], counts[E]};
 }
 
-/* What a side has sent and what was taken from it. */
+/* The numbers of beats that a side has sent and that were taken from it. */
 static tl_totals totals_of(const bridge *all, int side, uint64_t number) {
     uint64_t beats[CHANNELS];
     for (int x = 0; x < CHANNELS; x++) beats[x] = is_sent_by(side, x) ? all->of[x].sent : all->of[x].taken;

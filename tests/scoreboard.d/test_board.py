@@ -117,7 +117,7 @@ class Changed(unittest.TestCase):
                 self.assertEqual(judged(events[:at] + [came] + events[at + 1:]), (1, [reported(events[at], came)]))
 
     def test_unmasked(self):
-        """With `unmasked`, a byte of PutPartialData without a mask bit is compared, too."""
+        """With `unmasked`, a byte of PutPartialData without a mask bit is also compared."""
         for client, manager in SMALL[:2]:
             for channel in "AB":
                 events = exchange(client, manager)
@@ -132,7 +132,7 @@ class Changed(unittest.TestCase):
 
 
 class Cases(unittest.TestCase):
-    """The table of cases that the SystemVerilog scoreboard, the monitor and the checker are tested by, too (tests/links)."""
+    """The table of cases by which the SystemVerilog scoreboard, the monitor and the checker are also tested (tests/links)."""
 
     def test_each(self):
         for client, manager in PAIRS[1:2]:
@@ -144,7 +144,7 @@ class Cases(unittest.TestCase):
 
 
 class Lost(unittest.TestCase):
-    """A beat that is lost or comes twice at the very end is said there, in each channel."""
+    """A beat that is lost or comes twice at the very end is reported there, on each channel."""
 
     def test_last_beats_are_lost(self):
         for channel in "ABCDE":
@@ -188,7 +188,7 @@ class AtItsEnd(unittest.TestCase):
         self.assertEqual(judged([]), (1, ["time 0: no beat was accepted on either link, so nothing was compared"]))
         self.assertEqual(judged([], allow_no_beats=True), (0, []))
         self.assertEqual(judged([], allow_no_beats=True, compare_unmasked=True), (0, []))
-        board = Scoreboard(8, 4)  # a difference at its end alone
+        board = Scoreboard(8, 4)  # which has a difference only at its end
         self.assertEqual((board.differences, board.end(), board.differences), (0, 1, 1))
 
     def test_no_beat_but_in_reset(self):
@@ -247,7 +247,7 @@ class AtItsEnd(unittest.TestCase):
                 self.assertEqual(count, differences)
                 self.assertEqual(len(lines), min(differences, 20) + (differences >= 20))
                 if differences >= 20:
-                    self.assertEqual(lines[20], f"time {came[39].time}: further differences on E are counted alone")
+                    self.assertEqual(lines[20], f"time {came[39].time}: further differences on E are only counted")
 
     def run_apart(self, program):
         environment = {**os.environ, "PYTHONPATH": os.pathsep.join(sys.path)}
@@ -294,7 +294,7 @@ class AtItsEnd(unittest.TestCase):
 
 
 class Resets(unittest.TestCase):
-    """A link's reset ends what was in flight on both, whichever ends first, and is said once."""
+    """A link's reset ends what was in flight on both, whichever ends first, and is reported once."""
 
     def staggered(self, first, early):
         """Both links are in reset from time 0; `first` leaves it at 100 and accepts these many of its near beats before the other does."""
@@ -373,7 +373,7 @@ class Resets(unittest.TestCase):
                                               f"time {made.time + 30}: reset of the client's link: 1 beats in flight on both links are not judged"]))
 
     def test_one_link_alone(self):
-        """Beats that the client's link accepts while the manager's is in reset are judged, unless the client's link is reset, too."""
+        """Beats that the client's link accepts while the manager's is in reset are judged, unless the client's link is also reset."""
         made = Exchange(8, 4)
         made.send("A", made.head("A", 0, 4))
         near = [event for event in made.events if not event.is_far]
@@ -445,7 +445,7 @@ class Refused(unittest.TestCase):
         self.assertGreaterEqual(seen, 10)
 
     def test_a_mistake_behind_it(self):
-        """Fifty wrong far beats behind a refused near beat are fifty differences."""
+        """Fifty wrong far beats after a refused near beat are fifty differences."""
         for fault, place in ((5, "only"), (4, "only"), (3, "only"), (7, "middle")):
             events = exchange(8, 4)
             wrong, at = broken(events, "A", fault, place)
@@ -469,7 +469,7 @@ class Refused(unittest.TestCase):
         self.assertEqual((count, [line.split(":")[0] for line in lines]), (3, [f"time {made.events[near[i]].time}" for i in (0, 2, 5)]), lines)
 
     def test_a_wrong_response_before_its_request(self):
-        """The far beat of its request comes in its cycle, behind it; its source is free afterwards."""
+        """The far beat of its request comes after it in the same cycle; its source is free afterwards."""
         made = Exchange(8, 4, step=0)
         for _ in range(2):
             made.ask(4, 2, 1, source=0x77)
@@ -500,7 +500,7 @@ class Refused(unittest.TestCase):
             for size in (1, 4, 3):
                 made.send(channel, made.head(channel, 5 if channel == "C" else 3, size))
             second = [event for event in made.events if not event.is_far][0]
-            # numbers go on behind the beats that did not come
+            # numbers continue after the beats that are missing
             events = [replace(event, number=event.number - lag[event.is_far]) for event in made.events]
             with self.subTest(channel=channel):
                 count, lines = judged(cut + events)
@@ -524,7 +524,7 @@ class Refused(unittest.TestCase):
 
 
 class OneLink(unittest.TestCase):
-    """Mistakes that show on one link alone."""
+    """Mistakes that are visible on only one link."""
 
     def get(self, source, address=0x1004):
         return {"opcode": 4, "param": 0, "size": 2, "source": source, "address": address}

@@ -122,7 +122,7 @@ class Sides(unittest.TestCase):
             self.assertFalse(bridge.client.ready("E"))
 
     def test_totals(self):
-        """Each channel has a number of beats of its own, which the sender counts when they are pumped and the taker when they are taken."""
+        """Each channel has a different number of beats. The sender counts them when they are pumped, and the taker when they are taken."""
         with Bridge(8, 4) as bridge:
             number = bridge.client.totals().bridge
             for channel, times in zip("ABCDE", (1, 2, 3, 0, 4)):
