@@ -1,5 +1,6 @@
 """The scoreboard over recorded traffic of both links: no false difference, each planted mistake in its words, and what it says of resets,
 of refused beats, and at its end."""
+import ctypes
 import io
 import os
 import subprocess
@@ -13,6 +14,7 @@ from traffic import (CLIENT, MANAGER, Event, Exchange, broken, exchange, far_of,
                      with_value)
 
 from tlbridge import Beat, Scoreboard
+from tlbridge.library import load
 
 PAIRS = [tuple(map(int, pair.split(":"))) for pair in os.environ.get("TLBRIDGE_PAIRS", "8:4").split()]
 SMALL = [pair for pair in PAIRS if pair[0] * pair[1] <= 128 and max(pair) <= 32] or PAIRS
@@ -60,6 +62,47 @@ class Right(unittest.TestCase):
                     if event.is_far and event.channel != "E" else event for event in events]
             with self.subTest(client=client, manager=manager):
                 self.assertEqual(judged(free, client, manager), (0, []))
+
+
+class OverDpi(unittest.TestCase):
+    """The calls of the SystemVerilog scoreboard: mask and data are vectors in words of 32 bits, and a time is a real number."""
+
+    def judged(self, events):
+        """The differences, and each message with its time."""
+        library = load()
+        library.tlbridge_scoreboard_open.restype = ctypes.c_void_p
+        library.tlbridge_scoreboard_next_message.restype = ctypes.c_char_p
+        library.tlbridge_scoreboard_finish.restype = ctypes.c_uint64
+        board = ctypes.c_void_p(library.tlbridge_scoreboard_open(128, 128, 0))
+        for event in events:
+            head = {name: event.head.get(name, 0) for name in ("opcode", "param", "size", "source", "sink", "address", "denied")}
+            mask = (ctypes.c_uint32 * 4).from_buffer_copy(event.mask.to_bytes(16, "little"))
+            data = (ctypes.c_uint32 * 32).from_buffer_copy(event.data.ljust(128, b"\0"))
+            library.tlbridge_scoreboard_beat(
+                board, ctypes.c_uint8(event.link), ctypes.c_uint8(ord(event.channel)), ctypes.c_double(event.time + 0.5),
+                ctypes.c_uint8(head["opcode"]), ctypes.c_uint8(head["param"]), ctypes.c_uint8(head["size"]), ctypes.c_uint16(head["source"]),
+                ctypes.c_uint16(head["sink"]), ctypes.c_uint64(head["address"]), ctypes.c_uint8(head["denied"]), ctypes.c_uint8(event.corrupt),
+                mask, data)
+        differences, messages, time = library.tlbridge_scoreboard_finish(board), [], ctypes.c_double()
+        while line := library.tlbridge_scoreboard_next_message(board, ctypes.byref(time)):
+            messages.append((time.value, line.decode()))
+        library.tlbridge_scoreboard_free(board)
+        return differences, messages
+
+    def test_each_word_of_mask_and_data(self):
+        if (128, 128) not in PAIRS:
+            self.skipTest("the library has no pair 128:128")
+        events = exchange(128, 128)
+        self.assertEqual(self.judged(events), (0, []))
+        at = next(i for i in of(events, "A", opcode=0) if all(events[i].lanes))
+        for name, bits in (("mask", (1, 33, 65, 97)), ("data", range(4, 1024, 32))):
+            for bit in bits:
+                wrong = list(events)
+                wrong[at] = flipped(events[at], name, bit)
+                differences, messages = self.judged(wrong)
+                with self.subTest(name=name, bit=bit):
+                    said = reported(events[at], wrong[at]).removeprefix(f"time {events[at].time}: ")
+                    self.assertEqual((differences, messages), (1, [(events[at].time + 0.5, said)]))
 
 
 class Changed(unittest.TestCase):
