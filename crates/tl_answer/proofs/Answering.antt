@@ -3,7 +3,6 @@ use Rattle.tl_answer.proofs.Names.{Result, Ok, Err, IfOk, ◌≡◌, ℕ, Bool, 
 use Rattle.tl_answer.proofs.Names.{append-nil, append_assoc, arith, list_all, Beats, far_beats, verdicts, EndsIn, near_beats, Tells, IsScriptOf}
 use Rattle.tl_answer.proofs.Names.{Script, Line, far_header, far_lines, near, taken, report, is_done, text_of, IsAnswer, TextFault}
 use Rattle.tl_msg.specs.declared.verdict.Verdict.{Verdict}
-use Rattle.tl_answer.specs.declared.answer.Answer.{Answer}
 use Rattle.tl_run.specs.declared.outcome.Outcome.{Outcome}
 
 -- the far beats that a run took are those of its script
@@ -69,33 +68,3 @@ pub of-both : {X : Type 0} (P Q R : X → Type 0) → ((made : X) → P made →
     IfOk given P → IfOk given Q → IfOk given R
 of-both P Q R follows (Ok made) p q = follows made p q
 of-both P Q R follows (Err fault) p q = tt
-
-abbrev HasText : Result Answer TextFault → List ℕ → Type 0
-HasText given text = IfOk given (λ made. made.text.items ≡ text)
-
-abbrev IsDone : Result Answer TextFault → Bool → Type 0
-IsDone given done = IfOk given (λ made. made.all_done ≡ done)
-
-pub all-done : (done ended : Bool) → done ≡ ended → (given : Result Answer TextFault) → IsDone given done → IsDone given ended
-all-done done ended is (Ok made) done-is = done-is ∙ is
-all-done done ended is (Err fault) done-is = tt
-
--- the text of an answer by a check, and of one that is spelled in parts by a run
-module _ {C M : ℕ} (version : ℕ) (bs : Beats C M) (check : Bool) where
-  pub of-check : check ≡ true → (given : Result Answer TextFault) → HasText given (far_header version C M ++ report (verdicts bs)) →
-      HasText given (text_of version bs check)
-  of-check is (Ok made) text-is = rw is (text-is ∙ without-far version bs)
-  of-check is (Err fault) text-is = tt
-
-  pub of-parts : check ≡ false → (text : List ℕ) → text ≡ text_of version bs false → (given : Result Answer TextFault) → HasText given text →
-      HasText given (text_of version bs check)
-  of-parts is text spells (Ok made) text-is = rw is (text-is ∙ spells)
-  of-parts is text spells (Err fault) text-is = tt
-
-  -- it is the answer to a text with these beats
-  pub answers-text : (lines : List Line) (text : List ℕ) → Tells text version C M lines → bs ≡ near C M lines → (given : Result Answer TextFault) →
-      HasText given (text_of version bs check) → IsDone given (list_all is_done (verdicts bs)) →
-      IfOk given (λ made. IsAnswer text check made.text.items made.all_done)
-  answers-text lines text told same (Ok made) text-is done-is =
-      script-text version C M lines text told bs same check made.text.items text-is made.all_done done-is
-  answers-text lines text told same (Err fault) text-is done-is = tt

@@ -102,9 +102,6 @@ module _ {C M : ℕ} where
   pub short-lists : (s : Script C M) → AreFew none_gone s → HasShortLists s
   short-lists s few = record { few_a = few.few_a; few_b = few.few_b; few_c = few.few_c; few_d = few.few_d; few_e = few.few_e }
 
-  pub none-gone : (s : Script C M) → HasShortLists s → AreFew none_gone s
-  none-gone s short = record { few_a = short.few_a; few_b = short.few_b; few_c = short.few_c; few_d = short.few_d; few_e = short.few_e }
-
   -- a consumer that has consumed nothing
   pub new-goes : (Can : Script C M → Type 0) (Has : Beats C M → Type 0) (count : Counts) → count ≡ none_counted → (s : Script C M) → Can s →
       ((beats : Beats C M) → Has beats) →

@@ -49,6 +49,16 @@ last_width w is n1 n2 n4 n8 n16 n32 n64 =
     (each_width (λ x. (x == 1) || ((x == 2) || ((x == 4) || ((x == 8) || ((x == 16) || ((x == 32) || ((x == 64) || (x == WIDEST)))))))) refl w is)
     n1) n2) n4) n8) n16) n32) n64)
 
+-- so are the widths of a header
+pub widest : (text : List ℕ) (version client manager : ℕ) → HasHeader text version client manager →
+    (client ≢ 1 → client ≢ 2 → client ≢ 4 → client ≢ 8 → client ≢ 16 → client ≢ 32 → client ≢ 64 → client ≡ WIDEST) ×
+    (manager ≢ 1 → manager ≢ 2 → manager ≢ 4 → manager ≢ 8 → manager ≢ 16 → manager ≢ 32 → manager ≢ 64 → manager ≡ WIDEST)
+widest text version client manager is =
+    let both = known (body text) (header version client manager) is in (
+      last_width client (width_of version client both.1),
+      last_width manager (width_of version manager both.2),
+    )
+
 pub last_manager : (text : List ℕ) (version client manager : ℕ) → HasHeader text version client manager →
     manager ≢ 1 → manager ≢ 2 → manager ≢ 4 → manager ≢ 8 → manager ≢ 16 → manager ≢ 32 → manager ≢ 64 → HasHeader text version client WIDEST
 last_manager text version client manager is n1 n2 n4 n8 n16 n32 n64 =
@@ -60,16 +70,6 @@ pub last_client : (text : List ℕ) (version client manager : ℕ) → HasHeader
 last_client text version client manager is n1 n2 n4 n8 n16 n32 n64 =
     subst (λ w. HasHeader text version w manager)
     (last_width client (width_of version client (known (body text) (header version client manager) is).1) n1 n2 n4 n8 n16 n32 n64) is
-
--- a manager's width that is this one
-pub with_manager : (text : List ℕ) (version client manager width : ℕ) → manager ≡ width → HasHeader text version client manager →
-    HasHeader text version client width
-with_manager text version client manager width is named = subst (λ w. HasHeader text version client w) is named
-
--- and a client's
-pub with_client : (text : List ℕ) (version client manager width : ℕ) → client ≡ width → HasHeader text version client manager →
-    HasHeader text version width manager
-with_client text version client manager width is named = subst (λ w. HasHeader text version w manager) is named
 
 -- the lists of a trace that is not too long are not too long
 pub short : (C M : ℕ) (lines : List Line) → length lines ≤ most_bytes → (s : Script C M) → IsScriptOf lines s → HasShortLists s

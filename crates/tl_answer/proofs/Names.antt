@@ -1,7 +1,7 @@
 -- The names that the proofs of this crate use most, from the library and from the definitions, re-exported by one module.
 pub use Rattle.std.proofs.Common.{Ok, ◌≡◌, ℕ, Bool, true, false, List, [], ◌∷◌, ◌++◌, length, refl, sym, ap, subst, ◌∙◌, append-nil, arith, ◌≢◌, ◌+◌}
 pub use Rattle.std.proofs.Common.{◌-◌, ◌≤◌, take, drop, Option, None, Some, length-append, append_assoc, take-append-drop, ◌<◌, ◌^◌}
-pub use Rattle.std.proofs.Common.{zero-le, if◌then◌else◌, ◌||◌, map, replicate, ◌⊎◌, ◌↔◌, inl, inr, nat_eq, rules, lit<}
+pub use Rattle.std.proofs.Common.{zero-le, if◌then◌else◌, ◌||◌, map, replicate, ◌⊎◌, ◌↔◌, inl, inr, nat_eq, lit<}
 pub use Rattle.std.proofs.KnownBytes.{Appends-trans}
 pub use Rattle.std.proofs.lemmas.Bool.{eqb-true, or_parts}
 pub use Rattle.std.proofs.lemmas.List.{length-take-le}

@@ -1,14 +1,14 @@
 -- The result of reading a text incrementally is a result of the whole text.
-use Rattle.tl_answer.proofs.Names.{IfSome, IfOk, IfErr, IsOfText, ◌≡◌, ◌≢◌, ℕ, ◌-◌, ◌<◌, ◌≤◌, Bool, true, false, nat_eq, ◌||◌, List, [], ◌∷◌, ◌++◌}
+use Rattle.tl_answer.proofs.Names.{IfSome, IfOk, IfErr, IsOfText, ◌≡◌, ℕ, ◌-◌, ◌<◌, ◌≤◌, Bool, true, false, nat_eq, ◌||◌, List, [], ◌∷◌, ◌++◌}
 use Rattle.tl_answer.proofs.Names.{length, Option, None, Some, Result, Ok, Err, refl, sym, ap, ◌∙◌, subst, arith, length-append, or_parts}
 use Rattle.tl_answer.proofs.Names.{eqb-true, list_any, Consumes, IsAtEnd, is_newline, body, header_of, IsFirstFault, Header, IsFresh, IsRefused}
 use Rattle.tl_answer.proofs.Names.{held, unread_of, ReadsAnswer, spelled, IsAnswer, most_bytes, TextFault, Input}
 use Rattle.tl_trace.specs.declared.fault.TraceFault.{TraceFault}
-use Rattle.tl_trace.specs.declared.fault.TraceKind.{TraceKind}
 use Rattle.tl_trace.specs.declared.fault.TraceKind.TheVariants as kinds
-use Rattle.tl_stream.specs.Faults.{of_kind, of_trace}
 use Rattle.tl_stream.specs.declared.fault.TextFault.TheVariants as faults
+use Rattle.tl_answer.specs.declared.answer.Answer.{Answer}
 use Rattle.tl_answer.specs.declared.parts.AnswerParts.{AnswerParts}
+use Rattle.tl_stream.specs.Inputs.{HasTaken}
 use Rattle.tl_stream.proofs.Between.{held_size, of_text, of_whole}
 use Rattle.tl_answer.proofs.Headers.{no_header}
 use Rattle.tl_stream.proofs.ToRead.{header_short, unlike}
@@ -75,26 +75,29 @@ header_missing left input fresh none = pick (list_any is_newline (held input)) r
         let long : 64 < length (held input ++ body more) = omega (arith, room, first, whole, sum, size) in
         no_header (held input ++ more) (ap header_of (body_free (held input) more e) ∙ long_none (held input ++ body more) long))
 
-pub header_refused : (left : Option (List ℕ)) (input : Input) → IsFresh left input → header_of (body (held input)) ≡ None →
-    IsRefused (unread_of input left) left input (faults.Trace (record { line = 1; kind = kinds.Header }))
-header_refused left input fresh none = (([], fresh.taken), λ p. absurd cc, header_missing left input fresh none)
+-- the fault of a text whose first piece has no header
+pub header_refused : (left : Option (List ℕ)) (input : Input) → IsFresh left input → (bytes : List ℕ) → bytes ≡ held input → (fault : TextFault) →
+    (fault ≡ faults.Trace (record { line = 1; kind = kinds.Header })) × (header_of (body bytes) ≡ None) →
+    IsRefused (unread_of input left) left input fault
+header_refused left input fresh bytes same fault none = subst (IsRefused (unread_of input left) left input) (sym none.0)
+    (([], fresh.taken), λ p. absurd cc, header_missing left input fresh (ap (λ text. header_of (body text)) (sym same) ∙ none.1))
 
--- ---- a text that is kept whole
+-- ---- a text in memory
 
--- its errors are its own fault and out of memory
-pub fault_of_text : (text : List ℕ) (fault : TraceFault) → (fault.kind ≢ kinds.OutOfMemory → IsFirstFault text fault.line fault.kind) →
-    IsOfText text (of_trace fault)
-fault_of_text text fault first = cases fault.kind refl
-  where
-    another : (kind : TraceKind) → fault.kind ≡ kind → kind ≢ kinds.OutOfMemory →
-        (fault.kind ≢ kinds.OutOfMemory) × IsFirstFault text fault.line fault.kind
-    another kind e other = let so : fault.kind ≢ kinds.OutOfMemory = λ p. other (sym e ∙ p) in (so, first so)
+-- its first piece was read, and nothing of it is used
+pub slice_fresh : (text left : List ℕ) (input : Input) → HasTaken (Some text) (Some left) [] input → input.from ≡ 0 → IsFresh (Some left) input
+slice_fresh text left input taken first = record { taken = rw (ap Some (sym taken.took)) taken; first = first }
 
-    cases : (kind : TraceKind) → fault.kind ≡ kind → IsOfText text (of_kind kind fault)
-    cases kinds.OutOfMemory e = tt
-    cases kinds.Header e = another kinds.Header e (λ p. absurd cc)
-    cases kinds.Channel e = another kinds.Channel e (λ p. absurd cc)
-    cases kinds.Length e = another kinds.Length e (λ p. absurd cc)
-    cases kinds.Shape e = another kinds.Shape e (λ p. absurd cc)
-    cases kinds.Range e = another kinds.Range e (λ p. absurd cc)
-    cases kinds.NoEnd e = another kinds.NoEnd e (λ p. absurd cc)
+module _ (text left : List ℕ) (input : Input) (taken : HasTaken (Some text) (Some left) [] input) (after : Input) (rest : Option (List ℕ)) where
+  -- the answer to it
+  pub slice_answered : (check : Bool) (parts : AnswerParts) → ReadsAnswer (unread_of input (Some left)) rest check after (Ok parts) →
+      (given : Result Answer TextFault) → IfOk given (λ made. made.text.items ≡ spelled parts) → IfOk given (λ made. made.all_done ≡ parts.all_done) →
+      IfOk given (λ made. IsAnswer text check made.text.items made.all_done)
+  slice_answered check parts read (Err fault) text_is done_is = tt
+  slice_answered check parts read (Ok made) text_is done_is = rw (text_is, done_is, taken.took) read.answer
+
+  -- and its first fault
+  pub slice_refused : (fault : TraceFault) (given : TextFault) → given ≡ faults.Trace fault → IsRefused (unread_of input (Some left)) rest after given →
+      IsOfText text (faults.Trace fault)
+  slice_refused fault given is read =
+      let refused = subst (IsRefused (unread_of input (Some left)) rest after) is read in (refused.1, rw taken.took refused.2)

@@ -1,9 +1,10 @@
 -- The effect of writing an answer.
 use Rattle.tl_answer.proofs.Names.{Result, Ok, Err, IfSome, IfOk, OnOk, IfErr, ◌≡◌, ℕ, Bool, List, ◌++◌, Option}
-use Rattle.tl_answer.proofs.Names.{None, Some, refl, sym, ap, subst, append_assoc, Appends-trans, Appends, Keeps}
+use Rattle.tl_answer.proofs.Names.{None, Some, false, refl, sym, ap, subst, append_assoc, Appends-trans, Appends, Keeps}
 use Rattle.tl_answer.proofs.Names.{AnswersRead, spelled, AnswersText, IsAnswer, TextFault}
-use Rattle.tl_order.specs.Orders.{is_check}
+use Rattle.tl_order.specs.Orders.{is_check, is_sync}
 use Rattle.tl_order.specs.declared.Order.{Order}
+use Rattle.tl_order.specs.declared.Order.TheVariants.{Run, Check}
 use Rattle.tl_stream.specs.declared.fault.TextFault.TheVariants as faults
 use Rattle.tl_answer.specs.declared.parts.AnswerParts.{AnswerParts}
 
@@ -17,6 +18,11 @@ five-out w0 w1 w2 w3 a b c d e to_b to_d to_e =
 keeps-itself : (held : Option (List ℕ)) → Keeps held held
 keeps-itself None = tt
 keeps-itself (Some text) = refl
+
+-- a run in two threads is no check
+pub no-check : (order : Order) → is_sync order ≡ false → is_check order ≡ false
+no-check (Run ring turns sync) threads = refl
+no-check Check threads = absurd (let bad = threads in cc)
 
 -- a text without an answer, if nothing was written
 pub unwritten : (unread left held : Option (List ℕ)) (order : Order) (fault : TextFault) → AnswersRead unread left order (Err fault) →

@@ -1,5 +1,4 @@
 pub mod Parts
-pub mod Asked
 pub mod Answered
 pub mod FarTexts
 pub mod Consuming

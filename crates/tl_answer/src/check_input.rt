@@ -16,8 +16,9 @@ ghost use Rattle.tl_answer.specs.Inner.Parts.{spelled};
 ghost use Rattle.tl_stream.specs.Inputs.{IsFresh, held, unread_of};
 ghost use Rattle.tl_stream.specs.declared.fault.TextFault.TheVariants.{OutOfMemory as NoMemory};
 
-use crate::answer::{check_of, lemma_are_widths};
+use crate::answer::check_of;
 use crate::parts::AnswerParts;
+use crate::widths::lemma_are_widths;
 use std::alloc::{AllocError, Global};
 use std::io::Read;
 use tl_check::Judge;
@@ -25,11 +26,8 @@ use tl_settle::{ClientBook, ManagerBook};
 use tl_stream::{BeatConsumer, Input, TextFault, read_through};
 use tl_trace::{Counts, Script};
 
-/// Allows this crate to implement `BeatConsumer` for `Judge`, a type of another crate. Has no value.
-#[derive(Drop)]
-struct Check;
-
-impl<const C: usize, const M: usize> BeatConsumer<Check, C, M> for Judge<C, M> {
+// (`AnswerParts` is only a type of this crate: `Judge` is of another one)
+impl<const C: usize, const M: usize> BeatConsumer<AnswerParts, C, M> for Judge<C, M> {
     ghost HasConsumed = { Judges };
 
     ghost ConsumesOn = { JudgesOn };
@@ -78,7 +76,7 @@ fn check_by<R: Read, const C: usize, const M: usize>(
         true input.new result }
 {
     lemma_are_widths::<C, M>(input, version);
-    match read_through::<R, Check, Judge<C, M>, C, M>(alloc, reader, input, version, judge) {
+    match read_through::<R, AnswerParts, Judge<C, M>, C, M>(alloc, reader, input, version, judge) {
         Ok(last) => end_of(alloc, judge, version, last),
         Err(fault) => Err(fault),
     }

@@ -20,9 +20,9 @@ ghost use Rattle.tl_answer.specs.Inner.Sizes.{bridge_size, crossing_size, run_si
 ghost use Rattle.tl_stream.specs.Inputs.{IsFresh, held, unread_of};
 ghost use Rattle.tl_stream.specs.declared.fault.TextFault.TheVariants.{OutOfMemory as NoMemory};
 
-use crate::answer::lemma_are_widths;
 use crate::far_text::FarTexts;
 use crate::parts::AnswerParts;
+use crate::widths::lemma_are_widths;
 use std::alloc::{AllocError, Global};
 use std::io::Read;
 use tl_run::SyncRun;
@@ -50,26 +50,6 @@ impl<const C: usize, const M: usize> Crossing<C, M> {
         let run = SyncRun::new(bridge);
         a_new_run_has_run(&run, &far);
         Crossing { run, far }
-    }
-
-    /// Creates a run that has not begun, of a trace in this version, with rings of `ring` beats
-    /// each. Errors: only `OutOfMemory`.
-    #[inline(never)]
-    pub(crate) fn new(alloc: Global, version: u8, ring: usize) -> Result<Self, TextFault>
-        requires { IsWidth C × IsWidth M × (1 ≤ ring) × (ring ≤ MAX_RING) }
-        ensures new { IfOk result (IsNew (Crosses version)) }
-        ensures err { IfErr result (λ fault. fault ≡ NoMemory) }
-    {
-        let far = match FarTexts::new(alloc, version, C, M) {
-            Ok(far) => far,
-            Err(error) => return Err(TextFault::from(error)),
-        };
-        lemma_run_fits::<C, M>();
-        match SyncBridge::<C, M, Global>::new(alloc, ring) {
-            Ok(bridge) => Ok(Crossing::with_bridge(bridge, far, version)),
-            // only out of memory: `ring` is in the range of ring sizes
-            Err(_) => Err(TextFault::OutOfMemory),
-        }
     }
 
     // Frees the run.
@@ -180,7 +160,6 @@ pub(crate) fn run_input<R: Read, const C: usize, const M: usize>(
         Err(error) => return Err(TextFault::from(error)),
     };
     lemma_run_fits::<C, M>();
-    // (not by `Crossing::new`, whose result would be one more type for each pair of widths)
     let Ok(bridge) = SyncBridge::<C, M, Global>::new(alloc, ring) else {
         // only out of memory: `ring` is in the range of ring sizes
         return Err(TextFault::OutOfMemory);

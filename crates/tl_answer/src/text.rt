@@ -1,14 +1,16 @@
 //! The whole way from the input bytes to the output bytes.
 ghost use Rattle.std.specs.Prelude.{◌≡◌, ◌++◌, IfOk, OnOk, IfErr};
 ghost use Rattle.std.specs.Io.KnownBytes.{Appends};
-ghost use Rattle.tl_order.specs.Orders.{IsRunnable};
-ghost use Rattle.tl_answer.specs.Inner.Answered.{AnswersRead};
+ghost use Rattle.tl_order.specs.Orders.{IsRunnable, is_check};
+ghost use Rattle.tl_answer.specs.Inner.Answered.{AnswersRead, ReadsAnswer};
 ghost use Rattle.tl_answer.specs.Inner.Parts.{spelled};
 ghost use Rattle.tl_answer.specs.Texts.{AnswersText};
+ghost use Rattle.tl_stream.specs.Inputs.{IsFresh, unread_of};
 ghost use Rattle.tl_stream.specs.declared.fault.TextFault.TheVariants.{Write as WriteFault};
 
-use crate::answer::answer_input;
+use crate::one_thread::answer_input;
 use crate::parts::AnswerParts;
+use crate::threads::answer_by_threads;
 use std::alloc::Global;
 use std::io::{Read, Write};
 use std::thread::Threads;
@@ -41,6 +43,25 @@ fn write_answer<W: Write>(writer: &mut W, answer: &AnswerParts) -> Result<bool, 
     Ok(answer.all_done)
 }
 
+/// Returns the answer to a text in the way of the order. The input holds the first piece of the text,
+/// and nothing of it was used. Errors: as `script_of_input`.
+fn answer_by<T: Threads, R: Read>(
+    rt: &T,
+    alloc: Global,
+    reader: &mut R,
+    input: &mut Input,
+    order: &Order,
+) -> Result<AnswerParts, TextFault>
+    requires { IsFresh (R.remaining reader.old) input.old × IsRunnable order.now }
+    ensures { ReadsAnswer (unread_of input.old (R.remaining reader.old)) (R.remaining reader.new)
+        (is_check order.now) input.new result }
+{
+    if order.is_sync() {
+        return answer_input(alloc, reader, input, order.is_check(), order.ring());
+    }
+    answer_by_threads(rt, alloc, reader, input, order)
+}
+
 /// Reads a text to its end. Returns its answer.
 fn read_answer<T: Threads, R: Read>(
     rt: &T,
@@ -55,7 +76,7 @@ fn read_answer<T: Threads, R: Read>(
         Ok(input) => input,
         Err(fault) => return Err(fault),
     };
-    match answer_input(rt, alloc, reader, &mut input, order) {
+    match answer_by(rt, alloc, reader, &mut input, order) {
         Err(TextFault::Trace(fault)) => match input.drain(reader) {
             Ok(()) => Err(TextFault::Trace(fault)),
             Err(fault) => Err(fault),

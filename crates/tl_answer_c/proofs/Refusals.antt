@@ -6,6 +6,7 @@ use Rattle.tl_trace.specs.declared.fault.TraceKind.TheVariants as kinds
 use Rattle.tl_stream.specs.Faults.{text_fault_number, text_fault_line}
 use Rattle.tl_stream.specs.declared.fault.TextFault.{TextFault}
 use Rattle.tl_stream.specs.declared.fault.TextFault.TheVariants as faults
+use Rattle.tl_answer.specs.Texts.{IsOfText}
 use Rattle.tl_c_beats.specs.Blocks.{IsNoBlock}
 use Rattle.tl_c_beats.specs.declared.answer_block.AnswerBlock.{AnswerBlock}
 use Rattle.tl_answer_c.specs.Calls.{IsOfCall, IsRefusal}
@@ -29,6 +30,15 @@ faults_numbered faults.OutOfMemory = lit< tt
 
 pub no_success : (fault : TextFault) (number : ℕ) → number ≡ text_fault_number fault → number ≡ 0 → ⊥
 no_success fault number numbered zero = omega (arith, faults_numbered fault)
+
+-- an error of a run over a text is one of the call
+pub of_call : (text : List ℕ) (fault : TextFault) → IsOfText text fault → IsOfCall text fault
+of_call text (faults.Trace fault) is = is
+of_call text faults.Stalled is = is
+of_call text faults.Read is = is
+of_call text faults.Write is = is
+of_call text faults.TooLong is = absurd is
+of_call text faults.OutOfMemory is = is
 
 pub refusal : (text : List ℕ) (fault : TextFault) (number : ℕ) (line : Option ℕ) (block : AnswerBlock) → IsOfCall text fault →
     number ≡ text_fault_number fault → line ≡ text_fault_line fault → IsNoBlock line block → IsRefusal text number block

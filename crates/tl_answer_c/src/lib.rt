@@ -3,16 +3,16 @@
 //! caller that is not proved.
 #![tactic(auto)]
 
-mod sync_answer;
+mod block;
 
-ghost use Rattle.std.specs.Prelude.{◌≡◌, ◌≢◌, List, None, ℕ};
+ghost use Rattle.std.specs.Prelude.{◌≡◌, ◌≢◌, None};
 ghost use Rattle.tl_stream.specs.Faults.{text_fault_name, text_fault_number};
 ghost use Rattle.tl_stream.specs.declared.fault.TextFault.{TextFault};
 ghost use Rattle.tl_c_beats.specs.Texts.{status_name, status_text};
 ghost use Rattle.tl_c_beats.specs.Blocks.{IsNoBlock};
 ghost use Rattle.tl_answer_c.specs.Calls.{IsGiven, IsRefusal, is_set};
 
-use crate::sync_answer::block_of;
+use crate::block::block_of;
 use std::alloc::Global;
 use tl_c_beats::{AnswerBlock, StatusText, status_text};
 

@@ -1,6 +1,5 @@
 pub mod Names
 pub mod NewHeads
-pub mod Sizes
 pub mod Passing
 pub mod Noting
 pub mod Steps

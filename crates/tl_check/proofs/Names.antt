@@ -10,7 +10,6 @@ pub use Rattle.tl_burst.specs.Begun.{heads, left}
 pub use Rattle.tl_burst.specs.Handing.{ends, rest_of, fault_after, IsHanded, nothing, burst_of, burst_after, fault_in}
 pub use Rattle.tl_burst.specs.Tracking.{IsPlace}
 pub use Rattle.tl_check.specs.Inner.Passing.{AreAt, HasCome, HaveHead, IsWithin}
-pub use Rattle.tl_convert.proofs.Sizes.{tracker_bytes, tracker-few, tracker-fits}
 pub use Rattle.tl_convert.specs.Due.{due, part, far_beats_of}
 pub use Rattle.tl_lanes.specs.Lanes.{IsWidth}
 pub use Rattle.tl_msg.specs.Rules.{Rules}

@@ -1,4 +1,4 @@
--- A text that was read to its end and answered, before anything is written. Only private contracts use these words.
+-- A text that was read to its end, and its answer, before anything is written. Only private contracts use these words.
 use Rattle.std.specs.Prelude.{◌≢◌, ◌≤◌, ◌<◌, ℕ, List, length, Option, Result, Ok, Err, IfSome, Bool}
 use Rattle.std.specs.Io.KnownBytes.{IsAtEnd}
 use Rattle.tl_order.specs.Orders.{is_check}
@@ -6,13 +6,17 @@ use Rattle.tl_order.specs.declared.Order.{Order}
 use Rattle.tl_trace.specs.Faults.{IsFirstFault}
 use Rattle.tl_trace.specs.declared.fault.TraceKind.TheVariants as kinds
 use Rattle.tl_answer.specs.Inner.Parts.{spelled}
-use Rattle.tl_stream.specs.Inputs.{IsRefused}
+use Rattle.tl_trace.specs.declared.script.Script.{Script}
+use Rattle.tl_stream.specs.Inputs.{IsRefused, IsScriptRead, most_bytes}
 use Rattle.tl_answer.specs.Texts.{WasReadWhole, IsAnswer}
-use Rattle.tl_stream.specs.Inputs.{most_bytes}
 use Rattle.tl_stream.specs.declared.fault.TextFault.{TextFault}
 use Rattle.tl_stream.specs.declared.fault.TextFault.TheVariants as faults
 use Rattle.tl_stream.specs.declared.input.Input.{Input}
 use Rattle.tl_answer.specs.declared.parts.AnswerParts.{AnswerParts}
+
+-- a script that was read from a text to its end
+abbrev pub WasRead : {C M : ℕ} → Script C M → Type 0
+WasRead s = (version : ℕ) × (unread left : Option (List ℕ)) × IsScriptRead unread left version s
 
 -- the text was read to its end, and this is its answer
 pub record IsAnswerRead (unread left : Option (List ℕ)) (check : Bool) (made : AnswerParts) : Type 0 where
