@@ -1,11 +1,14 @@
 -- The status of a meeting of the sides that two handles hold.
 use Rattle.std.specs.Prelude.{◌≢◌, ◌==◌, ℕ, Bool, true, false, Option, None, Some, if◌then◌else◌}
 use Rattle.std.proofs.Common.{◌≡◌, refl, sym, ap, ◌∙◌, subst, rules, arith}
-use Rattle.tl_sides.specs.Sides.{AreSides, SameManager}
+use Rattle.std.specs.Global.{Global}
+use Rattle.tl_sides.specs.Legal.{SidesObey}
+use Rattle.tl_sides.specs.Sides.{AreSides, SameManager, SidesMeet, ClientState, ManagerState, ClientPast, ManagerPast}
 use Rattle.tl_c_beats.specs.declared.answers.TheConstants.{NOT_OPEN, BRIDGE_MISMATCH}
 use Rattle.tl_c.specs.declared.held.ClientHeld.{ClientHeld}
 use Rattle.tl_c.specs.declared.held.ManagerHeld.{ManagerHeld}
-use Rattle.tl_c.specs.Calls.{Keeps, MayMeet}
+use Rattle.tl_c.specs.declared.widths.TheConstants.{CLIENT, MANAGER}
+use Rattle.tl_c.specs.Calls.{Keeps, MayMeet, MeetLegally}
 use Rattle.tl_c.specs.Settling.{answer_of_two}
 use Rattle.tl_c.proofs.Keeping.{manager_same}
 
@@ -53,3 +56,17 @@ pub sides_held : {s : Option ClientHeld} {t : Option ManagerHeld} {h : ClientHel
     AreSides h.side k.side
 sides_held {t = t} {h = h} first second sides =
     subst (λ t. MayMeet (Some h) t) second (subst (λ s. MayMeet s t) first sides)
+
+-- both links obey the rules where two sides have met
+pub meet_legally : SidesObey Global CLIENT MANAGER → {s : ClientState Global CLIENT MANAGER} {t : ManagerState Global CLIENT MANAGER}
+    {x : ClientPast CLIENT MANAGER} {y : ManagerPast CLIENT MANAGER} → SidesMeet s t x y → MeetLegally s t x y
+meet_legally obey {s} {t} {x} {y} meets =
+    let fine = obey.alone s t x y meets in
+    record {
+      meets = meets;
+      b = fine.0;
+      c = fine.1;
+      e = fine.2;
+      begins = obey.begins;
+      goes_on = λ obeyed s' t' x' y' on. obey.goes_on s s' t t' x x' y y' on obeyed;
+    }

@@ -74,7 +74,8 @@ pub extern "C" fn tl_meet(
 /// Pumps and fetches on both sides of one bridge, in one thread, until nothing more can move. Then
 /// brings them together, and writes the number of far beats in the stage, the ring and the inbox of
 /// each channel. Afterwards beats are staged only if the ring is full, and are in a ring only if
-/// the inbox is full.
+/// the inbox is full. The sides have then met, with all that [`tl_meet`] promises: legal in, legal
+/// out.
 ///
 /// Returns 0 if they settled. Otherwise nothing changes. Errors: `NOT_OPEN` if a handle holds none;
 /// otherwise `BRIDGE_MISMATCH` if their numbers differ.
@@ -101,5 +102,6 @@ pub extern "C" fn tl_settle(
     ensures same { result ≢ 0 → (client.new.owned.held ≡ client.old.owned.held) ×
         (manager.new.owned.held ≡ manager.old.owned.held) × (counts.new ≡ counts.old) }
 {
+    sides_obey::<CLIENT, MANAGER, Global>();
     on_both!(client, manager, alloc, counts, settle)
 }

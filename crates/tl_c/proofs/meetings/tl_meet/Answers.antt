@@ -3,6 +3,7 @@ use Rattle.tl_c.specs.Calls.{HoldsClient, HoldsManager, HoldSides, HaveMet}
 use Rattle.tl_c.proofs.Counting.{counted}
 use Rattle.tl_c.proofs.Keeping.{held_at, kept, kept_none, client_same, manager_same}
 use Rattle.tl_c.proofs.Meeting.{not_open, bridge_mismatch, untouched, for_both, answer_no_client, answer_no_manager, answer_others, answer_met}
+use Rattle.tl_c.proofs.Meeting.{meet_legally}
 use Rattle.tl_c.proofs.BothWidths.{widths}
 use Rattle.tl_c.proofs.meetings.tl_meet.Goals as goal
 
@@ -64,18 +65,8 @@ returns c =
     let manager_now = c.put-3.ensures.held in
     record {
       answer = answer_met client manager c.take.ensures.number c.take-2.ensures.number c.if-client-manager.false;
-      met = λ x y h k zero.
-          let obey = c.sides_obey.ensures in
-          let meets = met.ensures.meets x y (subst (λ s. HoldsClient s x) client h) (subst (λ t. HoldsManager t y) manager k) in
-          let fine = obey.alone _ _ x y meets in
-          for_both (λ s t. HaveMet s t x y) client_now manager_now (record {
-            meets = meets;
-            b = fine.0;
-            c = fine.1;
-            e = fine.2;
-            begins = obey.begins;
-            goes_on = λ obeyed s' t' x' y' on. obey.goes_on _ s' _ t' x x' y y' on obeyed;
-          });
+      met = λ x y h k zero. for_both (λ s t. HaveMet s t x y) client_now manager_now (meet_legally c.sides_obey.ensures
+          (met.ensures.meets x y (subst (λ s. HoldsClient s x) client h) (subst (λ t. HoldsManager t y) manager k)));
       counts = λ zero. counted {s = record { side = met.new.client }} {t = record { side = met.new.manager }} client_now manager_now
           c.channel_counts.ensures met.ensures.standing_a met.ensures.standing_b met.ensures.standing_c met.ensures.standing_d met.ensures.standing_e;
       sides = λ zero. for_both HoldSides client_now manager_now (record {

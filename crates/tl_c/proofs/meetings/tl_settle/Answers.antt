@@ -5,8 +5,12 @@ use Rattle.tl_c.specs.Settling.{HaveSettled, AreStill}
 use Rattle.tl_c.proofs.Counting.{counted}
 use Rattle.tl_c.proofs.Keeping.{held_at, kept, kept_none, client_same, manager_same}
 use Rattle.tl_c.proofs.Meeting.{not_open, bridge_mismatch, untouched, for_both, sides_held}
-use Rattle.tl_c.proofs.Meeting.{answer_no_client, answer_no_manager, answer_others, answer_met}
+use Rattle.tl_c.proofs.Meeting.{answer_no_client, answer_no_manager, answer_others, answer_met, meet_legally}
+use Rattle.tl_c.proofs.BothWidths.{widths}
 use Rattle.tl_c.proofs.meetings.tl_settle.Goals as goal
+
+pub sides_obey-requires : goal.sides_obey-requires
+sides_obey-requires c = record { client = widths.0; manager = widths.1 }
 
 pub returns-in_default : goal.returns-in_default
 returns-in_default c =
@@ -67,8 +71,10 @@ returns c =
     let manager_now = c.put-3.ensures.held in
     record {
       answer = answer_met client manager c.take.ensures.number c.take-2.ensures.number c.if-client-manager.false;
-      settled = λ x y h k zero. for_both (λ s t. HaveSettled s t x y) client_now manager_now
-          (settled.ensures.settled x y (subst (λ s. HoldsClient s x) client h) (subst (λ t. HoldsManager t y) manager k));
+      settled = λ x y h k zero.
+          let settles = settled.ensures.settled x y (subst (λ s. HoldsClient s x) client h) (subst (λ t. HoldsManager t y) manager k) in
+          for_both (λ s t. HaveSettled s t x y) client_now manager_now
+          (record { settles = settles; legal = meet_legally c.sides_obey.ensures settles.meets });
       still = λ zero. for_both AreStill client_now manager_now settled.ensures.still;
       counts = λ zero. counted {s = record { side = settled.new.client }} {t = record { side = settled.new.manager }} client_now manager_now
           c.channel_counts.ensures settled.ensures.standing_a settled.ensures.standing_b settled.ensures.standing_c
