@@ -153,7 +153,7 @@ impl Input {
         }
     }
 
-    /// Reads to the end and discards the bytes. Errors: as `refill`.
+    /// Reads to the end and discards all bytes but those of the last piece. Errors: as `refill`.
     pub fn drain<R: Read>(&mut self, reader: &mut R) -> Result<(), TextFault>
         requires taken { (unread : Option (List ℕ)) × (used : List ℕ) ×
             HasTaken unread (R.remaining reader.old) used self.old }
@@ -161,6 +161,10 @@ impl Input {
             HasTaken unread (R.remaining reader.old) used self.old →
             OnOk result (IsAtEnd (R.remaining reader.new) × IfSome unread (λ text.
             length text ≤ most_bytes)) }
+        // (the last piece is still held)
+        ensures taken { (unread : Option (List ℕ)) → (used : List ℕ) →
+            HasTaken unread (R.remaining reader.old) used self.old →
+            OnOk result ((all : List ℕ) × HasTaken unread (R.remaining reader.new) all self.new) }
         ensures long { (unread : Option (List ℕ)) → (used : List ℕ) →
             HasTaken unread (R.remaining reader.old) used self.old →
             IsErrOf result TooLong → IfSome unread (λ text. most_bytes < length text) }

@@ -31,10 +31,11 @@ impl<'a> Read for Pieces<'a> {
 }
 
 /// A writer that takes some bytes per call, and fails at one call and, if configured so, at a
-/// flush.
+/// flush. It notes how many bytes it had taken at the last flush.
 #[derive(Drop)]
 struct Slow {
     taken: Vec<u8>,
+    flushed: usize,
     most: usize,
     calls: usize,
     bad_call: usize,
@@ -55,6 +56,7 @@ impl Write for Slow {
 
     fn flush(&mut self) -> io::Result<()> {
         if self.flushes {
+            self.flushed = self.taken.len();
             Ok(())
         } else {
             Err(io::Error::from(io::ErrorKind::Other))
@@ -150,11 +152,13 @@ const WRITERS: [Taken; 3] = [
     (1000, 0, false, false),
 ];
 
-/// Returns whether the text is written, or the result is a write fault, as the row expects.
+/// Returns whether the text is written and then flushed, or the result is a write fault, as the row
+/// expects.
 fn is_written(alloc: Global, row: &Taken, kind: io::ErrorKind) -> bool {
     let &(most, bad_call, flushes, is_well) = row;
     let mut writer = Slow {
         taken: Vec::new(alloc),
+        flushed: 0,
         most,
         calls: 0,
         bad_call,
@@ -162,7 +166,9 @@ fn is_written(alloc: Global, row: &Taken, kind: io::ErrorKind) -> bool {
         flushes,
     };
     match write_all(&mut writer, TEXT.as_bytes()) {
-        Ok(()) => is_well && writer.taken.as_slice() == TEXT.as_bytes(),
+        Ok(()) => {
+            is_well && writer.taken.as_slice() == TEXT.as_bytes() && writer.flushed == TEXT.len()
+        }
         Err(fault) => !is_well && fault == TextFault::Write,
     }
 }

@@ -38,3 +38,6 @@ pub returns-clause-ok : goal.returns-clause-ok
 returns-clause-ok g c unread used h =
     let t = c.loop-self.invariant.taken unread used h in
     all_read unread (g.R.Read.remaining c.loop-self.reader) t.0 c.loop-self.self t.1 (sym c.is_full.ensures ∙ c.loop-self-test.false)
+
+pub returns-clause-taken : goal.returns-clause-taken
+returns-clause-taken g c unread used h = c.loop-self.invariant.taken unread used h
