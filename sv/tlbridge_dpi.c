@@ -29,8 +29,9 @@ uint8_t tlbridge_open(void *bridge, int client, int manager, uint64_t ring) {
     const pair_calls *calls = pair_of((unsigned)client, (unsigned)manager);
     tlbridge_free(bridge);
     if (calls == NULL) return OTHER_WIDTH;
-    b->calls = calls;
-    return calls->open(&b->client, &b->manager, ring);
+    uint8_t status = calls->open(&b->client, &b->manager, ring);
+    if (status == TL_OK) b->calls = calls;
+    return status;
 }
 
 #define MOVE(call, which) \

@@ -625,7 +625,9 @@ static void view(tl_scoreboard *board, int link, int channel, const entry *came)
     link_view *view = &board->views[link];
     uint32_t *left = &view->left[channel];
     if (channel != A && channel != D) return;
-    bool begins = *left == 0 || !is_alike(channel, &came->beat, &view->heads[channel]);
+    const tl_beat *head = &view->heads[channel];
+    bool continues = has_count(channel, head) ? is_alike(channel, &came->beat, head) : same_head(channel, &came->beat, head);
+    bool begins = *left == 0 || !continues;
     if (begins) {
         *left = has_count(channel, &came->beat) ? beats_of(channel, &came->beat, width_of(board, link)) : UINT32_MAX;
         view->heads[channel] = came->beat;

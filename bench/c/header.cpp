@@ -11,7 +11,7 @@ static_assert(sizeof(tl_beat) == 40 && offsetof(tl_beat, mask) == 8 && offsetof(
                   offsetof(tl_beat, opcode) == 20 && offsetof(tl_beat, corrupt) == 24 && offsetof(tl_beat, reserved) == 25 &&
                   offsetof(tl_beat, mask_high) == 32,
               "a beat");
-static_assert(sizeof(tl_8_4_client) == 24 && sizeof(tl_8_4_manager) == 24 && offsetof(tl_8_4_client, live) == 8 &&
+static_assert(sizeof(tl_8_4_client) == 24 && sizeof(tl_8_4_manager) == 24 && offsetof(tl_8_4_client, is_open) == 8 &&
                   offsetof(tl_8_4_manager, bridge) == 16,
               "the handles of the two sides");
 static_assert(sizeof(tl_counts) == 24 && sizeof(tl_standings) == 120 && sizeof(tl_text) == 160 && sizeof(tl_answer) == 40, "what calls write");

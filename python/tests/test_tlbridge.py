@@ -332,14 +332,16 @@ class Watched(unittest.TestCase):
         patch.start()
         self.addCleanup(patch.stop)
 
-    def watch(self, cycles, reset="0"):
+    def watch(self, cycles, reset="0", with_reset=True, **words):
         """Lets both links be watched over cycles of signals by their names, and ends the board."""
         import cocotb
 
         board, dut, watches = Scoreboard(8, 4), Design(reset=reset), []
+        if with_reset:
+            words["reset"] = dut.reset
         cocotb.start_soon = watches.append
-        cocotb.start_soon(board.watch("client", dut.clock, lambda channel, field: getattr(dut, f"client_{channel}_{field}"), dut.reset))
-        cocotb.start_soon(board.watch("manager", dut.clock, lambda channel, field: getattr(dut, f"manager_{channel}_{field}"), dut.reset))
+        cocotb.start_soon(board.watch("client", dut.clock, lambda channel, field: getattr(dut, f"client_{channel}_{field}"), **words))
+        cocotb.start_soon(board.watch("manager", dut.clock, lambda channel, field: getattr(dut, f"manager_{channel}_{field}"), **words))
         for watch in watches:
             watch.send(None)
         for self.now, dut.values in enumerate(cycles, 1):
@@ -378,6 +380,33 @@ class Watched(unittest.TestCase):
         asserted = {"reset": "1"}
         self.assertEqual(self.watch([self.CLIENT, asserted, asserted, self.CLIENT, self.MANAGER, self.ANSWERED, self.CAME]),
                          (0, ["time 2: reset of the client's link: 1 beats in flight on both links are not judged"]))
+
+    def test_no_reset(self):
+        """A link without a reset, and one whose reset is unknown, are judged."""
+        cycles = [self.CLIENT, self.MANAGER, self.ANSWERED, self.CAME]
+        self.assertEqual(self.watch(cycles, with_reset=False), (0, []))
+        self.assertEqual(self.watch([{**cycle, "reset": "x"} for cycle in cycles]), (0, []))
+
+    def test_each_channel(self):
+        """A release, its acknowledgement, a probe and its answer, a Grant and its acknowledgement, in whatever order the channels are named."""
+        up = {"valid": "1", "ready": "1"}
+        fields = {"a": dict(opcode="110", size="0011", source="111", address=f"{0x2000:032b}"), "b": dict(opcode="110", size="0011", source="11", address=f"{0x3000:032b}"),
+                  "c": dict(opcode="110", size="0011", source="101", address=f"{0x1008:032b}", data="x"), "d": dict(opcode="100", size="0011", source="111", sink="10"),
+                  "e": dict(sink="10")}
+        cycles = [{f"{link}_{channel}_{field}": value for channel in channels for field, value in {
+            **fields[channel], **up, **({"mask": {"client": "1" * 8, "manager": "1" * 4}[link]} if channel in "ab" else {})}.items()}
+            for link, channels in (("client", "ace"), ("manager", "ace"), ("manager", "bd"), ("client", "bd"))]
+        for channels in ("ABCDE", "EDCBA"):
+            self.assertEqual(self.watch(cycles, channels=channels), (0, []))
+            wrong = [*cycles[:1], {**cycles[1], "manager_e_sink": "11", "manager_c_source": "100"}, cycles[2], {**cycles[3], "client_b_param": "001"}]
+            self.assertEqual(self.watch(wrong, channels=channels), (3, [
+                "time 2: far C beat 0; source got 0004, expected 0005", "time 2: far E beat 0; sink got 0003, expected 0002",
+                "time 4: far B beat 0; param got 1, expected 0"]))
+
+    def test_two_unknown_fields(self):
+        """They are one difference, and one line names both."""
+        cycles = [self.CLIENT, {**self.MANAGER, "manager_a_param": "00z", "manager_a_corrupt": "x"}, self.ANSWERED, self.CAME]
+        self.assertEqual(self.watch(cycles), (1, ["time 2: A beat of the manager's link has unknown bits: param is x, corrupt is x"]))
 
     def test_unknown_bits(self):
         self.assertEqual(number_of(types.SimpleNamespace(value="1xz0")), 8)

@@ -92,7 +92,7 @@ def load(path: Optional[str] = None) -> c.CDLL:
         try:
             library = c.CDLL(found)
         except OSError as error:
-            raise MissingLibrary(f"{found}: {error}") from error
+            raise MissingLibrary(str(error)) from error  # which begins with the path
         library.tl_scoreboard_pairs.restype = c.c_char_p
         _loaded = library
     return _loaded

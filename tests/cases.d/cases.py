@@ -4,7 +4,8 @@ tests/checker.d/model.py."""
 from dataclasses import dataclass, replace
 from typing import List
 
-from traffic import (CLIENT, FIELDS, MANAGER, Event, Exchange, bits_of, broken, exchange, far_of, flipped, head_said, moved, of, reported, reset)
+from traffic import (CLIENT, FIELDS, MANAGER, Event, Exchange, bits_of, broken, exchange, far_of, flipped, head_said, moved, of, packed, renumbered, reported,
+                     reset)
 
 FAULTS = {1: "Opcode", 2: "Param", 3: "Size", 4: "Unaligned", 5: "Mask", 6: "Corrupt", 7: "HeadChanged", 10: "SizeMismatch"}
 
@@ -59,6 +60,10 @@ def of_both_links(client, manager):
         made, line = changed(made, of(made, channel)[1], name)
         lines.append(line)
     yield Case("a mistake in each channel", made, 5, sorted(lines, key=lambda line: int(line.split()[1][:-1])))
+    for channel in "BC":
+        last = [event for event in events if event.channel in (channel, "R")]
+        made, line = changed(last, len(last) - 1, "param")
+        yield Case(f"a mistake in the last beat, of {channel}", made, 1, [line])
     at_once = Exchange(client, manager, step=0)
     at_once.time = 500
     for channel in "BCE":
@@ -89,10 +94,10 @@ def of_lost_beats(client, manager):
             f"time {again.time}: far {channel} beat {again.number}: {head_said(again)}: unexpected", *said[:20], *more])
 
 
-def of_refused_beats(client, manager):
+def of_refused_beats(client, manager, *faults):
     """A near beat breaks a rule. The traffic after it is judged, and one far beat of the same channel in it is wrong."""
     for channel in "ABCD":
-        for fault in (1, 2, 3, 4, 5, 6, 7, 10):
+        for fault in faults or FAULTS:
             place = "middle" if fault == 7 else "only"
             events = started(exchange(client, manager))
             made = broken(events, channel, fault, place)
@@ -119,19 +124,34 @@ def of_resets(client, manager):
         yield Case(f"link {first} leaves the reset first, and sends", [*apart, *far], 0, opened)
         wrong, line = changed(far, len(far) - 1, "data")
         yield Case(f"link {first} leaves the reset first, and a mistake", [*apart, *wrong], 1, [line, *opened])
-    events = started(exchange(client, manager))
-    last = of(events, "B")[-1]
-    at = next(i for i in of(events, "C", far=False) if events[i].place in ("first", "middle") and i > last)
-    time = events[at].time
+    for channel in "ABCD":
+        yield from of_resets_amid(client, manager, channel)
+
+
+def of_resets_amid(client, manager, channel):
+    """A burst of a channel is cut by a reset; then there is other traffic, also with sources of requests that had no response, and a mistake at its end."""
     for links in ((CLIENT,), (MANAGER,), (CLIENT, MANAGER)):
+        events = started(exchange(client, manager))
+        # after its first beat, or before its last one
+        bursts = of(events, channel, far=False, place="first")
+        at = max(bursts, key=lambda i: events[i].head["size"]) if len(links) == 1 else of(events, channel, far=False, place="middle")[-1]
+        time = events[at].time
+        after = Exchange(client, manager, seed=2)
+        source = [event.head["source"] for event in events[:at + 1] if event.channel == "A"][-1]
+        for address in (0x1007, 0x2001):
+            after.ask(4, 0, 1, source=source, address=address)
+        made = [*packed(after.events), *moved(exchange(client, manager, seed=2), after.time)]
+        made = renumbered(moved(made, time + 200))
+        made, line = changed(made, of(made, "E")[-1], "sink")
         order = [*events[:at + 1], *[reset(time + 10 * i + 10, link, True) for i, link in enumerate(links)],
-                 *[reset(time + 100 + 10 * i, link, False) for i, link in enumerate(links)], *moved(exchange(client, manager, seed=2), time + 200)]
+                 *[reset(time + 100 + 10 * i, link, False) for i, link in enumerate(links)], *made]
         name = "client" if links[0] == CLIENT else "manager"
-        yield Case(f"a reset of {len(links)} links amid a burst, {name} first", order, 0, [f"time {time + 10}: reset of the {name}'s link: .."])
+        yield Case(f"a reset of {len(links)} links amid a burst of {channel}, {name} first", order, 1, [f"time {time + 10}: reset of the {name}'s link: ..", line])
 
 
 def of_ends(client, manager):
     yield Case("lawful traffic", started(exchange(client, manager)), 0, [], True)
+    yield Case("lawful traffic in few cycles", packed(started(exchange(client, manager))), 0, [])
     yield Case("far beats before their near beats", started(exchange(client, manager, far_first=True)), 0, [])
     yield Case("no beat", [reset(10, CLIENT, True), reset(20, CLIENT, False)], 1,
                ["time 0: no beat was accepted on either link, so nothing was compared"])

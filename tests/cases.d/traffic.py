@@ -6,6 +6,7 @@ plant a mistake in it, and `reported` says in which words a scoreboard has to re
 import random
 import sys
 from dataclasses import dataclass, field, replace
+from functools import lru_cache
 from pathlib import Path
 from typing import Dict, List, Tuple
 
@@ -145,8 +146,13 @@ REQUESTS = ((0, 0), (1, 0), (2, 1), (3, 1), (4, 1), (5, 2), (6, 5), (7, 4), (6, 
 OTHERS = {"B": (0, 1, 2, 3, 4, 5, 6, 7), "C": (0, 1, 2, 4, 5, 6, 7)}
 
 
-def exchange(client, manager, seed=1, step=10, far_first=False, rounds=1, most=None, id_bits=16):
+def exchange(client, manager, **more):
     """Each message of each channel, of sizes around both widths, up to `most`."""
+    return list(made_exchange(client, manager, **more))
+
+
+@lru_cache(maxsize=None)
+def made_exchange(client, manager, seed=1, step=10, far_first=False, rounds=1, most=None, id_bits=16):
     made = Exchange(client, manager, seed, step, id_bits)
     low, high = sorted((client.bit_length() - 1, manager.bit_length() - 1))
     most = min(high + 2, 12) if most is None else most
@@ -281,3 +287,25 @@ def head_said(event):
 
 def moved(events, by):
     return [replace(event, time=event.time + by) for event in events]
+
+
+def renumbered(events):
+    """The events, each with its number on its channel and link."""
+    counts, made = {}, []
+    for event in events:
+        key = event.link, event.channel
+        counts[key] = counts.get(key, -1) + 1
+        made.append(replace(event, number=counts[key]))
+    return made
+
+
+def packed(events):
+    """The same traffic in few cycles: a beat has the time of the one before, unless its channel has a beat of its link at this time. So a response may
+    come in the cycle of its request, a request in the cycle in which its source becomes free, and a far beat in the cycle of its near beat."""
+    time, seen, made = events[0].time, set(), []
+    for event in events:
+        if (event.link, event.channel) in seen or (event.channel != "R" and "R" in {channel for _, channel in seen}):
+            time, seen = time + 10, set()
+        seen.add((event.link, event.channel))
+        made.append(replace(event, time=time))
+    return made

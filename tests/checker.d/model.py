@@ -44,7 +44,16 @@ class Settings:
     MATCH_OPCODES: int = 0
     RESYNC_AFTER_FAULT: int = 1
     JUDGE_OFFERED: int = 0
+    ASSUME_OFFERED: int = 0
+    ASSUME_CLIENT: int = 0
+    ASSUME_MANAGER: int = 0
     MAX_REPORTS: int = 20
+
+    def is_assumed(self, channel):
+        return bool(self.ASSUME_CLIENT if channel in "AC" else self.ASSUME_MANAGER)
+
+    def judges_offered(self, channel):
+        return bool(self.ASSUME_OFFERED if self.is_assumed(channel) else self.JUDGE_OFFERED)
 
 
 def name_of(channel, beat):
@@ -195,8 +204,9 @@ class Checker:
         """The fault of each beat that is judged; the state goes on with those that are accepted."""
         link, settings = self.link, self.settings
         request = self.offered_request(beats, "A" in accepted, "D" in accepted)
-        judged = set(beats) if settings.JUDGE_OFFERED else set(accepted)
+        judged = {channel for channel in beats if channel in accepted or settings.judges_offered(channel)}
         faults = {channel: link.fault(channel, beats[channel], False, request) for channel in judged - set(accepted)}
+        waits = "A" in faults and not faults["A"] and not link.open["A"] and link.answered is None and beats["A"].source in link.in_flight
         to_offered = request if "A" not in accepted else None
         before = {channel: self.judged(channel, beats[channel], to_offered) for channel in accepted}
         fixed = {"A": not settings.ALLOW_SAME_CYCLE_REUSE, "D": not settings.ALLOW_SAME_CYCLE_RESPONSE}
@@ -213,7 +223,11 @@ class Checker:
                     taken.add(channel)
                     moved = True
             if not moved:
-                return faults, request
+                break
+        # an offered request waits for its source; it is assumed not to be offered before this
+        if waits and settings.is_assumed("A") and (beats["A"].source in link.in_flight or not settings.ALLOW_SAME_CYCLE_REUSE):
+            faults["A"] = "SourceBusy"
+        return faults, request
 
     def cycle(self, reset, beats, accepted):
         """The faults, the count after the edge, `overflow`, and the reports, of a cycle with these offered beats."""

@@ -1,8 +1,80 @@
-"""Cycles of a link at random, lawful and faulty, that follow the state of its rules."""
+"""Cycles of a link: by tables of messages and of lanes, and at random, lawful and faulty, that follow the state of its rules."""
 import random
 from dataclasses import replace
 
 from model import CHANNELS, NAMES, PARAMS, Beat, Checker, Settings, answers_a_request, has_data
+
+
+def judged(settings, cycles):
+    """A script of cycles, each with beats that are all accepted: what the checker has to say of each. None is a reset."""
+    checker = Checker(settings)
+    for beats in cycles:
+        reset, beats = int(beats is None), beats or {}
+        yield reset, beats, set(beats), checker.cycle(reset, beats, set(beats))
+
+
+def messages(settings):
+    """Each opcode of each channel: each param, a corrupt bit, a size that is too large, each bit of a head that changes, and a burst of two beats."""
+    size = settings.DATA_BYTES.bit_length()
+    for channel in CHANNELS:
+        for opcode in range(8):
+            head = Beat(opcode, 0, size, 5, 0 if channel == "D" else 0x8000, (1 << settings.DATA_BYTES) - 1 if channel in "AB" else 0)
+            asked = [{"A": Beat(4, 0, size, 5, 0x8000, (1 << settings.DATA_BYTES) - 1)}] if channel == "D" else []
+            for change in [{}, {"corrupt": 1}, {"size": 12}, {"size": 13}, *({"param": param} for param in range(1, 4 if channel == "D" else 8))]:
+                yield from [None, *asked, {channel: replace(head, **change)}, {channel: head}, {channel: head}]
+            if has_data(channel, head):
+                bits = {"opcode": 3, "param": 2 if channel == "D" else 3, "size": settings.SIZE_BITS, "source": settings.SOURCE_BITS}
+                bits.update({"sink": settings.SINK_BITS, "denied": 1} if channel == "D" else {"address": settings.ADDRESS_BITS})
+                for name, bit in ((name, bit) for name, count in bits.items() for bit in {0, count // 2, count - 1}):
+                    yield from [None, *asked, {channel: head}, {channel: replace(head, **{name: getattr(head, name) ^ 1 << bit})}, {channel: head}]
+
+
+def pairs_of_faults(settings):
+    """Beats with two faults at once: the first rule counts."""
+    mask = (1 << settings.DATA_BYTES) - 1
+    for channel in CHANNELS:
+        for opcode in range(8):
+            size = settings.DATA_BYTES.bit_length() - 1
+            head = Beat(opcode, 0, size, 5, 0 if channel == "D" else 0x8000, mask if channel in "AB" else 0)
+            changes = [{"param": 3 if channel == "D" else 7}, {"size": 13}, {"corrupt": 1}, {"size": size + 1}, {"source": 6}]
+            changes += [] if channel == "D" else [{"address": 0x8001}, {"address": 0x8001, "size": 1}]
+            changes += [{"mask": 1 << settings.DATA_BYTES - 1}, {"mask": 0}] if channel in "AB" else []
+            yield from [None, {"A": Beat(4, 0, size, 6, 0x8000, mask)}]
+            for one in changes:
+                for other in changes:
+                    yield {channel: replace(head, **{**one, **other})}
+                    if settings.RESYNC_AFTER_FAULT:
+                        yield from [None, {"A": Beat(4, 0, size, 6, 0x8000, mask)}]
+
+
+def lanes(settings):
+    """On A and B: each aligned block of lanes of each size, with its mask, and with one bit more or less at each end; and each bit of an address."""
+    width = settings.DATA_BYTES
+    for size in range(width.bit_length() + 1):
+        wide = min(1 << size, width)
+        for at in range(0, width, wide) if width <= 32 or size > 1 else (0, 1 << size, width // 2, width - wide):
+            mask = ((1 << wide) - 1) << at
+            ends = {1 << at, 1 << at + wide - 1, 1 << (at + wide) % width, 1 << (at - 1) % width}
+            for opcode in (4, 1):
+                for wrong in (0, *ends):
+                    beat = Beat(opcode, 0, size, 5, 0xF000 + (at if size < width.bit_length() else 0), mask ^ wrong)
+                    yield from [None, {"A": beat, "B": beat}]
+    for size in range(min(13, 1 << settings.SIZE_BITS)):
+        for bit in (*range(14), settings.ADDRESS_BITS - 1):
+            yield from [None, {"C": Beat(6, 0, size, 5, 1 << bit), "B": Beat(6, 0, size, 5, 1 << bit, 0)}]
+
+
+def in_flight(settings):
+    """A request of each source in turn is answered later than the next one: with its size, another one, and once more."""
+    sizes = range(min(13, 1 << settings.SIZE_BITS))
+    sources = [1 << bit for bit in range(settings.SOURCE_BITS)] + [0, (1 << settings.SOURCE_BITS) - 1]
+    mask = (1 << settings.DATA_BYTES) - 1
+    asked = [Beat(5, 0, max(size, settings.DATA_BYTES.bit_length() - 1) if size in sizes else sizes[-1], source, 0, mask) for source, size in zip(sources, [*sizes] * 2)]
+    for change in (0, 1, 8):
+        yield None
+        for now, before in zip([*asked, None], [None, *asked]):
+            answers = [{"D": Beat(2, 0, before.size ^ change, before.source)}] if before else []
+            yield from [*([{"A": now}] if now else []), *answers, *answers]
 
 
 class Cycles:

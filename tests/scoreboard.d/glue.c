@@ -206,6 +206,8 @@ static void test_without_a_bridge(void *bridge, const char *when) {
     for (char x = 'A'; x <= 'E'; x++) {
         beat = head_of(x, 0, 0);
         CHECK(ready_of[x - 'A'](bridge) == 0 && close_of[x - 'A'](bridge) == NOT_OPEN && offer_wires(bridge, x, &beat) == NOT_OPEN);
+        if (x != 'E') put_lane(&beat, 127, 1); /* it would not fit */
+        CHECK(offer_wires(bridge, x, &beat) == NOT_OPEN);
         CHECK(!take_wires(bridge, x, &beat) && same(&beat, &none));
     }
 }

@@ -40,6 +40,62 @@ static_assert(TL_CLIENT_LINK == 0 && TL_MANAGER_LINK == 1 && TL_COMPARE_UNMASKED
 
 TLBRIDGE(8, 4)
 
+AT(tl_8_4_client, impl, 0);
+AT(tl_8_4_client, is_open, 8);
+AT(tl_8_4_client, bridge, 16);
+AT(tl_8_4_manager, impl, 0);
+AT(tl_8_4_manager, is_open, 8);
+AT(tl_8_4_manager, bridge, 16);
+AT(tl_totals, bridge, 0);
+AT(tl_totals, a, 8);
+AT(tl_totals, e, 40);
+static_assert(sizeof(tl_8_4_client) == 24 && sizeof(tl_8_4_manager) == 24 && sizeof(tl_totals) == 48 && sizeof(tl_id) == 2, "sizes");
+static_assert(sizeof(((tl_beat *)0)->reserved) == 7 && sizeof(((tl_text *)0)->name) == 16 && sizeof(((tl_text *)0)->sentence) == 144, "sizes");
+
+/* Each call again: a prototype that differs does not compile. */
+#ifdef __cplusplus
+extern "C" {
+#endif
+uint8_t tl_8_4_open(tl_8_4_client *, tl_8_4_manager *, size_t, uint64_t);
+uint8_t tl_8_4_meet(tl_8_4_client *, tl_8_4_manager *, tl_standings *);
+uint8_t tl_8_4_settle(tl_8_4_client *, tl_8_4_manager *, tl_standings *);
+void tl_8_4_status_text(uint8_t, tl_text *);
+uint32_t tl_8_4_version(void);
+#define SIDE_AGAIN(side) \
+    void tl_8_4_free_##side(tl_8_4_##side *); \
+    size_t tl_8_4_pump_##side(tl_8_4_##side *); \
+    size_t tl_8_4_fetch_##side(tl_8_4_##side *); \
+    uint8_t tl_8_4_count_##side(tl_8_4_##side *, tl_totals *); \
+    uint8_t tl_8_4_finish_##side(tl_8_4_##side *, tl_totals *); \
+    uint8_t tl_8_4_drained_##side(tl_8_4_##side *, const tl_totals *);
+#define CHANNEL_AGAIN(x, near, near_lanes, far, far_lanes) \
+    bool tl_8_4_ready_##x(tl_8_4_##near *); \
+    uint8_t tl_8_4_offer_##x(tl_8_4_##near *, const tl_beat *, const uint8_t[near_lanes]); \
+    bool tl_8_4_take_##x(tl_8_4_##far *, tl_beat *, uint8_t[far_lanes]); \
+    uint8_t tl_8_4_close_##x(tl_8_4_##near *);
+SIDE_AGAIN(client)
+SIDE_AGAIN(manager)
+CHANNEL_AGAIN(a, client, 8, manager, 4)
+CHANNEL_AGAIN(b, manager, 4, client, 8)
+CHANNEL_AGAIN(c, client, 8, manager, 4)
+CHANNEL_AGAIN(d, manager, 4, client, 8)
+CHANNEL_AGAIN(e, client, 8, manager, 4)
+uint8_t tl_answer_trace(const uint8_t *, size_t, uint8_t, tl_answer *);
+void tl_answer_free(tl_answer *);
+void tl_status_text(uint8_t, tl_text *);
+tl_scoreboard *tl_scoreboard_open(unsigned, unsigned, unsigned);
+const char *tl_scoreboard_pairs(void);
+void tl_scoreboard_free(tl_scoreboard *);
+void tl_scoreboard_reset(tl_scoreboard *, int, bool, uint64_t);
+void tl_scoreboard_beat(tl_scoreboard *, int, char, uint64_t, const tl_beat *, const uint8_t *);
+const char *tl_scoreboard_next_message(tl_scoreboard *, uint64_t *);
+uint64_t tl_scoreboard_finish(tl_scoreboard *);
+uint64_t tl_scoreboard_beats(const tl_scoreboard *);
+uint64_t tl_scoreboard_differences(const tl_scoreboard *);
+#ifdef __cplusplus
+}
+#endif
+
 /* Whether a far beat that waits at any one place of any channel makes tl_drained false. */
 static bool sees_each_place(void) {
     tl_standings none, some;

@@ -6,6 +6,7 @@
  */
 #include "../../sv/tlbridge_calls.h"
 #include <pthread.h>
+#include <stdio.h>
 #include <stdlib.h>
 #include <string.h>
 
@@ -65,8 +66,15 @@ typedef struct {
     uint64_t sent, taken; /* far beats */
 } crossing;
 
+/* What a handle points to. */
 typedef struct {
-    unsigned widths[2];
+    struct bridge *all;
+    int side; /* 0: the client's, 1: the manager's */
+} hold;
+
+typedef struct bridge {
+    unsigned client, manager; /* widths */
+    hold holds[2];
     int holders;
     pthread_mutex_t lock;
     crossing of[CHANNELS];
@@ -270,6 +278,9 @@ static bridge *make(unsigned client, unsigned manager, size_t ring) {
     bridge *all = calloc(1, sizeof *all);
     if (all == NULL) return NULL;
     pthread_mutex_init(&all->lock, NULL);
+    all->client = client;
+    all->manager = manager;
+    for (int side = 0; side < 2; side++) all->holds[side] = (hold){all, side};
     all->holders = 2;
     bool made = true;
     for (int x = 0; x < CHANNELS; x++) {
@@ -283,9 +294,17 @@ static bridge *make(unsigned client, unsigned manager, size_t ring) {
     return NULL;
 }
 
-static void release(void **held, bool *live) {
-    bridge *all = *held;
-    *held = NULL;
+/* The bridge of a handle. The program ends if it is not of this side and of this pair of widths: the library would misread its memory. */
+static bridge *held_by(void *impl, int side, unsigned client, unsigned manager) {
+    const hold *held = impl;
+    if (held->side == side && held->all->client == client && held->all->manager == manager) return held->all;
+    fprintf(stderr, "plain_bridge: a handle of another side, or of another pair, than %d of %u:%u\n", side, client, manager);
+    abort();
+}
+
+static void release(void **impl, bool *live, int side, unsigned client, unsigned manager) {
+    bridge *all = *impl == NULL ? NULL : held_by(*impl, side, client, manager);
+    *impl = NULL;
     *live = false;
     if (all == NULL) return;
     pthread_mutex_lock(&all->lock);
@@ -315,52 +334,55 @@ static void status_text(uint8_t answer, tl_text *text) {
 
 /* ---- The calls of each pair */
 
-#define LOCKED(result, expression) \
+#define SIDE_OF_client 0
+#define SIDE_OF_manager 1
+#define LOCKED(cw, mw, which, result, expression) \
     if (!side->is_open) return 0; \
-    bridge *all = side->impl; \
+    bridge *all = held_by(side->impl, SIDE_OF_##which, cw, mw); \
     pthread_mutex_lock(&all->lock); \
     result value = expression; \
     pthread_mutex_unlock(&all->lock); \
     return value;
 #define CHANNEL(cw, mw, x, channel, sender, near_width, taker, far_width) \
     bool TL_CALL(cw, mw, ready_##x)(TL_CALL(cw, mw, sender) *side) { \
-        LOCKED(bool, !all->of[channel].closed && all->of[channel].stage.count == 0) \
+        LOCKED(cw, mw, sender, bool, !all->of[channel].closed && all->of[channel].stage.count == 0) \
     } \
     uint8_t TL_CALL(cw, mw, offer_##x)(TL_CALL(cw, mw, sender) *side, const tl_beat *beat, const uint8_t lanes[near_width]) { \
         if (!side->is_open) return TL_NOT_OPEN; \
-        LOCKED(uint8_t, offer(all, channel, beat, lanes)) \
+        LOCKED(cw, mw, sender, uint8_t, offer(all, channel, beat, lanes)) \
     } \
     bool TL_CALL(cw, mw, take_##x)(TL_CALL(cw, mw, taker) *side, tl_beat *beat, uint8_t lanes[far_width]) { \
-        LOCKED(bool, take(all, channel, beat, lanes)) \
+        LOCKED(cw, mw, taker, bool, take(all, channel, beat, lanes)) \
     } \
     uint8_t TL_CALL(cw, mw, close_##x)(TL_CALL(cw, mw, sender) *side) { \
         if (!side->is_open) return TL_NOT_OPEN; \
-        LOCKED(uint8_t, all->of[channel].came > 0 ? TL_MID_BURST : (all->of[channel].closed = true, TL_OK)) \
+        LOCKED(cw, mw, sender, uint8_t, all->of[channel].came > 0 ? TL_MID_BURST : (all->of[channel].closed = true, TL_OK)) \
     }
 #define PLAIN_SIDE(cw, mw, which, number) \
     void TL_CALL(cw, mw, free_##which)(TL_CALL(cw, mw, which) *side) { \
-        release(&side->impl, &side->is_open); \
+        release(&side->impl, &side->is_open, number, cw, mw); \
         side->bridge = 0; \
     } \
-    size_t TL_CALL(cw, mw, pump_##which)(TL_CALL(cw, mw, which) *side) { LOCKED(size_t, pump(all, number)) } \
-    size_t TL_CALL(cw, mw, fetch_##which)(TL_CALL(cw, mw, which) *side) { LOCKED(size_t, fetch(all, number)) } \
+    size_t TL_CALL(cw, mw, pump_##which)(TL_CALL(cw, mw, which) *side) { LOCKED(cw, mw, which, size_t, pump(all, number)) } \
+    size_t TL_CALL(cw, mw, fetch_##which)(TL_CALL(cw, mw, which) *side) { LOCKED(cw, mw, which, size_t, fetch(all, number)) } \
     uint8_t TL_CALL(cw, mw, count_##which)(TL_CALL(cw, mw, which) *side, tl_totals *totals) { \
         if (!side->is_open) return TL_NOT_OPEN; \
-        LOCKED(uint8_t, (*totals = totals_of(all, number, side->bridge), TL_OK)) \
+        LOCKED(cw, mw, which, uint8_t, (*totals = totals_of(all, number, side->bridge), TL_OK)) \
     } \
     uint8_t TL_CALL(cw, mw, finish_##which)(TL_CALL(cw, mw, which) *side, tl_totals *receipt) { \
         if (!side->is_open) return TL_NOT_OPEN; \
-        LOCKED(uint8_t, finish(all, number, side->bridge, receipt)) \
+        LOCKED(cw, mw, which, uint8_t, finish(all, number, side->bridge, receipt)) \
     } \
     uint8_t TL_CALL(cw, mw, drained_##which)(TL_CALL(cw, mw, which) *side, const tl_totals *receipt) { \
         if (!side->is_open) return TL_NOT_OPEN; \
-        LOCKED(uint8_t, drained(all, number, side->bridge, receipt)) \
+        LOCKED(cw, mw, which, uint8_t, drained(all, number, side->bridge, receipt)) \
     }
 #define PLAIN_MEETING(cw, mw, name, settles) \
     uint8_t TL_CALL(cw, mw, name)(TL_CALL(cw, mw, client) *client, TL_CALL(cw, mw, manager) *manager, tl_standings *standings) { \
         if (!client->is_open || !manager->is_open) return TL_NOT_OPEN; \
         if (client->bridge != manager->bridge) return TL_BRIDGE_MISMATCH; \
-        bridge *all = client->impl; \
+        bridge *all = held_by(client->impl, 0, cw, mw); \
+        if (held_by(manager->impl, 1, cw, mw) != all) return TL_BRIDGE_MISMATCH; \
         while (settles && pump(all, 0) + pump(all, 1) + fetch(all, 0) + fetch(all, 1) > 0) {} \
         *standings = standings_of(all); \
         return TL_OK; \
@@ -381,7 +403,8 @@ static void status_text(uint8_t answer, tl_text *text) {
         if (ring < 1 || ring > TL_MAX_RING) return TL_RING_SIZE; \
         bridge *all = make(cw, mw, ring); \
         if (all == NULL) return TL_OUT_OF_MEMORY; \
-        client->impl = manager->impl = all; \
+        client->impl = &all->holds[0]; \
+        manager->impl = &all->holds[1]; \
         client->is_open = manager->is_open = true; \
         client->bridge = manager->bridge = number; \
         return TL_OK; \

@@ -310,9 +310,12 @@ class AtItsEnd(unittest.TestCase):
     def test_with(self):
         """A `with` block that ends with differences raises, unless it was left by another error."""
         begin = "from tlbridge import Beat, Scoreboard\nwith Scoreboard(8, 4) as board:\n board.beat('client', 'E', 1, Beat(sink=1))\n"
-        ran = self.run_apart(begin)
+        ran = self.run_apart(begin + " board.beat('manager', 'E', 2, Beat(sink=1)); board.beat('client', 'E', 3, Beat(sink=2))")
         self.assertEqual(ran.returncode, 1)
-        self.assertTrue(ran.stderr.endswith("Differs: 1 differences in 1 beats\ntime 1: far E beat 0: sink 0001: expected but missing\n"), ran.stderr)
+        self.assertTrue(ran.stderr.endswith("Differs: 1 differences in 3 beats\ntime 3: far E beat 1: sink 0002: expected but missing\n"), ran.stderr)
+        ran = self.run_apart("import tlbridge\nfrom tlbridge import Beat\nboard = tlbridge.Scoreboard(8, 4)\ntry:\n with board: board.beat('client', 'E', 1, Beat(sink=1))\n"
+                             "except tlbridge.Differs as differs: print(differs.board is board, isinstance(differs, AssertionError))")
+        self.assertEqual((ran.stdout, ran.stderr), ("True True\n", ""))
         ran = self.run_apart(begin + " board.beat('manager', 'E', 1, Beat(sink=1))")
         self.assertEqual((ran.returncode, ran.stderr), (0, ""))
         ran = self.run_apart(begin + " raise KeyError('own')")
@@ -434,6 +437,15 @@ class Resets(unittest.TestCase):
         for event in events:
             told += [event, reset(event.time, 0, False), reset(event.time, 1, False)]
         self.assertEqual(judged(told), (0, []))
+        # while one link is in reset, the beats of the other are kept
+        made = Exchange(8, 4)
+        made.send("C", made.head("C", 7, 5))
+        near = [[event, reset(event.time, 1, True)] for event in made.events if not event.is_far]
+        far = moved([event for event in made.events if event.is_far], 1000)
+        wrong = flipped(far[-1], "data", 0)
+        told = [reset(1, 1, True), *(event for both in near for event in both), reset(900, 1, False)]
+        self.assertEqual(judged([*told, *far]), (0, []))
+        self.assertEqual(judged([*told, *far[:-1], wrong]), (1, [reported(far[-1], wrong)]))
 
     def test_beats_in_reset(self):
         events = exchange(8, 4)

@@ -24,7 +24,7 @@ class Memory(unittest.TestCase):
     def test_each_refusal(self):
         ran = subprocess.run([str(self.program)], capture_output=True, text=True, timeout=120)
         self.assertEqual(ran.returncode, 0, ran.stdout[-2000:])
-        self.assertRegex(ran.stdout, r"^[0-9]+ passed, 0 failed, [0-9]+ of them opened; [0-9]+ differences\n$")
+        self.assertRegex(ran.stdout, r"^[0-9]+ passed, 0 failed, [0-9]+ of them opened\n$")
 
     @unittest.skipUnless(shutil.which("valgrind"), "valgrind is not there")
     def test_valgrind(self):

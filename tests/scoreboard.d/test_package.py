@@ -2,8 +2,10 @@
 import ctypes
 import os
 import re
+import shutil
 import subprocess
 import sys
+import tempfile
 import types
 import unittest
 from pathlib import Path
@@ -13,7 +15,7 @@ import tlbridge
 from tlbridge import Beat, Bridge, MissingLibrary, Refused, Scoreboard, status_of, load
 from tlbridge.beats import beat_of
 from tlbridge.bridge import Counts, Totals
-from tlbridge.library import BeatFields, HandleFields, StandingsFields, TextFields, TotalsFields, check
+from tlbridge.library import AnswerFields, BeatFields, HandleFields, StandingsFields, TextFields, TotalsFields, check
 
 ROOT = Path(__file__).resolve().parent.parent.parent
 PAIRS = [tuple(map(int, pair.split(":"))) for pair in os.environ.get("TLBRIDGE_PAIRS", "8:4").split()]
@@ -33,6 +35,10 @@ class Structures(unittest.TestCase):
         self.assertEqual(self.offsets(counts), dict(staged=0, in_ring=8, inbox=16))
         self.assertEqual(self.offsets(StandingsFields), {channel: 24 * i for i, channel in enumerate("abcde")})
         self.assertEqual(self.offsets(TotalsFields), {"bridge": 0, **{channel: 8 + 8 * i for i, channel in enumerate("abcde")}})
+        self.assertEqual(self.offsets(HandleFields), dict(impl=0, is_open=8, bridge=16))
+        self.assertEqual(self.offsets(TextFields), dict(name=0, sentence=16))
+        self.assertEqual(self.offsets(AnswerFields), dict(text=0, length=8, line=16, impl=24, is_open=32, all_done=33))
+        self.assertEqual([getattr(AnswerFields, name).size for name, _ in AnswerFields._fields_], [8, 8, 8, 8, 1, 1])
 
     def test_answers(self):
         """Each number of the header has a name and a sentence of docs/FAULTS.md's table of words."""
@@ -52,7 +58,73 @@ class Structures(unittest.TestCase):
         check(0)
 
 
+# The fields of each channel, and the bits of each numeric one.
+HEAD = {"opcode": 8, "param": 8, "size": 8, "source": 16}
+BITS = {"A": {**HEAD, "address": 64, "mask": 128}, "B": {**HEAD, "address": 64, "mask": 128}, "C": {**HEAD, "address": 64}, "D": {**HEAD, "sink": 16}, "E": {"sink": 16}}
+OTHERS = {"A": ("data", "corrupt"), "B": ("data", "corrupt"), "C": ("data", "corrupt"), "D": ("data", "corrupt", "denied"), "E": ()}
+
+
+def read(passed, name):
+    """The value of a field of the C structure."""
+    return passed.mask | passed.mask_high << 64 if name == "mask" else getattr(passed, name)
+
+
 class Beats(unittest.TestCase):
+    def test_each_bit(self):
+        """Each bit of each field of each channel is passed in its own field, and comes back from there."""
+        for channel, bits in BITS.items():
+            none, lanes = Beat().passed(channel, 8)
+            self.assertEqual([read(none, name) for name in (*HEAD, "sink", "address", "mask", "denied", "corrupt")], [0] * 9)
+            for name in (*bits, *(name for name in ("denied", "corrupt") if name in OTHERS[channel])):
+                for bit in range(bits.get(name, 1)):
+                    beat = Beat(**{name: 1 << bit})
+                    passed, lanes = beat.passed(channel, 8)
+                    with self.subTest(channel=channel, field=name, bit=bit):
+                        got = {other: read(passed, other) for other in (*HEAD, "sink", "address", "mask", "denied", "corrupt")}
+                        self.assertEqual({other: value for other, value in got.items() if value}, {name: 1 << bit})
+                        came = beat_of(channel, passed, lanes)
+                        self.assertEqual(came, Beat(**{name: 1 << bit, **({"data": bytes(8)} if channel != "E" else {})}))
+
+    def test_each_lane(self):
+        for channel in "ABCD":
+            for width in (1, 8, 128):
+                data = bytes(range(1, width + 1))
+                passed, lanes = Beat(data=data).passed(channel, width)
+                self.assertEqual((lanes, beat_of(channel, passed, lanes).data), (data, data))
+
+    def test_of_another_channel(self):
+        values = {"opcode": 1, "param": 1, "size": 1, "source": 1, "sink": 1, "address": 1, "mask": 1, "data": b"\1", "denied": True, "corrupt": True}
+        for channel, bits in BITS.items():
+            for name, value in values.items():
+                with self.subTest(channel=channel, field=name):
+                    if name in bits or name in OTHERS[channel]:
+                        Beat(**{name: value}).passed(channel, 1)
+                    else:
+                        with self.assertRaisesRegex(ValueError, f"^a beat of {channel} has no {name}$"):
+                            Beat(**{name: value}).passed(channel, 1)
+
+    def test_data_is_kept(self):
+        """A change of the bytes that it was made of changes nothing."""
+        given = bytearray(b"\1\2")
+        beat = Beat(data=given)
+        given[0] = 9
+        self.assertEqual((beat.data, type(beat.data)), (b"\1\2", bytes))
+        self.assertEqual(Beat(data=[3, 4]).data, b"\3\4")
+
+    def test_words(self):
+        for words, values in (("opcode has 8 bits, and 256 does not fit", dict(opcode=256)), ("mask has 128 bits, and -1 does not fit", dict(mask=-1)),
+                              ("denied is one bit, not 2", dict(denied=2)), ("corrupt is one bit, not 'x'", dict(corrupt="x"))):
+            with self.assertRaises(ValueError) as refused:
+                Beat(**values)
+            self.assertEqual(str(refused.exception), words)
+        with self.assertRaisesRegex(TypeError, "^data are bytes, lane 0 first$"):
+            Beat(data=8)
+        for name in BITS["A"]:
+            with self.subTest(name), self.assertRaises(TypeError):
+                Beat(**{name: 4.0})
+        with self.assertRaisesRegex(ValueError, "^the link has 4 lanes, but data has 5 bytes$"):
+            Beat(data=bytes(5)).passed("A", 4)
+
     def test_limits(self):
         for name, bits in dict(opcode=8, param=8, size=8, source=16, sink=16, address=64, mask=128).items():
             self.assertEqual(getattr(Beat(**{name: (1 << bits) - 1}), name), (1 << bits) - 1)
@@ -99,15 +171,21 @@ class Sides(unittest.TestCase):
                 self.assertIsNone(bridge.receiver(channel).take(channel))
 
     def test_many_at_once(self):
-        """More than 255 beats are pumped in one call: 4,096 bytes from 16 lanes to 2 are 2,048 far beats, 8 for each near beat."""
-        client, manager = max(PAIRS, key=lambda pair: pair[0] / pair[1])
-        with Bridge(client, manager, ring=4096) as bridge:
-            for channel in "CE":
-                self.assertTrue(bridge.client.ready(channel))
-            beat = Beat(opcode=7, size=min(12, client.bit_length() + 1), data=bytes(client))
-            bridge.client.offer("C", beat)
-            self.assertEqual(bridge.client.pump(), client // manager)
-            self.assertEqual(bridge.manager.fetch(), client // manager)
+        """A call moves more than 255 beats: those of all channels together, of each as many as a near beat of 128 bytes has on a link of 1."""
+        if not {(128, 1), (1, 128)} <= {*PAIRS}:
+            self.skipTest("the library has no pairs 128:1 and 1:128")
+        whole = (1 << 128) - 1
+        with Bridge(128, 1) as bridge:
+            bridge.client.offer("A", Beat(size=7, mask=whole, data=bytes(128)))
+            bridge.client.offer("C", Beat(opcode=7, size=7, data=bytes(128)))
+            bridge.client.offer("E", Beat())
+            self.assertEqual((bridge.client.pump(), bridge.manager.fetch()), (257, 257))
+        with Bridge(1, 128) as bridge:
+            bridge.offer("A", Beat(opcode=4, size=7, mask=1))
+            self.assertEqual([beat.mask for beat in bridge.receive_all("A")], [whole])
+            bridge.manager.offer("B", Beat(size=7, mask=whole, data=bytes(128)))
+            bridge.manager.offer("D", Beat(opcode=1, size=7, data=bytes(128)))
+            self.assertEqual((bridge.manager.pump(), bridge.client.fetch()), (256, 256))
 
     def test_not_ready(self):
         with Bridge(8, 4) as bridge:
@@ -200,6 +278,35 @@ class Sides(unittest.TestCase):
             bridge.client.offer("C", Beat(opcode=7, size=3, data=bytes(8)))
             self.assertEqual((bridge.client.pump(), bridge.meet().c), (1, Counts(1, 1, 0)))
 
+    def test_wide_ring(self):
+        """A number of beats of 64 bits is passed as it is."""
+        for ring in (4097, (1 << 32) + 1, (1 << 63) + 16, (1 << 64) - 1):
+            with self.subTest(ring=ring), self.assertRaises(Refused) as refused:
+                Bridge(8, 4, ring=ring)
+            self.assertEqual(refused.exception.status.name, "RingSize")
+
+    def test_channels(self):
+        """Each call on each side takes only a channel of its own, of one letter."""
+        with Bridge(8, 4) as bridge:
+            for side, name, sends, takes in ((bridge.client, "client", "ACE", "BD"), (bridge.manager, "manager", "BD", "ACE")):
+                calls = (("sends", sends, side.ready), ("sends", sends, side.close), ("sends", sends, lambda channel: side.offer(channel, Beat())), ("takes", takes, side.take))
+                for verb, own, call in calls:
+                    for channel in ("", "AC", "ABCDE", "BD", "a", "F", "é", *(channel for channel in "ABCDE" if channel not in own)):
+                        with self.subTest(side=name, verb=verb, channel=channel), self.assertRaises(ValueError) as refused:
+                            call(channel)
+                        self.assertEqual(str(refused.exception), f"the {name}'s side {verb} {', '.join(own)}, and not {channel!r}")
+
+    def test_widths(self):
+        """Each side takes and gives as many lanes as its own link has."""
+        for client, manager in PAIRS:
+            with self.subTest(client=client, manager=manager), Bridge(client, manager) as bridge:
+                self.assertEqual((bridge.client.width, bridge.manager.width), (client, manager))
+                self.assertEqual((bridge.sender("B"), bridge.receiver("B")), (bridge.manager, bridge.client))
+                bridge.offer("C", Beat(opcode=7, data=bytes([7] * client)))
+                bridge.offer("B", Beat(opcode=0, mask=1, data=bytes([9] * manager)))
+                self.assertEqual([beat.data for beat in bridge.receive_all("C")], [b"\7" + bytes(manager - 1)])
+                self.assertEqual([beat.data for beat in bridge.receive_all("B")], [b"\x09" + bytes(client - 1)])
+
     def test_left(self):
         """A bridge that is left is freed; a side of one that was freed refuses."""
         with Bridge(8, 4) as bridge:
@@ -218,6 +325,52 @@ class Library(unittest.TestCase):
     def test_one(self):
         self.assertIs(load(), load())
 
+    def test_another(self):
+        """load() with a path loads that library, and later calls return it."""
+        first = load()
+        with tempfile.TemporaryDirectory() as room:
+            path = shutil.copy(os.environ["TLBRIDGE_LIBRARY"], Path(room) / "other.so")
+            try:
+                other = load(path)
+                self.assertIsNot(other, first)
+                self.assertEqual(other._name, path)
+                self.assertIs(load(), other)
+            finally:
+                tlbridge.library._loaded = first
+
+    def test_found(self):
+        """The variable TLBRIDGE_LIBRARY comes first, then the package's own file, then the loader's."""
+        named = os.environ["TLBRIDGE_LIBRARY"]
+        with tempfile.TemporaryDirectory() as room:
+            shutil.copytree(ROOT / "python" / "tlbridge", Path(room) / "tlbridge", ignore=shutil.ignore_patterns("__pycache__"))
+            packed = Path(room) / "tlbridge" / "libtlbridge.so"
+            program = ("import sys, ctypes.util; ctypes.util.find_library = lambda name: {'tlbridge': sys.argv[1] or None}[name]\nimport tlbridge\n"
+                       "try: print(tlbridge.load()._name)\nexcept tlbridge.MissingLibrary as error: print(error)")
+            none = "libtlbridge.so was not found: `make install` makes it, and the variable TLBRIDGE_LIBRARY may name it"
+            for variable, is_packed, by_loader, wanted in ((named, True, "/nowhere.so", named), (named, False, "", named), ("", True, "/nowhere.so", str(packed)),
+                                                           ("", False, named, named), ("", False, "", none)):
+                packed.unlink(missing_ok=True)
+                if is_packed:
+                    shutil.copy(named, packed)
+                environment = {**os.environ, "PYTHONPATH": room, "TLBRIDGE_LIBRARY": variable}
+                ran = subprocess.run([sys.executable, "-c", program, by_loader], env=environment, capture_output=True, text=True, timeout=60)
+                with self.subTest(variable=variable, is_packed=is_packed, by_loader=by_loader):
+                    self.assertEqual((ran.stdout, ran.stderr), (f"{wanted}\n", ""))
+
+    def test_words(self):
+        """A status and each error that has one say its number, its name and its sentence."""
+        said = "8 SourceBusy: the source's last request still waits for its response"
+        status = status_of(8)
+        self.assertEqual((str(status), str(Refused(status)), Refused(status).status), (said, said, status))
+        self.assertEqual((status.number, status.name), (8, "SourceBusy"))
+        self.assertEqual((str(tlbridge.TraceFault(status, 0)), str(tlbridge.TraceFault(status, 7))), (said, f"line 7: {said}"))
+
+    def test_nothing_else_is_printed(self):
+        """A bridge that cannot be made leaves nothing that is freed."""
+        program = "import tlbridge\nfor widths in ((8, 3), (8, 4, 0), (8, 4, -1)):\n  try: tlbridge.Bridge(*widths)\n  except Exception as error: print(type(error).__name__)"
+        ran = self.run_apart(program)
+        self.assertEqual((ran.returncode, ran.stdout.split(), ran.stderr), (0, ["MissingLibrary", "Refused", "ValueError"], ""))
+
     def run_apart(self, program, **environment):
         environment = {**os.environ, "PYTHONPATH": os.pathsep.join(sys.path), **environment}
         return subprocess.run([sys.executable, "-c", program], env=environment, capture_output=True, text=True, timeout=60)
@@ -228,6 +381,7 @@ class Library(unittest.TestCase):
             ran = self.run_apart(program, TLBRIDGE_LIBRARY=path)
             self.assertEqual((ran.returncode, ran.stderr), (0, ""))
             self.assertTrue(ran.stdout.startswith(f"missing {path}: "), ran.stdout)
+            self.assertEqual(ran.stdout.count(path), 1, ran.stdout)
 
     def test_another_version(self):
         """A library of another version is refused by its number."""
@@ -242,6 +396,7 @@ class Library(unittest.TestCase):
             "def many(count):\n"
             "  for _ in range(count):\n"
             "    with tlbridge.Bridge(8, 4, ring=256) as bridge: bridge.settle()\n"
+            "    bridge = tlbridge.Bridge(8, 4, ring=256)\n"
             "    board = tlbridge.Scoreboard(8, 4)\n"
             "    for i in range(70): board.beat('client', 'E', i, tlbridge.Beat(sink=1))\n"
             "    board.beat('manager', 'E', 9, tlbridge.Beat(sink=2)); board.end()\n"
@@ -259,6 +414,8 @@ class Answers:
         self.text, self.number, self.line, self.all_done, self.calls = text, number, line, all_done, []
 
         def answers(data, length, check, made):
+            if type(data) is not bytes:
+                raise TypeError("the library takes bytes")
             self.calls.append((data, length.value, check.value))
             made._obj.line = self.line
             if self.number == 0:
@@ -277,10 +434,15 @@ class OfTraces(unittest.TestCase):
             return tlbridge.run_trace(*words, **more)
 
     def test_answered(self):
-        for text, given, check in (("A\0é\n", "A\0é\n".encode(), False), (b"\xff\0", b"\xff\0", True)):
+        for text, given, check in (("A\0é\n", "A\0é\n".encode(), False), (b"\xff\0", b"\xff\0", True), (bytearray(b"\0A"), b"\0A", False),
+                                   (memoryview(b"B\0"), b"B\0", True)):
             library = Answers("= A\0 döne\n".encode(), all_done=check)
             self.assertEqual(self.answer(library, text, check=check), tlbridge.TraceResult("= A\0 döne\n", check))
             self.assertEqual(library.calls, [(given, len(given), int(check)), "free"])
+            self.assertIs(library.tl_answer_trace.restype, ctypes.c_uint8)
+        library = Answers()
+        self.answer(library, "")
+        self.assertEqual(library.calls, [(b"", 0, 0), "free"])
 
     def test_freed_if_it_is_no_text(self):
         library = Answers(b"\xff")
@@ -312,6 +474,25 @@ class Counted(unittest.TestCase):
         for name in ("tl_scoreboard_finish", "tl_scoreboard_differences", "tl_scoreboard_beats"):
             self.assertIs(getattr(load(), name).restype, ctypes.c_uint64)
         board.end()
+
+    def test_wide_times(self):
+        """A time of 64 bits is passed on as it is."""
+        late = (1 << 62) + (1 << 40) + 5
+        board = Scoreboard(8, 4)
+        board.beat("client", "E", late, Beat(sink=1))
+        board.beat("manager", "E", late + 1, Beat(sink=2))
+        board.beat("client", "E", late + 2, Beat(sink=3))
+        board.reset("manager", True, late + 9)
+        self.assertEqual(board.lines, [f"time {late + 1}: far E beat 0; sink got 0002, expected 0001",
+                                       f"time {late + 9}: reset of the manager's link: 1 beats in flight on both links are not judged"])
+
+    def test_two_boards(self):
+        """Each board has its own lines and counts."""
+        boards = [Scoreboard(8, 4), Scoreboard(4, 8) if (4, 8) in PAIRS else Scoreboard(8, 4)]
+        boards[0].beat("client", "E", 1, Beat(sink=1))
+        self.assertEqual(([board.end() for board in boards], [board.beats for board in boards]), ([1, 1], [1, 0]))
+        self.assertEqual([board.lines for board in boards], [["time 1: far E beat 0: sink 0001: expected but missing"],
+                                                             ["time 0: no beat was accepted on either link, so nothing was compared"]])
 
     def test_no_pair(self):
         with self.assertRaisesRegex(MissingLibrary, "the library has no pair 3:3, or there is no memory; it has .*8:4"):
