@@ -1,4 +1,3 @@
 pub mod Names
 pub mod OfferSteps
 pub mod NextOffers
-mod Saying

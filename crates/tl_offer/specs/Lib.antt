@@ -1,3 +1,2 @@
 pub mod Offering
 pub mod Widths
-pub mod Inner

@@ -4,7 +4,6 @@
 
 mod offered;
 mod offers;
-mod ready;
 
 pub use offered::{Offered, Stop};
 pub use offers::Offers;

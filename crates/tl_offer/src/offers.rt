@@ -6,10 +6,6 @@ ghost use Rattle.tl_offer.specs.Offering.{OffersNext, on_bridge_a, on_bridge_b, 
 ghost use Rattle.tl_offer.specs.Offering.{on_side_a, on_side_b, on_side_c, on_side_d, on_side_e};
 
 use crate::offered::Offered;
-use crate::ready::{
-    bridge_ready_a, bridge_ready_b, bridge_ready_c, bridge_ready_d, bridge_ready_e, client_ready_a,
-    client_ready_c, client_ready_e, manager_ready_b, manager_ready_d,
-};
 use tl_msg::{BeatOf, HeadA, HeadB, HeadC, HeadD, HeadE};
 use tl_sides::{ClientSide, ManagerSide, SyncBridge};
 
@@ -21,9 +17,9 @@ macro_rules! next_offer {
         if $at >= $beats.len() {
             return Offered::from_close($side.$close());
         }
-        let Some(()) = $ready($side) else {
+        if !$side.$ready() {
             return Offered::NotReady;
-        };
+        }
         Offered::from_offer($side.$offer($beats[$at]))
     }};
 }
@@ -51,7 +47,7 @@ impl<const C: usize, const M: usize> Offers<BeatOf<HeadA, C>> for SyncBridge<C, 
     ghost Becomes = { OffersNext on_bridge_a };
 
     fn offer_next(&mut self, beats: &[BeatOf<HeadA, C>], at: usize) -> Offered {
-        next_offer!(self, beats, at, bridge_ready_a, offer_a, close_a)
+        next_offer!(self, beats, at, ready_a, offer_a, close_a)
     }
 }
 
@@ -61,7 +57,7 @@ impl<const C: usize, const M: usize> Offers<BeatOf<HeadB, M>> for SyncBridge<C, 
     ghost Becomes = { OffersNext on_bridge_b };
 
     fn offer_next(&mut self, beats: &[BeatOf<HeadB, M>], at: usize) -> Offered {
-        next_offer!(self, beats, at, bridge_ready_b, offer_b, close_b)
+        next_offer!(self, beats, at, ready_b, offer_b, close_b)
     }
 }
 
@@ -71,7 +67,7 @@ impl<const C: usize, const M: usize> Offers<BeatOf<HeadC, C>> for SyncBridge<C, 
     ghost Becomes = { OffersNext on_bridge_c };
 
     fn offer_next(&mut self, beats: &[BeatOf<HeadC, C>], at: usize) -> Offered {
-        next_offer!(self, beats, at, bridge_ready_c, offer_c, close_c)
+        next_offer!(self, beats, at, ready_c, offer_c, close_c)
     }
 }
 
@@ -81,7 +77,7 @@ impl<const C: usize, const M: usize> Offers<BeatOf<HeadD, M>> for SyncBridge<C, 
     ghost Becomes = { OffersNext on_bridge_d };
 
     fn offer_next(&mut self, beats: &[BeatOf<HeadD, M>], at: usize) -> Offered {
-        next_offer!(self, beats, at, bridge_ready_d, offer_d, close_d)
+        next_offer!(self, beats, at, ready_d, offer_d, close_d)
     }
 }
 
@@ -91,7 +87,7 @@ impl<const C: usize, const M: usize> Offers<BeatOf<HeadE, C>> for SyncBridge<C, 
     ghost Becomes = { OffersNext on_bridge_e };
 
     fn offer_next(&mut self, beats: &[BeatOf<HeadE, C>], at: usize) -> Offered {
-        next_offer!(self, beats, at, bridge_ready_e, offer_e, close_e)
+        next_offer!(self, beats, at, ready_e, offer_e, close_e)
     }
 }
 
@@ -101,7 +97,7 @@ impl<const C: usize, const M: usize> Offers<BeatOf<HeadA, C>> for ClientSide<C, 
     ghost Becomes = { OffersNext on_side_a };
 
     fn offer_next(&mut self, beats: &[BeatOf<HeadA, C>], at: usize) -> Offered {
-        next_offer!(self, beats, at, client_ready_a, offer_a, close_a)
+        next_offer!(self, beats, at, ready_a, offer_a, close_a)
     }
 }
 
@@ -111,7 +107,7 @@ impl<const C: usize, const M: usize> Offers<BeatOf<HeadC, C>> for ClientSide<C, 
     ghost Becomes = { OffersNext on_side_c };
 
     fn offer_next(&mut self, beats: &[BeatOf<HeadC, C>], at: usize) -> Offered {
-        next_offer!(self, beats, at, client_ready_c, offer_c, close_c)
+        next_offer!(self, beats, at, ready_c, offer_c, close_c)
     }
 }
 
@@ -121,7 +117,7 @@ impl<const C: usize, const M: usize> Offers<BeatOf<HeadE, C>> for ClientSide<C, 
     ghost Becomes = { OffersNext on_side_e };
 
     fn offer_next(&mut self, beats: &[BeatOf<HeadE, C>], at: usize) -> Offered {
-        next_offer!(self, beats, at, client_ready_e, offer_e, close_e)
+        next_offer!(self, beats, at, ready_e, offer_e, close_e)
     }
 }
 
@@ -131,7 +127,7 @@ impl<const C: usize, const M: usize> Offers<BeatOf<HeadB, M>> for ManagerSide<C,
     ghost Becomes = { OffersNext on_side_b };
 
     fn offer_next(&mut self, beats: &[BeatOf<HeadB, M>], at: usize) -> Offered {
-        next_offer!(self, beats, at, manager_ready_b, offer_b, close_b)
+        next_offer!(self, beats, at, ready_b, offer_b, close_b)
     }
 }
 
@@ -141,6 +137,6 @@ impl<const C: usize, const M: usize> Offers<BeatOf<HeadD, M>> for ManagerSide<C,
     ghost Becomes = { OffersNext on_side_d };
 
     fn offer_next(&mut self, beats: &[BeatOf<HeadD, M>], at: usize) -> Offered {
-        next_offer!(self, beats, at, manager_ready_d, offer_d, close_d)
+        next_offer!(self, beats, at, ready_d, offer_d, close_d)
     }
 }

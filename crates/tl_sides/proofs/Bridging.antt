@@ -1,4 +1,4 @@
--- The calls of a bridge are those of its sides' ports, and what moves between an outbox, a ring and an inbox.
+-- The calls of a bridge are those of its outboxes, inboxes and books, and what moves between an outbox, a ring and an inbox.
 use Rattle.std.proofs.Common.{◌≡◌, ◌≤◌, ◌-◌, ◌++◌, ◌∷◌, [], ℕ, true, List, Option, Result, length, map, take, drop, min, refl, sym, subst, ap, ◌∙◌}
 use Rattle.std.proofs.Common.{arith}
 use Rattle.tl_sides.proofs.Words.{Buffer, buffer, Rules, partial_not_c, partial_not_d, rules_a, rules_b, rules_c, rules_d, rules_e, HeadA, HeadB}
@@ -6,7 +6,7 @@ use Rattle.tl_sides.proofs.Words.{HeadC, HeadD, HeadE, BeatOf, homes_with, Outgo
 use Rattle.tl_sides.proofs.Words.{inbox_room, STAGE_CAPACITY, stands_new, stands_offered, stands_pushed, stands_popped, stands_took, stands_emptied}
 use Rattle.tl_sides.proofs.Words.{stands_shut, Event, Ask, Answer, asked, answered, manager_home, manager_homes, asked_ask, asked_answer}
 use Rattle.tl_sides.proofs.Words.{answered_ask, answered_answer, SideFault, EndFault}
-use Rattle.tl_settle.specs.Books.{KnowsClient, KnowsManager}
+use Rattle.tl_settle.specs.Books.{Client, Manager, KnowsClient, KnowsManager}
 use Rattle.tl_sides.specs.Bridges.{Bridge, Past, StandsFor, nothing_yet}
 use Rattle.tl_sides.specs.Bridges.{bridge_sends_a, bridge_sends_b, bridge_sends_c, bridge_sends_d, bridge_sends_e, bridge_takes_a, bridge_takes_b}
 use Rattle.tl_sides.specs.Bridges.{bridge_takes_c, bridge_takes_d, bridge_takes_e}
@@ -22,12 +22,11 @@ use Rattle.tl_sides.proofs.Draining.{answered-all, asked-all}
 use Rattle.tl_sides.specs.ChannelCalls.{after_take_all}
 use Rattle.tl_sides.specs.Calls.{OffersBeat, ClosesChannel, TakesBeat}
 use Rattle.tl_sides.proofs.Lifting.{offer_lifted, close_lifted, take_lifted}
-use Rattle.tl_sides.specs.Ports.{ClientNow, ClientDone, ClientStands, client_new, ManagerNow, ManagerDone, ManagerStands, manager_new, Away, Hither}
-use Rattle.tl_sides.specs.Ports.{port_sends_a, port_sends_b, port_sends_c, port_sends_d, port_sends_e, port_takes_a, port_takes_b, port_takes_c}
-use Rattle.tl_sides.specs.Ports.{port_takes_d, port_takes_e}
+use Rattle.tl_sides.specs.Ports.{ClientNow, ClientIsNew, ManagerNow, ManagerIsNew, Away, Hither, Booked, outbox_sends, inbox_takes}
+use Rattle.tl_sides.specs.Ports.{sends_requests, sends_responses, takes_requests, takes_responses}
 use Rattle.tl_sides.specs.Joining.{pipe_of, bridge_of}
 use Rattle.tl_sides.specs.declared.sync_bridge.SyncBridge.TheInside.{Inside}
-use Rattle.tl_sides.proofs.PortSteps.{between_of}
+use Rattle.tl_sides.proofs.BoxSteps.{between_of}
 
 -- on every channel only rules with masks have a beat whose mask may be partial
 pub masked_a : (h : HeadA) → rules_a.partial h ≡ true → rules_a.masked ≡ true
@@ -45,7 +44,7 @@ masked_d h = partial_not_d h.opcode
 pub masked_e : (h : HeadE) → rules_e.partial h ≡ true → rules_e.masked ≡ true
 masked_e h e = e
 
--- the past of a side at either end of a crossing
+-- the past of the box at either end of a crossing
 abbrev pub sent_of : {H : Type 0} {w v : ℕ} → World H w v → List (BeatOf H v)
 sent_of x = x.taken ++ x.inbox ++ x.ring
 
@@ -55,56 +54,11 @@ away_of x = record { accepted = x.accepted; homes = x.homes; sent = sent_of x }
 abbrev pub hither_of : {H : Type 0} {w v : ℕ} → World H w v → Hither H v
 hither_of x = record { received = x.taken ++ x.inbox; taken = x.taken }
 
--- the past of the client's side, and of the manager's
-module _ {C M : ℕ} where
-  abbrev pub client_of : Past C M → ClientDone C M
-  client_of x = record {
-    history = x.client;
-    a_homes = x.a.homes;
-    a_sent = sent_of x.a;
-    b = hither_of x.b;
-    c = away_of x.c;
-    d_received = x.d.taken ++ x.d.inbox;
-    e = away_of x.e;
-  }
-
-  abbrev pub manager_of : Past C M → ManagerDone C M
-  manager_of x = record {
-    history = x.manager;
-    a_received = x.a.taken ++ x.a.inbox;
-    b = away_of x.b;
-    c = hither_of x.c;
-    d_sent = sent_of x.d;
-    e = hither_of x.e;
-  }
-
 -- the bridge that its ports and rings are
 abbrev pub as_bridge : {A : Type 0} {C M : ℕ} → Inside C M A → Bridge C M
 as_bridge q = bridge_of q.client q.manager q.a q.b q.c q.d q.e
 
 module _ {A : Type 0} {C M : ℕ} (q : Inside C M A) (x : Past C M) (h : StandsFor (as_bridge q) x) where
-  -- each side represents its own part of the past
-  pub client_stands : ClientStands q.client (client_of x)
-  client_stands = record {
-    a = subst (λ z. HasSent rules_a q.client.a z x.a.homes (sent_of x.a)) (sym h.client_asked) h.a.outbox;
-    b = ap (λ z. x.b.taken ++ z) (sym h.b.inbox);
-    c = h.c.outbox;
-    d = ap (λ z. x.d.taken ++ z) (sym h.d.inbox) ∙ ap (λ z. z ++ q.client.d) (sym h.client_answered);
-    e = h.e.outbox;
-    book = h.client;
-  }
-
-  pub manager_stands : ManagerStands q.manager (manager_of x)
-  manager_stands = record {
-    a = ap (λ z. x.a.taken ++ z) (sym h.a.inbox) ∙ ap (λ z. z ++ q.manager.a) (sym h.manager_asked);
-    b = h.b.outbox;
-    c = ap (λ z. x.c.taken ++ z) (sym h.c.inbox);
-    d = subst (λ z. HasSent rules_d q.manager.d z (manager_homes x.manager) (sent_of x.d)) (sym h.manager_answered)
-        (subst (λ z. HasSent rules_d q.manager.d x.d.accepted z (sent_of x.d)) (sym h.homes) h.d.outbox);
-    e = ap (λ z. x.e.taken ++ z) (sym h.e.inbox);
-    book = h.manager;
-  }
-
   -- both sides take all beats of their inboxes
   pub all_taken : (s' : ClientNow C M) (t' : ManagerNow C M) → s' ≡ record q.client { b = []; d = []; book = s'.book } →
       t' ≡ record q.manager { a = []; c = []; e = []; book = t'.book } → KnowsClient s'.book (x.client ++ map Answer q.client.d) →
@@ -131,151 +85,189 @@ module _ {A : Type 0} {C M : ℕ} (q : Inside C M A) (x : Past C M) (h : StandsF
       }))
 
 module _ {A : Type 0} {C M : ℕ} (q : Inside C M A) where
-  -- the bridge with another port of a side
-  abbrev with_client : ClientNow C M → Bridge C M
-  with_client s = as_bridge (record q { client = s })
+  -- the bridge with another box of the client's side, or of the manager's
+  abbrev with_outbox_a : Outgoing HeadA M → Bridge C M
+  with_outbox_a o = as_bridge (record q { client = record q.client { a = o } })
 
-  abbrev with_manager : ManagerNow C M → Bridge C M
-  with_manager s = as_bridge (record q { manager = s })
+  abbrev with_outbox_b : Outgoing HeadB C → Bridge C M
+  with_outbox_b o = as_bridge (record q { manager = record q.manager { b = o } })
 
-  -- an offer to a port is one to its bridge
-  pub bridge_offers_a : (s' : ClientNow C M) (y : BeatOf HeadA C) (r : Result (Unit {0}) SideFault) → IsOpen q.client.a →
-      OffersBeat port_sends_a y q.client r s' → OffersBeat bridge_sends_a y (as_bridge q) r (with_client s')
-  bridge_offers_a s' y r ready = offer_lifted port_sends_a bridge_sends_a with_client client_of q.client s' (client_stands q) y r
-      (λ x. refl) (λ k. ap with_client k.0)
+  abbrev with_inbox_b : List (BeatOf HeadB C) → Bridge C M
+  with_inbox_b i = as_bridge (record q { client = record q.client { b = i } })
+
+  abbrev with_outbox_c : Outgoing HeadC M → Bridge C M
+  with_outbox_c o = as_bridge (record q { client = record q.client { c = o } })
+
+  abbrev with_inbox_c : List (BeatOf HeadC M) → Bridge C M
+  with_inbox_c i = as_bridge (record q { manager = record q.manager { c = i } })
+
+  abbrev with_outbox_d : Outgoing HeadD C → Bridge C M
+  with_outbox_d o = as_bridge (record q { manager = record q.manager { d = o } })
+
+  abbrev with_outbox_e : Outgoing HeadE M → Bridge C M
+  with_outbox_e o = as_bridge (record q { client = record q.client { e = o } })
+
+  abbrev with_inbox_e : List (BeatOf HeadE M) → Bridge C M
+  with_inbox_e i = as_bridge (record q { manager = record q.manager { e = i } })
+
+  abbrev with_request : Booked (Outgoing HeadA M) Client → Bridge C M
+  with_request s = as_bridge (record q { client = record q.client { a = s.box; book = s.book } })
+
+  abbrev with_response : Booked (Outgoing HeadD C) Manager → Bridge C M
+  with_response s = as_bridge (record q { manager = record q.manager { d = s.box; book = s.book } })
+
+  abbrev with_request_taken : Booked (List (BeatOf HeadA M)) Manager → Bridge C M
+  with_request_taken s = as_bridge (record q { manager = record q.manager { a = s.box; book = s.book } })
+
+  abbrev with_response_taken : Booked (List (BeatOf HeadD C)) Client → Bridge C M
+  with_response_taken s = as_bridge (record q { client = record q.client { d = s.box; book = s.book } })
+
+  -- an offer to an outbox is one to its bridge
+  pub bridge_offers_a : (s : Booked (Outgoing HeadA M) Client) (y : BeatOf HeadA C) (r : Result (Unit {0}) SideFault) → IsOpen q.client.a →
+      OffersBeat sends_requests y (record { box = q.client.a; book = q.client.book }) r s → OffersBeat bridge_sends_a y (as_bridge q) r (with_request s)
+  bridge_offers_a s y r ready = offer_lifted sends_requests bridge_sends_a with_request
+      (λ x. record { history = x.client; homes = x.a.homes; sent = sent_of x.a }) (record { box = q.client.a; book = q.client.book }) s
+      (λ x h. (subst (λ z. HasSent rules_a q.client.a z x.a.homes (sent_of x.a)) (sym h.client_asked) h.a.outbox, h.client)) y r
+      (λ x. refl) (λ k. refl)
       (λ x h fine k stands.
       let more : List (BeatOf HeadA C) = x.a.accepted ++ y ∷ [] in
       let same : asked (x.client ++ Ask y ∷ []) ≡ more = asked_ask x.client y ∙ ap (λ z. z ++ y ∷ []) h.client_asked in
-      let sent = subst (λ z. HasSent rules_a s'.a more (homes_with rules_a z x.a.homes y 0) (sent_of x.a)) h.client_asked
-      (subst (λ z. HasSent rules_a s'.a z (homes_with rules_a (asked x.client) x.a.homes y 0) (sent_of x.a)) same stands.a) in
-      subst (λ z. StandsFor (with_client z) (bridge_sends_a.with_beat y x)) (sym k.0)
-      (client_goes_on (as_bridge q) x h (pipe_of s'.a q.a q.manager.a) (pipe_of q.manager.d q.d q.client.d) s'.book
+      let sent = subst (λ z. HasSent rules_a s.box more (homes_with rules_a z x.a.homes y 0) (sent_of x.a)) h.client_asked
+      (subst (λ z. HasSent rules_a s.box z (homes_with rules_a (asked x.client) x.a.homes y 0) (sent_of x.a)) same stands.0) in
+      client_goes_on (as_bridge q) x h (pipe_of s.box q.a q.manager.a) (pipe_of q.manager.d q.d q.client.d) s.book
       (x.client ++ Ask y ∷ []) (offered rules_a y 0 x.a) x.d
-      (stands_offered rules_a masked_a (pipe_of q.client.a q.a q.manager.a) x.a y 0 s'.a ready.0 ready.1 k.1 sent h.a) h.d same
-      (answered_ask x.client y ∙ h.client_answered) stands.book (obeys_ask x.client y h.client_obeys fine) refl (refl, refl)))
+      (stands_offered rules_a masked_a (pipe_of q.client.a q.a q.manager.a) x.a y 0 s.box ready.0 ready.1 k sent h.a) h.d same
+      (answered_ask x.client y ∙ h.client_answered) stands.1 (obeys_ask x.client y h.client_obeys fine) refl (refl, refl))
 
-  pub bridge_offers_b : (s' : ManagerNow C M) (y : BeatOf HeadB M) (r : Result (Unit {0}) SideFault) → IsOpen q.manager.b →
-      OffersBeat port_sends_b y q.manager r s' → OffersBeat bridge_sends_b y (as_bridge q) r (with_manager s')
-  bridge_offers_b s' y r ready = offer_lifted port_sends_b bridge_sends_b with_manager manager_of q.manager s' (manager_stands q) y r
-      (λ x. refl) (λ k. ap with_manager k.0)
-      (λ x h fine k stands. subst (λ z. StandsFor (with_manager z) (bridge_sends_b.with_beat y x)) (sym k.0)
-      (with_b (as_bridge q) x h (pipe_of s'.b q.b q.client.b) (offered rules_b y 0 x.b)
-      (stands_offered rules_b masked_b (pipe_of q.manager.b q.b q.client.b) x.b y 0 s'.b ready.0 ready.1 k.1 stands.b h.b)))
+  pub bridge_offers_b : (o : Outgoing HeadB C) (y : BeatOf HeadB M) (r : Result (Unit {0}) SideFault) → IsOpen q.manager.b →
+      OffersBeat (outbox_sends rules_b) y q.manager.b r o → OffersBeat bridge_sends_b y (as_bridge q) r (with_outbox_b o)
+  bridge_offers_b o y r ready = offer_lifted (outbox_sends rules_b) bridge_sends_b with_outbox_b (λ x. away_of x.b) q.manager.b o (λ x h. h.b.outbox) y r
+      (λ x. refl) (λ k. refl)
+      (λ x h fine k stands. with_b (as_bridge q) x h (pipe_of o q.b q.client.b) (offered rules_b y 0 x.b)
+      (stands_offered rules_b masked_b (pipe_of q.manager.b q.b q.client.b) x.b y 0 o ready.0 ready.1 k stands h.b))
 
-  pub bridge_offers_c : (s' : ClientNow C M) (y : BeatOf HeadC C) (r : Result (Unit {0}) SideFault) → IsOpen q.client.c →
-      OffersBeat port_sends_c y q.client r s' → OffersBeat bridge_sends_c y (as_bridge q) r (with_client s')
-  bridge_offers_c s' y r ready = offer_lifted port_sends_c bridge_sends_c with_client client_of q.client s' (client_stands q) y r
-      (λ x. refl) (λ k. ap with_client k.0)
-      (λ x h fine k stands. subst (λ z. StandsFor (with_client z) (bridge_sends_c.with_beat y x)) (sym k.0)
-      (with_c (as_bridge q) x h (pipe_of s'.c q.c q.manager.c) (offered rules_c y 0 x.c)
-      (stands_offered rules_c masked_c (pipe_of q.client.c q.c q.manager.c) x.c y 0 s'.c ready.0 ready.1 k.1 stands.c h.c)))
+  pub bridge_offers_c : (o : Outgoing HeadC M) (y : BeatOf HeadC C) (r : Result (Unit {0}) SideFault) → IsOpen q.client.c →
+      OffersBeat (outbox_sends rules_c) y q.client.c r o → OffersBeat bridge_sends_c y (as_bridge q) r (with_outbox_c o)
+  bridge_offers_c o y r ready = offer_lifted (outbox_sends rules_c) bridge_sends_c with_outbox_c (λ x. away_of x.c) q.client.c o (λ x h. h.c.outbox) y r
+      (λ x. refl) (λ k. refl)
+      (λ x h fine k stands. with_c (as_bridge q) x h (pipe_of o q.c q.manager.c) (offered rules_c y 0 x.c)
+      (stands_offered rules_c masked_c (pipe_of q.client.c q.c q.manager.c) x.c y 0 o ready.0 ready.1 k stands h.c))
 
-  pub bridge_offers_d : (s' : ManagerNow C M) (y : BeatOf HeadD M) (r : Result (Unit {0}) SideFault) → IsOpen q.manager.d →
-      OffersBeat port_sends_d y q.manager r s' → OffersBeat bridge_sends_d y (as_bridge q) r (with_manager s')
-  bridge_offers_d s' y r ready = offer_lifted port_sends_d bridge_sends_d with_manager manager_of q.manager s' (manager_stands q) y r
-      (λ x. refl) (λ k. ap with_manager k.0)
+  pub bridge_offers_d : (s : Booked (Outgoing HeadD C) Manager) (y : BeatOf HeadD M) (r : Result (Unit {0}) SideFault) → IsOpen q.manager.d →
+      OffersBeat sends_responses y (record { box = q.manager.d; book = q.manager.book }) r s → OffersBeat bridge_sends_d y (as_bridge q) r (with_response s)
+  bridge_offers_d s y r ready = offer_lifted sends_responses bridge_sends_d with_response
+      (λ x. record { history = x.manager; sent = sent_of x.d }) (record { box = q.manager.d; book = q.manager.book }) s
+      (λ x h. (
+        subst (λ z. HasSent rules_d q.manager.d z (manager_homes x.manager) (sent_of x.d)) (sym h.manager_answered)
+            (subst (λ z. HasSent rules_d q.manager.d x.d.accepted z (sent_of x.d)) (sym h.homes) h.d.outbox),
+        h.manager,
+      )) y r (λ x. refl) (λ k. refl)
       (λ x h fine k stands.
       let more : List (Event M) = x.manager ++ Answer y ∷ [] in
       let home : ℕ = manager_home x.manager y.head in
       let between = between_of rules_d q.manager.d x.d.accepted x.d.homes (sent_of x.d) h.d.outbox in
       let same : answered more ≡ x.d.accepted ++ y ∷ [] = answered_answer x.manager y ∙ ap (λ z. z ++ y ∷ []) h.manager_answered in
       let homes = homes_given x.manager y x.d.accepted x.d.homes between h.manager_answered h.homes in
-      let sent = subst (λ z. HasSent rules_d s'.d (x.d.accepted ++ y ∷ []) z (sent_of x.d)) homes
-      (subst (λ z. HasSent rules_d s'.d z (manager_homes more) (sent_of x.d)) same stands.d) in
-      subst (λ z. StandsFor (with_manager z) (bridge_sends_d.with_beat y x)) (sym k.0)
-      (manager_goes_on (as_bridge q) x h (pipe_of q.client.a q.a q.manager.a) (pipe_of s'.d q.d q.client.d) s'.book more x.a
+      let sent = subst (λ z. HasSent rules_d s.box (x.d.accepted ++ y ∷ []) z (sent_of x.d)) homes
+      (subst (λ z. HasSent rules_d s.box z (manager_homes more) (sent_of x.d)) same stands.0) in
+      manager_goes_on (as_bridge q) x h (pipe_of q.client.a q.a q.manager.a) (pipe_of s.box q.d q.client.d) s.book more x.a
       (offered rules_d y home x.d) h.a
-      (stands_offered rules_d masked_d (pipe_of q.manager.d q.d q.client.d) x.d y home s'.d ready.0 ready.1 k.1 sent h.d)
-      (asked_answer x.manager y ∙ h.manager_asked) same homes stands.book (obeys_answer x.manager y h.manager_obeys fine) refl refl))
+      (stands_offered rules_d masked_d (pipe_of q.manager.d q.d q.client.d) x.d y home s.box ready.0 ready.1 k sent h.d)
+      (asked_answer x.manager y ∙ h.manager_asked) same homes stands.1 (obeys_answer x.manager y h.manager_obeys fine) refl refl)
 
-  pub bridge_offers_e : (s' : ClientNow C M) (y : BeatOf HeadE C) (r : Result (Unit {0}) SideFault) → IsOpen q.client.e →
-      OffersBeat port_sends_e y q.client r s' → OffersBeat bridge_sends_e y (as_bridge q) r (with_client s')
-  bridge_offers_e s' y r ready = offer_lifted port_sends_e bridge_sends_e with_client client_of q.client s' (client_stands q) y r
-      (λ x. refl) (λ k. ap with_client k.0)
-      (λ x h fine k stands. subst (λ z. StandsFor (with_client z) (bridge_sends_e.with_beat y x)) (sym k.0)
-      (with_e (as_bridge q) x h (pipe_of s'.e q.e q.manager.e) (offered rules_e y 0 x.e)
-      (stands_offered rules_e masked_e (pipe_of q.client.e q.e q.manager.e) x.e y 0 s'.e ready.0 ready.1 k.1 stands.e h.e)))
+  pub bridge_offers_e : (o : Outgoing HeadE M) (y : BeatOf HeadE C) (r : Result (Unit {0}) SideFault) → IsOpen q.client.e →
+      OffersBeat (outbox_sends rules_e) y q.client.e r o → OffersBeat bridge_sends_e y (as_bridge q) r (with_outbox_e o)
+  bridge_offers_e o y r ready = offer_lifted (outbox_sends rules_e) bridge_sends_e with_outbox_e (λ x. away_of x.e) q.client.e o (λ x h. h.e.outbox) y r
+      (λ x. refl) (λ k. refl)
+      (λ x h fine k stands. with_e (as_bridge q) x h (pipe_of o q.e q.manager.e) (offered rules_e y 0 x.e)
+      (stands_offered rules_e masked_e (pipe_of q.client.e q.e q.manager.e) x.e y 0 o ready.0 ready.1 k stands h.e))
 
   -- so is a take
-  pub bridge_taken_a : (s' : ManagerNow C M) (r : Option (BeatOf HeadA M)) → TakesBeat port_takes_a q.manager r s' →
-      TakesBeat bridge_takes_a (as_bridge q) r (with_manager s')
-  bridge_taken_a s' r = take_lifted port_takes_a bridge_takes_a with_manager manager_of q.manager s' r (manager_stands q)
-      refl refl (λ k. ap with_manager k)
-      (λ x h k stands. subst (λ z. StandsFor (with_manager z) (bridge_takes_a.after_take (as_bridge q) x)) (sym k)
-      (manager_goes_on (as_bridge q) x h (pipe_of q.client.a q.a (drop 1 q.manager.a)) (pipe_of q.manager.d q.d q.client.d) s'.book
+  pub bridge_taken_a : (s : Booked (List (BeatOf HeadA M)) Manager) (r : Option (BeatOf HeadA M)) →
+      TakesBeat takes_requests (record { box = q.manager.a; book = q.manager.book }) r s → TakesBeat bridge_takes_a (as_bridge q) r (with_request_taken s)
+  bridge_taken_a s r = take_lifted takes_requests bridge_takes_a with_request_taken
+      (λ x. record { history = x.manager; received = x.a.taken ++ x.a.inbox }) (record { box = q.manager.a; book = q.manager.book }) s r
+      (λ x h. (ap (λ z. x.a.taken ++ z) (sym h.a.inbox) ∙ ap (λ z. z ++ q.manager.a) (sym h.manager_asked), h.manager)) refl refl
+      (λ k. ap (λ z. with_request_taken (record { box = z; book = s.book })) k)
+      (λ x h k stands. subst (λ z. StandsFor (with_request_taken (record { box = z; book = s.book })) (bridge_takes_a.after_take (as_bridge q) x)) (sym k)
+      (manager_goes_on (as_bridge q) x h (pipe_of q.client.a q.a (drop 1 q.manager.a)) (pipe_of q.manager.d q.d q.client.d) s.book
       (x.manager ++ map Ask (take 1 x.a.inbox)) (took x.a) x.d (stands_took rules_a masked_a (pipe_of q.client.a q.a q.manager.a) x.a h.a) h.d
       (asked-all x.manager (take 1 x.a.inbox) ∙ ap (λ z. z ++ take 1 x.a.inbox) h.manager_asked)
       (answered_asks x.manager (take 1 x.a.inbox) ∙ h.manager_answered) (homes_asks x.manager (take 1 x.a.inbox) ∙ h.homes)
-      (subst (λ z. KnowsManager s'.book (x.manager ++ map Ask (take 1 z))) h.a.inbox stands.book)
+      (subst (λ z. KnowsManager s.book (x.manager ++ map Ask (take 1 z))) h.a.inbox stands.1)
       (requests_taken (as_bridge q) x h (take 1 x.a.inbox) (first_of x.a.inbox)) refl refl))
 
-  pub bridge_taken_b : (s' : ClientNow C M) (r : Option (BeatOf HeadB C)) → TakesBeat port_takes_b q.client r s' →
-      TakesBeat bridge_takes_b (as_bridge q) r (with_client s')
-  bridge_taken_b s' r = take_lifted port_takes_b bridge_takes_b with_client client_of q.client s' r (client_stands q)
-      refl refl (λ k. ap with_client k)
-      (λ x h k stands. subst (λ z. StandsFor (with_client z) (bridge_takes_b.after_take (as_bridge q) x)) (sym k)
+  pub bridge_taken_b : (i : List (BeatOf HeadB C)) (r : Option (BeatOf HeadB C)) → TakesBeat (inbox_takes rules_b) q.client.b r i →
+      TakesBeat bridge_takes_b (as_bridge q) r (with_inbox_b i)
+  bridge_taken_b i r = take_lifted (inbox_takes rules_b) bridge_takes_b with_inbox_b (λ x. hither_of x.b) q.client.b i r
+      (λ x h. ap (λ z. x.b.taken ++ z) (sym h.b.inbox)) refl refl (λ k. ap with_inbox_b k)
+      (λ x h k stands. subst (λ z. StandsFor (with_inbox_b z) (bridge_takes_b.after_take (as_bridge q) x)) (sym k)
       (with_b (as_bridge q) x h (pipe_of q.manager.b q.b (drop 1 q.client.b)) (took x.b)
       (stands_took rules_b masked_b (pipe_of q.manager.b q.b q.client.b) x.b h.b)))
 
-  pub bridge_taken_c : (s' : ManagerNow C M) (r : Option (BeatOf HeadC M)) → TakesBeat port_takes_c q.manager r s' →
-      TakesBeat bridge_takes_c (as_bridge q) r (with_manager s')
-  bridge_taken_c s' r = take_lifted port_takes_c bridge_takes_c with_manager manager_of q.manager s' r (manager_stands q)
-      refl refl (λ k. ap with_manager k)
-      (λ x h k stands. subst (λ z. StandsFor (with_manager z) (bridge_takes_c.after_take (as_bridge q) x)) (sym k)
+  pub bridge_taken_c : (i : List (BeatOf HeadC M)) (r : Option (BeatOf HeadC M)) → TakesBeat (inbox_takes rules_c) q.manager.c r i →
+      TakesBeat bridge_takes_c (as_bridge q) r (with_inbox_c i)
+  bridge_taken_c i r = take_lifted (inbox_takes rules_c) bridge_takes_c with_inbox_c (λ x. hither_of x.c) q.manager.c i r
+      (λ x h. ap (λ z. x.c.taken ++ z) (sym h.c.inbox)) refl refl (λ k. ap with_inbox_c k)
+      (λ x h k stands. subst (λ z. StandsFor (with_inbox_c z) (bridge_takes_c.after_take (as_bridge q) x)) (sym k)
       (with_c (as_bridge q) x h (pipe_of q.client.c q.c (drop 1 q.manager.c)) (took x.c)
       (stands_took rules_c masked_c (pipe_of q.client.c q.c q.manager.c) x.c h.c)))
 
-  pub bridge_taken_d : (s' : ClientNow C M) (r : Option (BeatOf HeadD C)) → TakesBeat port_takes_d q.client r s' →
-      TakesBeat bridge_takes_d (as_bridge q) r (with_client s')
-  bridge_taken_d s' r = take_lifted port_takes_d bridge_takes_d with_client client_of q.client s' r (client_stands q)
-      refl refl (λ k. ap with_client k)
-      (λ x h k stands. subst (λ z. StandsFor (with_client z) (bridge_takes_d.after_take (as_bridge q) x)) (sym k)
-      (client_goes_on (as_bridge q) x h (pipe_of q.client.a q.a q.manager.a) (pipe_of q.manager.d q.d (drop 1 q.client.d)) s'.book
+  pub bridge_taken_d : (s : Booked (List (BeatOf HeadD C)) Client) (r : Option (BeatOf HeadD C)) →
+      TakesBeat takes_responses (record { box = q.client.d; book = q.client.book }) r s → TakesBeat bridge_takes_d (as_bridge q) r (with_response_taken s)
+  bridge_taken_d s r = take_lifted takes_responses bridge_takes_d with_response_taken
+      (λ x. record { history = x.client; received = x.d.taken ++ x.d.inbox }) (record { box = q.client.d; book = q.client.book }) s r
+      (λ x h. (ap (λ z. x.d.taken ++ z) (sym h.d.inbox) ∙ ap (λ z. z ++ q.client.d) (sym h.client_answered), h.client)) refl refl
+      (λ k. ap (λ z. with_response_taken (record { box = z; book = s.book })) k)
+      (λ x h k stands. subst (λ z. StandsFor (with_response_taken (record { box = z; book = s.book })) (bridge_takes_d.after_take (as_bridge q) x)) (sym k)
+      (client_goes_on (as_bridge q) x h (pipe_of q.client.a q.a q.manager.a) (pipe_of q.manager.d q.d (drop 1 q.client.d)) s.book
       (x.client ++ map Answer (take 1 x.d.inbox)) x.a (took x.d) h.a (stands_took rules_d masked_d (pipe_of q.manager.d q.d q.client.d) x.d h.d)
       (asked_answers x.client (take 1 x.d.inbox) ∙ h.client_asked)
       (answered-all x.client (take 1 x.d.inbox) ∙ ap (λ z. z ++ take 1 x.d.inbox) h.client_answered)
-      (subst (λ z. KnowsClient s'.book (x.client ++ map Answer (take 1 z))) h.d.inbox stands.book)
+      (subst (λ z. KnowsClient s.book (x.client ++ map Answer (take 1 z))) h.d.inbox stands.1)
       (responses_taken (as_bridge q) x h (take 1 x.d.inbox) (first_of x.d.inbox)) refl (refl, refl)))
 
-  pub bridge_taken_e : (s' : ManagerNow C M) (r : Option (BeatOf HeadE M)) → TakesBeat port_takes_e q.manager r s' →
-      TakesBeat bridge_takes_e (as_bridge q) r (with_manager s')
-  bridge_taken_e s' r = take_lifted port_takes_e bridge_takes_e with_manager manager_of q.manager s' r (manager_stands q)
-      refl refl (λ k. ap with_manager k)
-      (λ x h k stands. subst (λ z. StandsFor (with_manager z) (bridge_takes_e.after_take (as_bridge q) x)) (sym k)
+  pub bridge_taken_e : (i : List (BeatOf HeadE M)) (r : Option (BeatOf HeadE M)) → TakesBeat (inbox_takes rules_e) q.manager.e r i →
+      TakesBeat bridge_takes_e (as_bridge q) r (with_inbox_e i)
+  bridge_taken_e i r = take_lifted (inbox_takes rules_e) bridge_takes_e with_inbox_e (λ x. hither_of x.e) q.manager.e i r
+      (λ x h. ap (λ z. x.e.taken ++ z) (sym h.e.inbox)) refl refl (λ k. ap with_inbox_e k)
+      (λ x h k stands. subst (λ z. StandsFor (with_inbox_e z) (bridge_takes_e.after_take (as_bridge q) x)) (sym k)
       (with_e (as_bridge q) x h (pipe_of q.client.e q.e (drop 1 q.manager.e)) (took x.e)
       (stands_took rules_e masked_e (pipe_of q.client.e q.e q.manager.e) x.e h.e)))
 
   -- and a close
-  pub bridge_closes_a : (s' : ClientNow C M) (r : Result (Unit {0}) EndFault) → ClosesChannel port_sends_a q.client r s' →
-      ClosesChannel bridge_sends_a (as_bridge q) r (with_client s')
-  bridge_closes_a s' r = close_lifted port_sends_a bridge_sends_a with_client client_of q.client s' (client_stands q) r refl
-      (λ x h. h.client_asked) refl refl
+  pub bridge_closes_a : (o : Outgoing HeadA M) (r : Result (Unit {0}) EndFault) → ClosesChannel (outbox_sends rules_a {w = C}) q.client.a r o →
+      ClosesChannel bridge_sends_a (as_bridge q) r (with_outbox_a o)
+  bridge_closes_a o r = close_lifted (outbox_sends rules_a) bridge_sends_a with_outbox_a (λ x. away_of x.a) q.client.a o (λ x h. h.a.outbox) r
+      refl (λ x h. refl) refl refl
       (λ x h over. with_a (as_bridge q) x h (pipe_of (record q.client.a { closed = true }) q.a q.manager.a) (record x.a { closed = true })
       (stands_shut rules_a masked_a (pipe_of q.client.a q.a q.manager.a) x.a over h.a) (refl, refl))
 
-  pub bridge_closes_b : (s' : ManagerNow C M) (r : Result (Unit {0}) EndFault) → ClosesChannel port_sends_b q.manager r s' →
-      ClosesChannel bridge_sends_b (as_bridge q) r (with_manager s')
-  bridge_closes_b s' r = close_lifted port_sends_b bridge_sends_b with_manager manager_of q.manager s' (manager_stands q)
-      r refl (λ x h. refl) refl refl
+  pub bridge_closes_b : (o : Outgoing HeadB C) (r : Result (Unit {0}) EndFault) → ClosesChannel (outbox_sends rules_b {w = M}) q.manager.b r o →
+      ClosesChannel bridge_sends_b (as_bridge q) r (with_outbox_b o)
+  bridge_closes_b o r = close_lifted (outbox_sends rules_b) bridge_sends_b with_outbox_b (λ x. away_of x.b) q.manager.b o (λ x h. h.b.outbox) r
+      refl (λ x h. refl) refl refl
       (λ x h over. with_b (as_bridge q) x h (pipe_of (record q.manager.b { closed = true }) q.b q.client.b) (record x.b { closed = true })
       (stands_shut rules_b masked_b (pipe_of q.manager.b q.b q.client.b) x.b over h.b))
 
-  pub bridge_closes_c : (s' : ClientNow C M) (r : Result (Unit {0}) EndFault) → ClosesChannel port_sends_c q.client r s' →
-      ClosesChannel bridge_sends_c (as_bridge q) r (with_client s')
-  bridge_closes_c s' r = close_lifted port_sends_c bridge_sends_c with_client client_of q.client s' (client_stands q) r refl (λ x h. refl) refl refl
+  pub bridge_closes_c : (o : Outgoing HeadC M) (r : Result (Unit {0}) EndFault) → ClosesChannel (outbox_sends rules_c {w = C}) q.client.c r o →
+      ClosesChannel bridge_sends_c (as_bridge q) r (with_outbox_c o)
+  bridge_closes_c o r = close_lifted (outbox_sends rules_c) bridge_sends_c with_outbox_c (λ x. away_of x.c) q.client.c o (λ x h. h.c.outbox) r
+      refl (λ x h. refl) refl refl
       (λ x h over. with_c (as_bridge q) x h (pipe_of (record q.client.c { closed = true }) q.c q.manager.c) (record x.c { closed = true })
       (stands_shut rules_c masked_c (pipe_of q.client.c q.c q.manager.c) x.c over h.c))
 
-  pub bridge_closes_d : (s' : ManagerNow C M) (r : Result (Unit {0}) EndFault) → ClosesChannel port_sends_d q.manager r s' →
-      ClosesChannel bridge_sends_d (as_bridge q) r (with_manager s')
-  bridge_closes_d s' r = close_lifted port_sends_d bridge_sends_d with_manager manager_of q.manager s' (manager_stands q) r refl
-      (λ x h. h.manager_answered) refl refl
+  pub bridge_closes_d : (o : Outgoing HeadD C) (r : Result (Unit {0}) EndFault) → ClosesChannel (outbox_sends rules_d {w = M}) q.manager.d r o →
+      ClosesChannel bridge_sends_d (as_bridge q) r (with_outbox_d o)
+  bridge_closes_d o r = close_lifted (outbox_sends rules_d) bridge_sends_d with_outbox_d (λ x. away_of x.d) q.manager.d o (λ x h. h.d.outbox) r
+      refl (λ x h. refl) refl refl
       (λ x h over. with_d (as_bridge q) x h (pipe_of (record q.manager.d { closed = true }) q.d q.client.d) (record x.d { closed = true })
       (stands_shut rules_d masked_d (pipe_of q.manager.d q.d q.client.d) x.d over h.d) (refl, refl, refl))
 
-  pub bridge_closes_e : (s' : ClientNow C M) (r : Result (Unit {0}) EndFault) → ClosesChannel port_sends_e q.client r s' →
-      ClosesChannel bridge_sends_e (as_bridge q) r (with_client s')
-  bridge_closes_e s' r = close_lifted port_sends_e bridge_sends_e with_client client_of q.client s' (client_stands q) r refl (λ x h. refl) refl refl
+  pub bridge_closes_e : (o : Outgoing HeadE M) (r : Result (Unit {0}) EndFault) → ClosesChannel (outbox_sends rules_e {w = C}) q.client.e r o →
+      ClosesChannel bridge_sends_e (as_bridge q) r (with_outbox_e o)
+  bridge_closes_e o r = close_lifted (outbox_sends rules_e) bridge_sends_e with_outbox_e (λ x. away_of x.e) q.client.e o (λ x h. h.e.outbox) r
+      refl (λ x h. refl) refl refl
       (λ x h over. with_e (as_bridge q) x h (pipe_of (record q.client.e { closed = true }) q.e q.manager.e) (record x.e { closed = true })
       (stands_shut rules_e masked_e (pipe_of q.client.e q.e q.manager.e) x.e over h.e))
 
@@ -307,7 +299,7 @@ pub new_bridge : {C M : ℕ} (s : ClientNow C M) (t : ManagerNow C M) (a : Buffe
     (b : Buffer (BeatOf HeadB C)) (c : Buffer (BeatOf HeadC M))
     (d : Buffer (BeatOf HeadD C)) (e : Buffer (BeatOf HeadE M)) (ring : ℕ) → 1 ≤ ring →
     (a ≡ buffer [] ring) × (b ≡ buffer [] ring) × (c ≡ buffer [] ring) × (d ≡ buffer [] ring) × (e ≡ buffer [] ring) →
-    ClientStands s client_new → ManagerStands t manager_new → IsOpen s.a × IsOpen t.b × IsOpen s.c × IsOpen t.d × IsOpen s.e →
+    ClientIsNew s → ManagerIsNew t → IsOpen s.a × IsOpen t.b × IsOpen s.c × IsOpen t.d × IsOpen s.e →
     (t.a ≡ []) × (s.b ≡ []) × (t.c ≡ []) × (s.d ≡ []) × (t.e ≡ []) → StandsFor (bridge_of s t a b c d e) (nothing_yet ring)
 new_bridge s t a b c d e ring some made client manager ready none = record {
   a = stands_new rules_a masked_a (pipe_of s.a a t.a) ring some client.a (ap (λ q. q.capacity) made.0) ready.0.0

@@ -2,7 +2,7 @@ mod Words
 pub mod Draining
 mod Lifting
 pub mod BridgeSteps
-pub mod PortSteps
+pub mod BoxSteps
 pub mod Bridging
 mod Passing
 mod NewEnds

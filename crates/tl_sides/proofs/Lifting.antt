@@ -1,9 +1,13 @@
--- The effect of a call on a part of a channel's holder is its effect on the whole: an outbox is lifted to its port, and
--- a port to the bridge and to its side.
+-- The effect of a call on a part of a channel's holder is its effect on the whole: that on an outbox or an inbox is lifted to
+-- the bridge, and to its side.
 use Rattle.std.specs.Prelude.{◌≡◌, ◌↔◌, ℕ, None, Some, [], Option, Result, IsOk, IfErr, IfSome, slice_get}
 use Rattle.std.proofs.Common.{sym, subst, ap, ◌∙◌}
 use Rattle.tl_sides.proofs.Words.{IsLawfulBeat, BeatOf, SideFault, rest_of, EndFault, on_ok, on_err}
 use Rattle.tl_sides.specs.Calls.{SendingChannel, TakingChannel, OffersBeat, ClosesChannel, TakesBeat}
+
+-- the left side of an equation
+abbrev pub left_of : {A : Type 0} {x y : A} → x ≡ y → A
+left_of {x = x} same = x
 
 -- a part s of the whole `up s`, which represents the part `down y` of the past y
 module _ {S P T Q H : Type 0} {w : ℕ} (k : SendingChannel S P H w) (j : SendingChannel T Q H w) (up : S → T) (down : Q → P) (s s' : S)

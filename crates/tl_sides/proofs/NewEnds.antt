@@ -6,7 +6,7 @@ use Rattle.tl_sides.proofs.Words.{BeatOf, IsOpen, Takes, sending_of, taking_of, 
 use Rattle.tl_sides.proofs.Bridging.{masked_a, masked_b, masked_c, masked_d, masked_e}
 use Rattle.tl_ring.specs.Ends.{SendHalf, TakeHalf, IsNewRing}
 use Rattle.tl_sides.specs.Ends.{IsIdle}
-use Rattle.tl_sides.specs.Ports.{ClientNow, ClientStands, client_new, ManagerNow, ManagerStands, manager_new}
+use Rattle.tl_sides.specs.Ports.{ClientNow, ClientIsNew, ManagerNow, ManagerIsNew}
 use Rattle.tl_sides.specs.Sides.{client_state_of, manager_state_of}
 use Rattle.tl_sides.specs.Inner.Making.{AreNewSides}
 
@@ -24,7 +24,7 @@ pub new_sides : {A : Type 0} {C M : ℕ} (size : ℕ) (a : SendHalf ChA A HeadA 
     (d : SendHalf ChD A HeadD C) (e : SendHalf ChE A HeadE M) (a' : TakeHalf ChA A HeadA M) (b' : TakeHalf ChB A HeadB C)
     (c' : TakeHalf ChC A HeadC M) (d' : TakeHalf ChD A HeadD C) (e' : TakeHalf ChE A HeadE M) →
     IsNewRing size a a' × IsNewRing size b b' × IsNewRing size c c' × IsNewRing size d d' × IsNewRing size e e' →
-    (s : ClientNow C M) (t : ManagerNow C M) → ClientStands s client_new → ManagerStands t manager_new →
+    (s : ClientNow C M) (t : ManagerNow C M) → ClientIsNew s → ManagerIsNew t →
     IsOpen s.a × IsOpen t.b × IsOpen s.c × IsOpen t.d × IsOpen s.e → (t.a ≡ []) × (s.b ≡ []) × (t.c ≡ []) × (s.d ≡ []) × (t.e ≡ []) →
     AreNewSides size (client_state_of s a b' c d' e) (manager_state_of t a' b c' d e')
 new_sides size a b c d e a' b' c' d' e' rings s t client manager ready none = record {

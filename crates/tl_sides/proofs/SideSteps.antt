@@ -1,22 +1,21 @@
--- Each call of a side is one of its port, or moves beats between that and its halves of rings.
+-- Each call of a side is one of an outbox, an inbox or its book, or moves beats between these and its halves of rings.
 use Rattle.std.proofs.Common.{◌≡◌, ◌≤◌, ◌+◌, ◌*◌, ◌-◌, ℕ, List, Option, Result, [], ◌∷◌, ◌++◌, length, map, take, drop, min, refl, sym, ap, subst}
 use Rattle.std.proofs.Common.{◌∙◌, arith, append-nil, length-append}
 use Rattle.std.proofs.lemmas.List.{length-drop}
 use Rattle.tl_sides.proofs.Words.{Rules, rules_a, rules_b, rules_c, rules_d, rules_e, ChA, ChB, ChC, ChD, ChE, HeadA, HeadB, HeadC, HeadD, HeadE}
-use Rattle.tl_sides.proofs.Words.{BeatOf, homes_with, HasSent, IsOpen, World, inbox_room, Sending, Taking, sending_of, taking_of, Sends, Takes}
+use Rattle.tl_sides.proofs.Words.{BeatOf, Outgoing, homes_with, HasSent, IsOpen, World, inbox_room, Sending, Taking, sending_of, taking_of, Sends, Takes}
 use Rattle.tl_sides.proofs.Words.{Pushed, Fetched, Met, Meets, passed, received, known_free, known_items, STAGE_CAPACITY, Standing, sends_offered, sends_shut}
 use Rattle.tl_sides.proofs.Words.{meets_of, cut_moves, Event, Ask, Answer, asked, answered, manager_home, manager_homes, asked_ask, asked_answer}
 use Rattle.tl_sides.proofs.Words.{answered_ask, answered_answer, SideFault, EndFault}
 use Rattle.tl_sides.specs.Calls.{OffersBeat, ClosesChannel, TakesBeat}
 use Rattle.tl_settle.proofs.Obeys.{requests_ask, requests_answers, responses_answer, responses_asks}
 use Rattle.tl_sides.proofs.Lifting.{offer_lifted, close_lifted, take_lifted}
-use Rattle.tl_sides.specs.Ports.{ClientNow, ClientDone, ClientStands, ManagerNow, ManagerDone, ManagerStands}
-use Rattle.tl_sides.specs.Ports.{port_sends_a, port_sends_b, port_sends_c, port_sends_d, port_sends_e, port_takes_a, port_takes_b, port_takes_c}
-use Rattle.tl_sides.specs.Ports.{port_takes_d, port_takes_e}
+use Rattle.tl_sides.specs.Ports.{ClientNow, ManagerNow, Booked, outbox_sends, inbox_takes, sends_requests, sends_responses, takes_requests}
+use Rattle.tl_sides.specs.Ports.{takes_responses}
 use Rattle.tl_sides.specs.Ends.{Pumps, Fetches, AreStanding, pump_count, fetch_count, after_pump}
 use Rattle.tl_sides.specs.Sides.{ClientState, ManagerState, ClientPast, ManagerPast, ClientStandsFor, ManagerStandsFor, AreSides, SidesMeet}
 use Rattle.tl_sides.specs.Sides.{client_state_of, manager_state_of, client_pumps, manager_pumps}
-use Rattle.tl_settle.specs.Books.{KnowsClient, KnowsManager}
+use Rattle.tl_settle.specs.Books.{Client, Manager, KnowsClient, KnowsManager}
 use Rattle.tl_sides.specs.Sides.{client_takes_b, client_takes_d, manager_takes_a, manager_takes_c, manager_takes_e}
 use Rattle.tl_sides.specs.Sides.{side_sends_a, side_sends_b, side_sends_c, side_sends_d, side_sends_e, side_takes_a, side_takes_b, side_takes_c}
 use Rattle.tl_sides.specs.Sides.{side_takes_d, side_takes_e}
@@ -25,7 +24,7 @@ use Rattle.tl_sides.specs.declared.manager_side.ManagerSide.TheInside as manager
 use Rattle.tl_sides.proofs.BridgeSteps.{asked_answers, answered_asks, homes_asks, homes_given}
 use Rattle.tl_sides.proofs.Bridging.{masked_a, masked_b, masked_c, masked_d, masked_e, sent_of, away_of}
 use Rattle.tl_sides.proofs.Draining.{answered-all, asked-all}
-use Rattle.tl_sides.proofs.PortSteps.{between_of}
+use Rattle.tl_sides.proofs.BoxSteps.{between_of}
 
 -- a side is its port and its halves of the rings
 abbrev pub client_side_of : {A : Type 0} {C M : ℕ} → client.Inside C M A → ClientState A C M
@@ -34,39 +33,7 @@ client_side_of q = client_state_of q.port q.a q.b.half q.c q.d.half q.e
 abbrev pub manager_side_of : {A : Type 0} {C M : ℕ} → manager.Inside C M A → ManagerState A C M
 manager_side_of q = manager_state_of q.port q.a.half q.b q.c.half q.d q.e.half
 
--- the past of its port, if the side represents a past
-abbrev pub client_done : {A : Type 0} {C M : ℕ} → client.Inside C M A → ClientPast C M → ClientDone C M
-client_done q x = record {
-  history = x.history;
-  a_homes = x.a.homes;
-  a_sent = sent_of x.a;
-  b = record { received = received (taking_of q.port.b q.b.half); taken = x.b };
-  c = away_of x.c;
-  d_received = received (taking_of q.port.d q.d.half);
-  e = away_of x.e;
-}
-
-abbrev pub manager_done : {A : Type 0} {C M : ℕ} → manager.Inside C M A → ManagerPast C M → ManagerDone C M
-manager_done q x = record {
-  history = x.history;
-  a_received = received (taking_of q.port.a q.a.half);
-  b = away_of x.b;
-  c = record { received = received (taking_of q.port.c q.c.half); taken = x.c };
-  d_sent = sent_of x.d;
-  e = record { received = received (taking_of q.port.e q.e.half); taken = x.e };
-}
-
 module _ {A : Type 0} {C M : ℕ} (q : client.Inside C M A) (x : ClientPast C M) (h : ClientStandsFor (client_side_of q) x) where
-  pub client_port_stands : ClientStands q.port (client_done q x)
-  client_port_stands = record {
-    a = subst (λ z. HasSent rules_a q.port.a z x.a.homes (sent_of x.a)) (sym h.accepted) h.a.pipe.outbox;
-    b = h.b;
-    c = h.c.pipe.outbox;
-    d = h.d;
-    e = h.e.pipe.outbox;
-    book = h.book;
-  }
-
   -- all beats of the inboxes are taken
   pub client_takes_all : (s' : ClientNow C M) → s' ≡ record q.port { b = []; d = []; book = s'.book } →
       KnowsClient s'.book (x.history ++ map Answer q.port.d) →
@@ -84,41 +51,56 @@ module _ {A : Type 0} {C M : ℕ} (q : client.Inside C M A) (x : ClientPast C M)
       })
 
 module _ {A : Type 0} {C M : ℕ} (q : client.Inside C M A) where
-  -- the side with another port
-  abbrev client_with : ClientNow C M → ClientState A C M
-  client_with s = client_side_of (record q { port = s })
+  -- the side with another box
+  abbrev outbox_a : Outgoing HeadA M → ClientState A C M
+  outbox_a o = client_side_of (record q { port = record q.port { a = o } })
 
-  -- an offer to its port is one to the side
-  pub side_offers_a : (s' : ClientNow C M) (y : BeatOf HeadA C) (r : Result (Unit {0}) SideFault) → IsOpen q.port.a →
-      OffersBeat port_sends_a y q.port r s' → OffersBeat side_sends_a y (client_side_of q) r (client_with s')
-  side_offers_a s' y r ready = offer_lifted port_sends_a side_sends_a client_with (client_done q) q.port s' (client_port_stands q) y r (λ x. refl)
-      (λ k. (refl, ap client_with k.0))
+  abbrev outbox_c : Outgoing HeadC M → ClientState A C M
+  outbox_c o = client_side_of (record q { port = record q.port { c = o } })
+
+  abbrev outbox_e : Outgoing HeadE M → ClientState A C M
+  outbox_e o = client_side_of (record q { port = record q.port { e = o } })
+
+  abbrev inbox_b : List (BeatOf HeadB C) → ClientState A C M
+  inbox_b i = client_side_of (record q { port = record q.port { b = i } })
+
+  abbrev request_sent : Booked (Outgoing HeadA M) Client → ClientState A C M
+  request_sent s = client_side_of (record q { port = record q.port { a = s.box; book = s.book } })
+
+  abbrev response_taken : Booked (List (BeatOf HeadD C)) Client → ClientState A C M
+  response_taken s = client_side_of (record q { port = record q.port { d = s.box; book = s.book } })
+
+  -- an offer to an outbox is one to the side
+  pub side_offers_a : (s : Booked (Outgoing HeadA M) Client) (y : BeatOf HeadA C) (r : Result (Unit {0}) SideFault) → IsOpen q.port.a →
+      OffersBeat sends_requests y (record { box = q.port.a; book = q.port.book }) r s → OffersBeat side_sends_a y (client_side_of q) r (request_sent s)
+  side_offers_a s y r ready = offer_lifted sends_requests side_sends_a request_sent
+      (λ x. record { history = x.history; homes = x.a.homes; sent = sent_of x.a }) (record { box = q.port.a; book = q.port.book }) s
+      (λ x h. (subst (λ z. HasSent rules_a q.port.a z x.a.homes (sent_of x.a)) (sym h.accepted) h.a.pipe.outbox, h.book)) y r
+      (λ x. refl) (λ k. (refl, refl))
       (λ x h fine k stands.
       let more : List (BeatOf HeadA C) = x.a.accepted ++ y ∷ [] in
       let same : asked (x.history ++ Ask y ∷ []) ≡ more = asked_ask x.history y ∙ ap (λ z. z ++ y ∷ []) h.accepted in
-      let sent = subst (λ z. HasSent rules_a s'.a more (homes_with rules_a z x.a.homes y 0) (sent_of x.a)) h.accepted
-      (subst (λ z. HasSent rules_a s'.a z (homes_with rules_a (asked x.history) x.a.homes y 0) (sent_of x.a)) same stands.a) in
-      subst (λ z. ClientStandsFor (client_with z) ((side_sends_a {A = A}).with_beat y x)) (sym k.0)
+      let sent = subst (λ z. HasSent rules_a s.box more (homes_with rules_a z x.a.homes y 0) (sent_of x.a)) h.accepted
+      (subst (λ z. HasSent rules_a s.box z (homes_with rules_a (asked x.history) x.a.homes y 0) (sent_of x.a)) same stands.0) in
       (record {
-        a = sends_offered rules_a masked_a (sending_of q.port.a q.a) x.a y 0 s'.a ready.0 ready.1 k.1 sent h.a;
+        a = sends_offered rules_a masked_a (sending_of q.port.a q.a) x.a y 0 s.box ready.0 ready.1 k sent h.a;
         b = h.b;
         c = h.c;
         d = subst (λ z. Takes (taking_of q.port.d q.d.half) z) (sym (answered_ask x.history y)) h.d;
         e = h.e;
         accepted = same;
         requests = requests_ask x.history y h.requests fine;
-        book = stands.book;
+        book = stands.1;
       }))
 
-  pub side_offers_c : (s' : ClientNow C M) (y : BeatOf HeadC C) (r : Result (Unit {0}) SideFault) → IsOpen q.port.c →
-      OffersBeat port_sends_c y q.port r s' → OffersBeat side_sends_c y (client_side_of q) r (client_with s')
-  side_offers_c s' y r ready = offer_lifted port_sends_c side_sends_c client_with (client_done q) q.port s' (client_port_stands q) y r (λ x. refl)
-      (λ k. (refl, ap client_with k.0))
-      (λ x h fine k stands. subst (λ z. ClientStandsFor (client_with z) ((side_sends_c {A = A}).with_beat y x)) (sym k.0)
-      (record {
+  pub side_offers_c : (o : Outgoing HeadC M) (y : BeatOf HeadC C) (r : Result (Unit {0}) SideFault) → IsOpen q.port.c →
+      OffersBeat (outbox_sends rules_c) y q.port.c r o → OffersBeat side_sends_c y (client_side_of q) r (outbox_c o)
+  side_offers_c o y r ready = offer_lifted (outbox_sends rules_c) side_sends_c outbox_c (λ x. away_of x.c) q.port.c o (λ x h. h.c.pipe.outbox) y r
+      (λ x. refl) (λ k. (refl, refl))
+      (λ x h fine k stands. (record {
         a = h.a;
         b = h.b;
-        c = sends_offered rules_c masked_c (sending_of q.port.c q.c) x.c y 0 s'.c ready.0 ready.1 k.1 stands.c h.c;
+        c = sends_offered rules_c masked_c (sending_of q.port.c q.c) x.c y 0 o ready.0 ready.1 k stands h.c;
         d = h.d;
         e = h.e;
         accepted = h.accepted;
@@ -126,35 +108,44 @@ module _ {A : Type 0} {C M : ℕ} (q : client.Inside C M A) where
         book = h.book;
       }))
 
-  pub side_offers_e : (s' : ClientNow C M) (y : BeatOf HeadE C) (r : Result (Unit {0}) SideFault) → IsOpen q.port.e →
-      OffersBeat port_sends_e y q.port r s' → OffersBeat side_sends_e y (client_side_of q) r (client_with s')
-  side_offers_e s' y r ready = offer_lifted port_sends_e side_sends_e client_with (client_done q) q.port s' (client_port_stands q) y r (λ x. refl)
-      (λ k. (refl, ap client_with k.0))
-      (λ x h fine k stands. subst (λ z. ClientStandsFor (client_with z) ((side_sends_e {A = A}).with_beat y x)) (sym k.0)
-      (record {
+  pub side_offers_e : (o : Outgoing HeadE M) (y : BeatOf HeadE C) (r : Result (Unit {0}) SideFault) → IsOpen q.port.e →
+      OffersBeat (outbox_sends rules_e) y q.port.e r o → OffersBeat side_sends_e y (client_side_of q) r (outbox_e o)
+  side_offers_e o y r ready = offer_lifted (outbox_sends rules_e) side_sends_e outbox_e (λ x. away_of x.e) q.port.e o (λ x h. h.e.pipe.outbox) y r
+      (λ x. refl) (λ k. (refl, refl))
+      (λ x h fine k stands. (record {
         a = h.a;
         b = h.b;
         c = h.c;
         d = h.d;
-        e = sends_offered rules_e masked_e (sending_of q.port.e q.e) x.e y 0 s'.e ready.0 ready.1 k.1 stands.e h.e;
+        e = sends_offered rules_e masked_e (sending_of q.port.e q.e) x.e y 0 o ready.0 ready.1 k stands h.e;
         accepted = h.accepted;
         requests = h.requests;
         book = h.book;
       }))
 
   -- so is a take
-  pub side_taken_b : (s' : ClientNow C M) (r : Option (BeatOf HeadB C)) → TakesBeat port_takes_b q.port r s' →
-      TakesBeat side_takes_b (client_side_of q) r (client_with s')
-  side_taken_b s' r = take_lifted port_takes_b side_takes_b client_with (client_done q) q.port s' r (client_port_stands q)
-      refl refl (λ k. ap client_with k)
-      (λ x h k stands. subst (λ z. ClientStandsFor (client_with z) ((side_takes_b {A = A}).after_take (client_side_of q) x)) (sym k)
-      (record { a = h.a; b = h.b ∙ sym (cut_moves 1 x.b q.port.b); c = h.c; d = h.d; e = h.e; accepted = h.accepted; requests = h.requests; book = h.book }))
+  pub side_taken_b : (i : List (BeatOf HeadB C)) (r : Option (BeatOf HeadB C)) → TakesBeat (inbox_takes rules_b) q.port.b r i →
+      TakesBeat side_takes_b (client_side_of q) r (inbox_b i)
+  side_taken_b i r = take_lifted (inbox_takes rules_b) side_takes_b inbox_b
+      (λ x. record { received = received (taking_of q.port.b q.b.half); taken = x.b }) q.port.b i r (λ x h. h.b) refl refl (λ k. ap inbox_b k)
+      (λ x h k stands. subst (λ z. ClientStandsFor (inbox_b z) ((side_takes_b {A = A}).after_take (client_side_of q) x)) (sym k)
+      (record {
+        a = h.a;
+        b = h.b ∙ sym (cut_moves 1 x.b q.port.b);
+        c = h.c;
+        d = h.d;
+        e = h.e;
+        accepted = h.accepted;
+        requests = h.requests;
+        book = h.book;
+      }))
 
-  pub side_taken_d : (s' : ClientNow C M) (r : Option (BeatOf HeadD C)) → TakesBeat port_takes_d q.port r s' →
-      TakesBeat side_takes_d (client_side_of q) r (client_with s')
-  side_taken_d s' r = take_lifted port_takes_d side_takes_d client_with (client_done q) q.port s' r (client_port_stands q)
-      refl refl (λ k. ap client_with k)
-      (λ x h k stands. subst (λ z. ClientStandsFor (client_with z) ((side_takes_d {A = A}).after_take (client_side_of q) x)) (sym k)
+  pub side_taken_d : (s : Booked (List (BeatOf HeadD C)) Client) (r : Option (BeatOf HeadD C)) →
+      TakesBeat takes_responses (record { box = q.port.d; book = q.port.book }) r s → TakesBeat side_takes_d (client_side_of q) r (response_taken s)
+  side_taken_d s r = take_lifted takes_responses side_takes_d response_taken
+      (λ x. record { history = x.history; received = received (taking_of q.port.d q.d.half) }) (record { box = q.port.d; book = q.port.book }) s r
+      (λ x h. (h.d, h.book)) refl refl (λ k. ap (λ z. response_taken (record { box = z; book = s.book })) k)
+      (λ x h k stands. subst (λ z. ClientStandsFor (response_taken (record { box = z; book = s.book })) ((side_takes_d {A = A}).after_take (client_side_of q) x)) (sym k)
       (record {
         a = h.a;
         b = h.b;
@@ -164,15 +155,15 @@ module _ {A : Type 0} {C M : ℕ} (q : client.Inside C M A) where
         e = h.e;
         accepted = asked_answers x.history (take 1 q.port.d) ∙ h.accepted;
         requests = requests_answers x.history (take 1 q.port.d) h.requests;
-        book = stands.book;
+        book = stands.1;
       }))
 
   -- and a close
-  pub side_closes_a : (s' : ClientNow C M) (r : Result (Unit {0}) EndFault) → ClosesChannel port_sends_a q.port r s' →
-      ClosesChannel side_sends_a (client_side_of q) r (client_with s')
-  side_closes_a s' r = close_lifted port_sends_a side_sends_a client_with (client_done q) q.port s' (client_port_stands q) r
-      refl (λ x h. h.accepted) refl refl
-      (λ x h over. record {
+  pub side_closes_a : (o : Outgoing HeadA M) (r : Result (Unit {0}) EndFault) → ClosesChannel (outbox_sends rules_a {w = C}) q.port.a r o →
+      ClosesChannel side_sends_a (client_side_of q) r (outbox_a o)
+  side_closes_a o r = close_lifted (outbox_sends rules_a) side_sends_a outbox_a (λ x. away_of x.a) q.port.a o (λ x h. h.a.pipe.outbox) r
+      refl (λ x h. refl) refl refl
+      (λ x h over. (record {
         a = sends_shut rules_a masked_a (sending_of q.port.a q.a) x.a over h.a;
         b = h.b;
         c = h.c;
@@ -181,13 +172,13 @@ module _ {A : Type 0} {C M : ℕ} (q : client.Inside C M A) where
         accepted = h.accepted;
         requests = h.requests;
         book = h.book;
-      })
+      }))
 
-  pub side_closes_c : (s' : ClientNow C M) (r : Result (Unit {0}) EndFault) → ClosesChannel port_sends_c q.port r s' →
-      ClosesChannel side_sends_c (client_side_of q) r (client_with s')
-  side_closes_c s' r = close_lifted port_sends_c side_sends_c client_with (client_done q) q.port s' (client_port_stands q)
-      r refl (λ x h. refl) refl refl
-      (λ x h over. record {
+  pub side_closes_c : (o : Outgoing HeadC M) (r : Result (Unit {0}) EndFault) → ClosesChannel (outbox_sends rules_c {w = C}) q.port.c r o →
+      ClosesChannel side_sends_c (client_side_of q) r (outbox_c o)
+  side_closes_c o r = close_lifted (outbox_sends rules_c) side_sends_c outbox_c (λ x. away_of x.c) q.port.c o (λ x h. h.c.pipe.outbox) r
+      refl (λ x h. refl) refl refl
+      (λ x h over. (record {
         a = h.a;
         b = h.b;
         c = sends_shut rules_c masked_c (sending_of q.port.c q.c) x.c over h.c;
@@ -196,13 +187,13 @@ module _ {A : Type 0} {C M : ℕ} (q : client.Inside C M A) where
         accepted = h.accepted;
         requests = h.requests;
         book = h.book;
-      })
+      }))
 
-  pub side_closes_e : (s' : ClientNow C M) (r : Result (Unit {0}) EndFault) → ClosesChannel port_sends_e q.port r s' →
-      ClosesChannel side_sends_e (client_side_of q) r (client_with s')
-  side_closes_e s' r = close_lifted port_sends_e side_sends_e client_with (client_done q) q.port s' (client_port_stands q)
-      r refl (λ x h. refl) refl refl
-      (λ x h over. record {
+  pub side_closes_e : (o : Outgoing HeadE M) (r : Result (Unit {0}) EndFault) → ClosesChannel (outbox_sends rules_e {w = C}) q.port.e r o →
+      ClosesChannel side_sends_e (client_side_of q) r (outbox_e o)
+  side_closes_e o r = close_lifted (outbox_sends rules_e) side_sends_e outbox_e (λ x. away_of x.e) q.port.e o (λ x h. h.e.pipe.outbox) r
+      refl (λ x h. refl) refl refl
+      (λ x h over. (record {
         a = h.a;
         b = h.b;
         c = h.c;
@@ -211,20 +202,9 @@ module _ {A : Type 0} {C M : ℕ} (q : client.Inside C M A) where
         accepted = h.accepted;
         requests = h.requests;
         book = h.book;
-      })
+      }))
 
 module _ {A : Type 0} {C M : ℕ} (q : manager.Inside C M A) (x : ManagerPast C M) (h : ManagerStandsFor (manager_side_of q) x) where
-  pub manager_port_stands : ManagerStands q.port (manager_done q x)
-  manager_port_stands = record {
-    a = h.a;
-    b = h.b.pipe.outbox;
-    c = h.c;
-    d = subst (λ z. HasSent rules_d q.port.d z (manager_homes x.history) (sent_of x.d)) (sym h.accepted)
-        (subst (λ z. HasSent rules_d q.port.d x.d.accepted z (sent_of x.d)) (sym h.homes) h.d.pipe.outbox);
-    e = h.e;
-    book = h.book;
-  }
-
   -- all beats of the inboxes are taken
   pub manager_takes_all : (s' : ManagerNow C M) → s' ≡ record q.port { a = []; c = []; e = []; book = s'.book } →
       KnowsManager s'.book (x.history ++ map Ask q.port.a) →
@@ -244,19 +224,33 @@ module _ {A : Type 0} {C M : ℕ} (q : manager.Inside C M A) (x : ManagerPast C 
       })
 
 module _ {A : Type 0} {C M : ℕ} (q : manager.Inside C M A) where
-  -- the side with another port
-  abbrev manager_with : ManagerNow C M → ManagerState A C M
-  manager_with s = manager_side_of (record q { port = s })
+  -- the side with another box
+  abbrev outbox_b : Outgoing HeadB C → ManagerState A C M
+  outbox_b o = manager_side_of (record q { port = record q.port { b = o } })
 
-  -- an offer to its port is one to the side
-  pub side_offers_b : (s' : ManagerNow C M) (y : BeatOf HeadB M) (r : Result (Unit {0}) SideFault) → IsOpen q.port.b →
-      OffersBeat port_sends_b y q.port r s' → OffersBeat side_sends_b y (manager_side_of q) r (manager_with s')
-  side_offers_b s' y r ready = offer_lifted port_sends_b side_sends_b manager_with (manager_done q) q.port s' (manager_port_stands q) y r (λ x. refl)
-      (λ k. (refl, ap manager_with k.0))
-      (λ x h fine k stands. subst (λ z. ManagerStandsFor (manager_with z) ((side_sends_b {A = A}).with_beat y x)) (sym k.0)
-      (record {
+  abbrev outbox_d : Outgoing HeadD C → ManagerState A C M
+  outbox_d o = manager_side_of (record q { port = record q.port { d = o } })
+
+  abbrev inbox_c : List (BeatOf HeadC M) → ManagerState A C M
+  inbox_c i = manager_side_of (record q { port = record q.port { c = i } })
+
+  abbrev inbox_e : List (BeatOf HeadE M) → ManagerState A C M
+  inbox_e i = manager_side_of (record q { port = record q.port { e = i } })
+
+  abbrev response_sent : Booked (Outgoing HeadD C) Manager → ManagerState A C M
+  response_sent s = manager_side_of (record q { port = record q.port { d = s.box; book = s.book } })
+
+  abbrev request_taken : Booked (List (BeatOf HeadA M)) Manager → ManagerState A C M
+  request_taken s = manager_side_of (record q { port = record q.port { a = s.box; book = s.book } })
+
+  -- an offer to an outbox is one to the side
+  pub side_offers_b : (o : Outgoing HeadB C) (y : BeatOf HeadB M) (r : Result (Unit {0}) SideFault) → IsOpen q.port.b →
+      OffersBeat (outbox_sends rules_b) y q.port.b r o → OffersBeat side_sends_b y (manager_side_of q) r (outbox_b o)
+  side_offers_b o y r ready = offer_lifted (outbox_sends rules_b) side_sends_b outbox_b (λ x. away_of x.b) q.port.b o (λ x h. h.b.pipe.outbox) y r
+      (λ x. refl) (λ k. (refl, refl))
+      (λ x h fine k stands. (record {
         a = h.a;
-        b = sends_offered rules_b masked_b (sending_of q.port.b q.b) x.b y 0 s'.b ready.0 ready.1 k.1 stands.b h.b;
+        b = sends_offered rules_b masked_b (sending_of q.port.b q.b) x.b y 0 o ready.0 ready.1 k stands h.b;
         c = h.c;
         d = h.d;
         e = h.e;
@@ -266,37 +260,42 @@ module _ {A : Type 0} {C M : ℕ} (q : manager.Inside C M A) where
         book = h.book;
       }))
 
-  pub side_offers_d : (s' : ManagerNow C M) (y : BeatOf HeadD M) (r : Result (Unit {0}) SideFault) → IsOpen q.port.d →
-      OffersBeat port_sends_d y q.port r s' → OffersBeat side_sends_d y (manager_side_of q) r (manager_with s')
-  side_offers_d s' y r ready = offer_lifted port_sends_d side_sends_d manager_with (manager_done q) q.port s' (manager_port_stands q) y r (λ x. refl)
-      (λ k. (refl, ap manager_with k.0))
+  pub side_offers_d : (s : Booked (Outgoing HeadD C) Manager) (y : BeatOf HeadD M) (r : Result (Unit {0}) SideFault) → IsOpen q.port.d →
+      OffersBeat sends_responses y (record { box = q.port.d; book = q.port.book }) r s → OffersBeat side_sends_d y (manager_side_of q) r (response_sent s)
+  side_offers_d s y r ready = offer_lifted sends_responses side_sends_d response_sent
+      (λ x. record { history = x.history; sent = sent_of x.d }) (record { box = q.port.d; book = q.port.book }) s
+      (λ x h. (
+        subst (λ z. HasSent rules_d q.port.d z (manager_homes x.history) (sent_of x.d)) (sym h.accepted)
+            (subst (λ z. HasSent rules_d q.port.d x.d.accepted z (sent_of x.d)) (sym h.homes) h.d.pipe.outbox),
+        h.book,
+      )) y r (λ x. refl) (λ k. (refl, refl))
       (λ x h fine k stands.
       let more : List (Event M) = x.history ++ Answer y ∷ [] in
       let home : ℕ = manager_home x.history y.head in
       let between = between_of rules_d q.port.d x.d.accepted x.d.homes (sent_of x.d) h.d.pipe.outbox in
       let same : answered more ≡ x.d.accepted ++ y ∷ [] = answered_answer x.history y ∙ ap (λ z. z ++ y ∷ []) h.accepted in
       let homes = homes_given x.history y x.d.accepted x.d.homes between h.accepted h.homes in
-      let sent = subst (λ z. HasSent rules_d s'.d (x.d.accepted ++ y ∷ []) z (sent_of x.d)) homes
-      (subst (λ z. HasSent rules_d s'.d z (manager_homes more) (sent_of x.d)) same stands.d) in
-      subst (λ z. ManagerStandsFor (manager_with z) ((side_sends_d {A = A}).with_beat y x)) (sym k.0)
+      let sent = subst (λ z. HasSent rules_d s.box (x.d.accepted ++ y ∷ []) z (sent_of x.d)) homes
+      (subst (λ z. HasSent rules_d s.box z (manager_homes more) (sent_of x.d)) same stands.0) in
       (record {
         a = subst (λ z. Takes (taking_of q.port.a q.a.half) z) (sym (asked_answer x.history y)) h.a;
         b = h.b;
         c = h.c;
-        d = sends_offered rules_d masked_d (sending_of q.port.d q.d) x.d y home s'.d ready.0 ready.1 k.1 sent h.d;
+        d = sends_offered rules_d masked_d (sending_of q.port.d q.d) x.d y home s.box ready.0 ready.1 k sent h.d;
         e = h.e;
         accepted = same;
         homes = homes;
         responses = responses_answer x.history y h.responses fine;
-        book = stands.book;
+        book = stands.1;
       }))
 
   -- so is a take
-  pub side_taken_a : (s' : ManagerNow C M) (r : Option (BeatOf HeadA M)) → TakesBeat port_takes_a q.port r s' →
-      TakesBeat side_takes_a (manager_side_of q) r (manager_with s')
-  side_taken_a s' r = take_lifted port_takes_a side_takes_a manager_with (manager_done q) q.port s' r (manager_port_stands q)
-      refl refl (λ k. ap manager_with k)
-      (λ x h k stands. subst (λ z. ManagerStandsFor (manager_with z) ((side_takes_a {A = A}).after_take (manager_side_of q) x)) (sym k)
+  pub side_taken_a : (s : Booked (List (BeatOf HeadA M)) Manager) (r : Option (BeatOf HeadA M)) →
+      TakesBeat takes_requests (record { box = q.port.a; book = q.port.book }) r s → TakesBeat side_takes_a (manager_side_of q) r (request_taken s)
+  side_taken_a s r = take_lifted takes_requests side_takes_a request_taken
+      (λ x. record { history = x.history; received = received (taking_of q.port.a q.a.half) }) (record { box = q.port.a; book = q.port.book }) s r
+      (λ x h. (h.a, h.book)) refl refl (λ k. ap (λ z. request_taken (record { box = z; book = s.book })) k)
+      (λ x h k stands. subst (λ z. ManagerStandsFor (request_taken (record { box = z; book = s.book })) ((side_takes_a {A = A}).after_take (manager_side_of q) x)) (sym k)
       (record {
         a = h.a ∙ sym (cut_moves 1 (asked x.history) q.port.a) ∙ ap (λ z. z ++ drop 1 q.port.a) (sym (asked-all x.history (take 1 q.port.a)));
         b = h.b;
@@ -306,14 +305,14 @@ module _ {A : Type 0} {C M : ℕ} (q : manager.Inside C M A) where
         accepted = answered_asks x.history (take 1 q.port.a) ∙ h.accepted;
         homes = homes_asks x.history (take 1 q.port.a) ∙ h.homes;
         responses = responses_asks x.history (take 1 q.port.a) h.responses;
-        book = stands.book;
+        book = stands.1;
       }))
 
-  pub side_taken_c : (s' : ManagerNow C M) (r : Option (BeatOf HeadC M)) → TakesBeat port_takes_c q.port r s' →
-      TakesBeat side_takes_c (manager_side_of q) r (manager_with s')
-  side_taken_c s' r = take_lifted port_takes_c side_takes_c manager_with (manager_done q) q.port s' r (manager_port_stands q)
-      refl refl (λ k. ap manager_with k)
-      (λ x h k stands. subst (λ z. ManagerStandsFor (manager_with z) ((side_takes_c {A = A}).after_take (manager_side_of q) x)) (sym k)
+  pub side_taken_c : (i : List (BeatOf HeadC M)) (r : Option (BeatOf HeadC M)) → TakesBeat (inbox_takes rules_c) q.port.c r i →
+      TakesBeat side_takes_c (manager_side_of q) r (inbox_c i)
+  side_taken_c i r = take_lifted (inbox_takes rules_c) side_takes_c inbox_c
+      (λ x. record { received = received (taking_of q.port.c q.c.half); taken = x.c }) q.port.c i r (λ x h. h.c) refl refl (λ k. ap inbox_c k)
+      (λ x h k stands. subst (λ z. ManagerStandsFor (inbox_c z) ((side_takes_c {A = A}).after_take (manager_side_of q) x)) (sym k)
       (record {
         a = h.a;
         b = h.b;
@@ -326,11 +325,11 @@ module _ {A : Type 0} {C M : ℕ} (q : manager.Inside C M A) where
         book = h.book;
       }))
 
-  pub side_taken_e : (s' : ManagerNow C M) (r : Option (BeatOf HeadE M)) → TakesBeat port_takes_e q.port r s' →
-      TakesBeat side_takes_e (manager_side_of q) r (manager_with s')
-  side_taken_e s' r = take_lifted port_takes_e side_takes_e manager_with (manager_done q) q.port s' r (manager_port_stands q)
-      refl refl (λ k. ap manager_with k)
-      (λ x h k stands. subst (λ z. ManagerStandsFor (manager_with z) ((side_takes_e {A = A}).after_take (manager_side_of q) x)) (sym k)
+  pub side_taken_e : (i : List (BeatOf HeadE M)) (r : Option (BeatOf HeadE M)) → TakesBeat (inbox_takes rules_e) q.port.e r i →
+      TakesBeat side_takes_e (manager_side_of q) r (inbox_e i)
+  side_taken_e i r = take_lifted (inbox_takes rules_e) side_takes_e inbox_e
+      (λ x. record { received = received (taking_of q.port.e q.e.half); taken = x.e }) q.port.e i r (λ x h. h.e) refl refl (λ k. ap inbox_e k)
+      (λ x h k stands. subst (λ z. ManagerStandsFor (inbox_e z) ((side_takes_e {A = A}).after_take (manager_side_of q) x)) (sym k)
       (record {
         a = h.a;
         b = h.b;
@@ -344,11 +343,11 @@ module _ {A : Type 0} {C M : ℕ} (q : manager.Inside C M A) where
       }))
 
   -- and a close
-  pub side_closes_b : (s' : ManagerNow C M) (r : Result (Unit {0}) EndFault) → ClosesChannel port_sends_b q.port r s' →
-      ClosesChannel side_sends_b (manager_side_of q) r (manager_with s')
-  side_closes_b s' r = close_lifted port_sends_b side_sends_b manager_with (manager_done q) q.port s' (manager_port_stands q)
-      r refl (λ x h. refl) refl refl
-      (λ x h over. record {
+  pub side_closes_b : (o : Outgoing HeadB C) (r : Result (Unit {0}) EndFault) → ClosesChannel (outbox_sends rules_b {w = M}) q.port.b r o →
+      ClosesChannel side_sends_b (manager_side_of q) r (outbox_b o)
+  side_closes_b o r = close_lifted (outbox_sends rules_b) side_sends_b outbox_b (λ x. away_of x.b) q.port.b o (λ x h. h.b.pipe.outbox) r
+      refl (λ x h. refl) refl refl
+      (λ x h over. (record {
         a = h.a;
         b = sends_shut rules_b masked_b (sending_of q.port.b q.b) x.b over h.b;
         c = h.c;
@@ -358,13 +357,13 @@ module _ {A : Type 0} {C M : ℕ} (q : manager.Inside C M A) where
         homes = h.homes;
         responses = h.responses;
         book = h.book;
-      })
+      }))
 
-  pub side_closes_d : (s' : ManagerNow C M) (r : Result (Unit {0}) EndFault) → ClosesChannel port_sends_d q.port r s' →
-      ClosesChannel side_sends_d (manager_side_of q) r (manager_with s')
-  side_closes_d s' r = close_lifted port_sends_d side_sends_d manager_with (manager_done q) q.port s' (manager_port_stands q) r
-      refl (λ x h. h.accepted) refl refl
-      (λ x h over. record {
+  pub side_closes_d : (o : Outgoing HeadD C) (r : Result (Unit {0}) EndFault) → ClosesChannel (outbox_sends rules_d {w = M}) q.port.d r o →
+      ClosesChannel side_sends_d (manager_side_of q) r (outbox_d o)
+  side_closes_d o r = close_lifted (outbox_sends rules_d) side_sends_d outbox_d (λ x. away_of x.d) q.port.d o (λ x h. h.d.pipe.outbox) r
+      refl (λ x h. refl) refl refl
+      (λ x h over. (record {
         a = h.a;
         b = h.b;
         c = h.c;
@@ -374,7 +373,7 @@ module _ {A : Type 0} {C M : ℕ} (q : manager.Inside C M A) where
         homes = h.homes;
         responses = h.responses;
         book = h.book;
-      })
+      }))
 
 module _ {K A H : Type 0} {v : ℕ} where
   -- the count of a pump is what left the stage

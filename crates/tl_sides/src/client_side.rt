@@ -11,8 +11,10 @@ ghost use Rattle.tl_sides.specs.Sides.{ClientPast, ClientStandsFor, ManagerPast,
 ghost use Rattle.tl_sides.specs.Sides.{side_sends_a, side_sends_c, side_sends_e, side_takes_b, side_takes_d};
 
 use crate::client_port::ClientPort;
+use crate::offering::{offer_alone, offer_request};
 use crate::per_channel::PerChannel;
 use crate::receipts::{FinishedClient, ManagerReceipt};
+use crate::taking::take_response;
 use std::alloc::{Allocator, Global};
 use std::marker::Model;
 use tl_msg::{BeatOf, ChA, ChB, ChC, ChD, ChE, HeadA, HeadB, HeadC, HeadD, HeadE, SideFault};
@@ -54,7 +56,7 @@ impl<const C: usize, const M: usize, A: Allocator> ClientSide<C, M, A> {
     pub fn ready_a(&self) -> bool
         ensures { IsTrue result ↔ IsReady (as_pipe self.now.a) }
     {
-        self.port.ready_a()
+        self.port.a.ready()
     }
 
     /// Returns whether a beat of C may be offered: nothing of C is staged, and the channel is not
@@ -62,7 +64,7 @@ impl<const C: usize, const M: usize, A: Allocator> ClientSide<C, M, A> {
     pub fn ready_c(&self) -> bool
         ensures { IsTrue result ↔ IsReady (as_pipe self.now.c) }
     {
-        self.port.ready_c()
+        self.port.c.ready()
     }
 
     /// Returns whether a beat of E may be offered: nothing of E is staged, and the channel is not
@@ -70,7 +72,7 @@ impl<const C: usize, const M: usize, A: Allocator> ClientSide<C, M, A> {
     pub fn ready_e(&self) -> bool
         ensures { IsTrue result ↔ IsReady (as_pipe self.now.e) }
     {
-        self.port.ready_e()
+        self.port.e.ready()
     }
 
     /// Offers a beat of A. If it is accepted, the far beats that it completes, at most
@@ -85,7 +87,7 @@ impl<const C: usize, const M: usize, A: Allocator> ClientSide<C, M, A> {
         requires ready { IsReady (as_pipe self.old.a) }
         ensures { OffersBeat side_sends_a beat.entry self.old result self.new }
     {
-        self.port.offer_a(&beat)
+        offer_request(&mut self.port.book, &mut self.port.a, &beat)
     }
 
     /// Offers a beat of C. If it is accepted, the far beats that it completes, at most
@@ -99,7 +101,7 @@ impl<const C: usize, const M: usize, A: Allocator> ClientSide<C, M, A> {
         requires ready { IsReady (as_pipe self.old.c) }
         ensures { OffersBeat side_sends_c beat.entry self.old result self.new }
     {
-        self.port.offer_c(&beat)
+        offer_alone(&mut self.port.c, &beat)
     }
 
     /// Offers a beat of E, and stages the far beat. No beat of E has a fault. Requires: `C` and `M`
@@ -110,7 +112,7 @@ impl<const C: usize, const M: usize, A: Allocator> ClientSide<C, M, A> {
         requires ready { IsReady (as_pipe self.old.e) }
         ensures { OffersBeat side_sends_e beat.entry self.old result self.new }
     {
-        self.port.offer_e(&beat)
+        offer_alone(&mut self.port.e, &beat)
     }
 
     /// Removes and returns the first beat of B's inbox, which is lawful at `C` bytes. Returns
@@ -118,7 +120,7 @@ impl<const C: usize, const M: usize, A: Allocator> ClientSide<C, M, A> {
     pub fn take_b(&mut self) -> Option<BeatOf<HeadB, C>>
         ensures { TakesBeat side_takes_b self.old result self.new }
     {
-        self.port.take_b()
+        self.port.b.take()
     }
 
     /// Removes and returns the first beat of D's inbox, which is lawful at `C` bytes. Returns
@@ -128,7 +130,7 @@ impl<const C: usize, const M: usize, A: Allocator> ClientSide<C, M, A> {
         requires far { IsWidth C }
         ensures { TakesBeat side_takes_d self.old result self.new }
     {
-        self.port.take_d()
+        take_response(&mut self.port.book, &mut self.port.d)
     }
 
     /// Returns the beats of B's inbox, in order, for use with [`ClientSide::take_all`].
@@ -167,7 +169,7 @@ impl<const C: usize, const M: usize, A: Allocator> ClientSide<C, M, A> {
     pub fn close_a(&mut self) -> Result<(), EndFault>
         ensures { ClosesChannel side_sends_a self.old result self.new }
     {
-        self.port.close_a()
+        self.port.a.close()
     }
 
     /// Ends the offers of C. Beats in the stage stay there, and still cross. Closing again returns
@@ -177,7 +179,7 @@ impl<const C: usize, const M: usize, A: Allocator> ClientSide<C, M, A> {
     pub fn close_c(&mut self) -> Result<(), EndFault>
         ensures { ClosesChannel side_sends_c self.old result self.new }
     {
-        self.port.close_c()
+        self.port.c.close()
     }
 
     /// Ends the offers of E. Beats in the stage stay there, and still cross. Closing again returns
@@ -187,7 +189,7 @@ impl<const C: usize, const M: usize, A: Allocator> ClientSide<C, M, A> {
     pub fn close_e(&mut self) -> Result<(), EndFault>
         ensures { ClosesChannel side_sends_e self.old result self.new }
     {
-        self.port.close_e()
+        self.port.e.close()
     }
 
     /// Moves staged beats into the rings on each channel that this side sends. Returns their total
@@ -234,7 +236,7 @@ impl<const C: usize, const M: usize, A: Allocator> ClientSide<C, M, A> {
     pub fn is_sent_out(&self) -> bool
         ensures { IsTrue result ↔ ClientIsSentOut self.now }
     {
-        self.port.is_sent_out()
+        self.port.a.is_sent_out() & self.port.c.is_sent_out() & self.port.e.is_sent_out()
     }
 
     /// Ends the sending. Returns the ends that still take beats of B and D, and a receipt for each

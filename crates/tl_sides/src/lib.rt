@@ -30,6 +30,7 @@ mod per_channel;
 mod receipts;
 mod sides;
 mod sync_bridge;
+mod taking;
 
 pub use channel_calls::Forward;
 pub use client_port::ClientPort;

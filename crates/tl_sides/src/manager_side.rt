@@ -11,8 +11,10 @@ ghost use Rattle.tl_sides.specs.Sides.{ManagerPast, ManagerStandsFor, ClientPast
 ghost use Rattle.tl_sides.specs.Sides.{side_sends_b, side_sends_d, side_takes_a, side_takes_c, side_takes_e};
 
 use crate::manager_port::ManagerPort;
+use crate::offering::{offer_alone, offer_response};
 use crate::per_channel::PerChannel;
 use crate::receipts::{ClientReceipt, FinishedManager};
+use crate::taking::take_request;
 use std::alloc::{Allocator, Global};
 use std::marker::Model;
 use tl_msg::{BeatOf, ChA, ChB, ChC, ChD, ChE, HeadA, HeadB, HeadC, HeadD, HeadE, SideFault};
@@ -55,7 +57,7 @@ impl<const C: usize, const M: usize, A: Allocator> ManagerSide<C, M, A> {
     pub fn ready_b(&self) -> bool
         ensures { IsTrue result ↔ IsReady (as_pipe self.now.b) }
     {
-        self.port.ready_b()
+        self.port.b.ready()
     }
 
     /// Returns whether a beat of D may be offered: nothing of D is staged, and the channel is not
@@ -63,7 +65,7 @@ impl<const C: usize, const M: usize, A: Allocator> ManagerSide<C, M, A> {
     pub fn ready_d(&self) -> bool
         ensures { IsTrue result ↔ IsReady (as_pipe self.now.d) }
     {
-        self.port.ready_d()
+        self.port.d.ready()
     }
 
     /// Offers a beat of B. If it is accepted, the far beats that it completes, at most
@@ -77,7 +79,7 @@ impl<const C: usize, const M: usize, A: Allocator> ManagerSide<C, M, A> {
         requires ready { IsReady (as_pipe self.old.b) }
         ensures { OffersBeat side_sends_b beat.entry self.old result self.new }
     {
-        self.port.offer_b(&beat)
+        offer_alone(&mut self.port.b, &beat)
     }
 
     /// Offers a beat of D. If it is accepted, the far beats that it completes, at most
@@ -94,7 +96,7 @@ impl<const C: usize, const M: usize, A: Allocator> ManagerSide<C, M, A> {
         requires ready { IsReady (as_pipe self.old.d) }
         ensures { OffersBeat side_sends_d beat.entry self.old result self.new }
     {
-        self.port.offer_d(&beat)
+        offer_response(&mut self.port.book, &mut self.port.d, &beat)
     }
 
     /// Removes and returns the first beat of A's inbox, which is lawful at `M` bytes. Returns
@@ -104,7 +106,7 @@ impl<const C: usize, const M: usize, A: Allocator> ManagerSide<C, M, A> {
         requires far { IsWidth M }
         ensures { TakesBeat side_takes_a self.old result self.new }
     {
-        self.port.take_a()
+        take_request(&mut self.port.book, &mut self.port.a)
     }
 
     /// Removes and returns the first beat of C's inbox, which is lawful at `M` bytes. Returns
@@ -112,7 +114,7 @@ impl<const C: usize, const M: usize, A: Allocator> ManagerSide<C, M, A> {
     pub fn take_c(&mut self) -> Option<BeatOf<HeadC, M>>
         ensures { TakesBeat side_takes_c self.old result self.new }
     {
-        self.port.take_c()
+        self.port.c.take()
     }
 
     /// Removes and returns the first beat of E's inbox, which is lawful at `M` bytes. Returns
@@ -120,7 +122,7 @@ impl<const C: usize, const M: usize, A: Allocator> ManagerSide<C, M, A> {
     pub fn take_e(&mut self) -> Option<BeatOf<HeadE, M>>
         ensures { TakesBeat side_takes_e self.old result self.new }
     {
-        self.port.take_e()
+        self.port.e.take()
     }
 
     /// Returns the beats of A's inbox, in order, for use with [`ManagerSide::take_all`].
@@ -166,7 +168,7 @@ impl<const C: usize, const M: usize, A: Allocator> ManagerSide<C, M, A> {
     pub fn close_b(&mut self) -> Result<(), EndFault>
         ensures { ClosesChannel side_sends_b self.old result self.new }
     {
-        self.port.close_b()
+        self.port.b.close()
     }
 
     /// Ends the offers of D. Beats in the stage stay there, and still cross. Closing again returns
@@ -176,7 +178,7 @@ impl<const C: usize, const M: usize, A: Allocator> ManagerSide<C, M, A> {
     pub fn close_d(&mut self) -> Result<(), EndFault>
         ensures { ClosesChannel side_sends_d self.old result self.new }
     {
-        self.port.close_d()
+        self.port.d.close()
     }
 
     /// Moves staged beats into the rings on each channel that this side sends. Returns their total
@@ -223,7 +225,7 @@ impl<const C: usize, const M: usize, A: Allocator> ManagerSide<C, M, A> {
     pub fn is_sent_out(&self) -> bool
         ensures { IsTrue result ↔ ManagerIsSentOut self.now }
     {
-        self.port.is_sent_out()
+        self.port.b.is_sent_out() & self.port.d.is_sent_out()
     }
 
     /// Ends the sending. Returns the ends that still take beats of A, C and E, and a receipt for

@@ -3,7 +3,7 @@
 ghost use Rattle.tl_lanes.specs.Lanes.{IsWidth};
 ghost use Rattle.tl_ring.specs.Boxes.{IsOpen};
 ghost use Rattle.tl_sides.specs.Calls.{OffersBeat};
-ghost use Rattle.tl_sides.specs.Ports.{ClientNow, ManagerNow, outbox_sends, port_sends_a, port_sends_d};
+ghost use Rattle.tl_sides.specs.Ports.{outbox_sends, sends_requests, sends_responses};
 
 use std::alloc::Allocator;
 use tl_msg::{Beat, ChA, ChD, Channel, SideFault};
@@ -33,10 +33,8 @@ pub(crate) fn offer_request<const C: usize, const M: usize, A: Allocator>(
     beat: &Beat<ChA, C>,
 ) -> Result<(), SideFault>
     requires { IsWidth C × IsWidth M × IsOpen outbox.old }
-    // for every side that has this book and this outbox
-    ensures { (s : ClientNow C M) →
-        OffersBeat port_sends_a beat.now (record s { a = outbox.old; book = book.old }) result
-        (record s { a = outbox.new; book = book.new }) }
+    ensures { OffersBeat sends_requests beat.now (record { box = outbox.old; book = book.old }) result
+        (record { box = outbox.new; book = book.new }) }
 {
     let place = given!(book.admit(outbox.check(beat)));
     outbox.offer_at(beat, place, 0);
@@ -50,10 +48,8 @@ pub(crate) fn offer_response<const C: usize, const M: usize, A: Allocator>(
     beat: &Beat<ChD, M>,
 ) -> Result<(), SideFault>
     requires { IsWidth M × IsWidth C × IsOpen outbox.old }
-    // for every side that has this book and this outbox
-    ensures { (s : ManagerNow C M) →
-        OffersBeat port_sends_d beat.now (record s { d = outbox.old; book = book.old }) result
-        (record s { d = outbox.new; book = book.new }) }
+    ensures { OffersBeat sends_responses beat.now (record { box = outbox.old; book = book.old }) result
+        (record { box = outbox.new; book = book.new }) }
 {
     let (place, home) = given!(book.admit(outbox.check(beat)));
     outbox.offer_at(beat, place, home);

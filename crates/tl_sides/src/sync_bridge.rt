@@ -15,8 +15,10 @@ ghost use Rattle.tl_sides.specs.Separate.{each_pumped, each_fetched};
 use crate::client_port::ClientPort;
 use crate::making::{Parts, new_parts};
 use crate::manager_port::ManagerPort;
+use crate::offering::{offer_alone, offer_request, offer_response};
 use crate::per_channel::PerChannel;
 use crate::sides::standings_between;
+use crate::taking::{take_request, take_response};
 use std::alloc::{Allocator, Global};
 use std::marker::Model;
 use tl_msg::{Beat, ChA, ChB, ChC, ChD, ChE, SideFault};
@@ -118,7 +120,7 @@ impl<const C: usize, const M: usize, A: Allocator> SyncBridge<C, M, A> {
     pub fn ready_a(&self) -> bool
         ensures { IsTrue result ↔ IsReady self.now.a }
     {
-        self.client.ready_a()
+        self.client.a.ready()
     }
 
     /// Returns whether a beat of B may be offered: nothing of B is staged, and the channel is not
@@ -126,7 +128,7 @@ impl<const C: usize, const M: usize, A: Allocator> SyncBridge<C, M, A> {
     pub fn ready_b(&self) -> bool
         ensures { IsTrue result ↔ IsReady self.now.b }
     {
-        self.manager.ready_b()
+        self.manager.b.ready()
     }
 
     /// Returns whether a beat of C may be offered: nothing of C is staged, and the channel is not
@@ -134,7 +136,7 @@ impl<const C: usize, const M: usize, A: Allocator> SyncBridge<C, M, A> {
     pub fn ready_c(&self) -> bool
         ensures { IsTrue result ↔ IsReady self.now.c }
     {
-        self.client.ready_c()
+        self.client.c.ready()
     }
 
     /// Returns whether a beat of D may be offered: nothing of D is staged, and the channel is not
@@ -142,7 +144,7 @@ impl<const C: usize, const M: usize, A: Allocator> SyncBridge<C, M, A> {
     pub fn ready_d(&self) -> bool
         ensures { IsTrue result ↔ IsReady self.now.d }
     {
-        self.manager.ready_d()
+        self.manager.d.ready()
     }
 
     /// Returns whether a beat of E may be offered: nothing of E is staged, and the channel is not
@@ -150,7 +152,7 @@ impl<const C: usize, const M: usize, A: Allocator> SyncBridge<C, M, A> {
     pub fn ready_e(&self) -> bool
         ensures { IsTrue result ↔ IsReady self.now.e }
     {
-        self.client.ready_e()
+        self.client.e.ready()
     }
 
     /// Offers a beat of A. If it is accepted, the far beats that it completes are staged, and a
@@ -165,7 +167,7 @@ impl<const C: usize, const M: usize, A: Allocator> SyncBridge<C, M, A> {
         requires ready { IsReady self.old.a }
         ensures { OffersBeat bridge_sends_a beat.entry self.old result self.new }
     {
-        self.client.offer_a(&beat)
+        offer_request(&mut self.client.book, &mut self.client.a, &beat)
     }
 
     /// Offers a beat of B from the manager's side. If it is accepted, the far beats that it
@@ -179,7 +181,7 @@ impl<const C: usize, const M: usize, A: Allocator> SyncBridge<C, M, A> {
         requires ready { IsReady self.old.b }
         ensures { OffersBeat bridge_sends_b beat.entry self.old result self.new }
     {
-        self.manager.offer_b(&beat)
+        offer_alone(&mut self.manager.b, &beat)
     }
 
     /// Offers a beat of C from the client's side. If it is accepted, the far beats that it
@@ -193,7 +195,7 @@ impl<const C: usize, const M: usize, A: Allocator> SyncBridge<C, M, A> {
         requires ready { IsReady self.old.c }
         ensures { OffersBeat bridge_sends_c beat.entry self.old result self.new }
     {
-        self.client.offer_c(&beat)
+        offer_alone(&mut self.client.c, &beat)
     }
 
     /// Offers a beat of D. If it is accepted, the far beats that it completes are staged, and a
@@ -209,7 +211,7 @@ impl<const C: usize, const M: usize, A: Allocator> SyncBridge<C, M, A> {
         requires ready { IsReady self.old.d }
         ensures { OffersBeat bridge_sends_d beat.entry self.old result self.new }
     {
-        self.manager.offer_d(&beat)
+        offer_response(&mut self.manager.book, &mut self.manager.d, &beat)
     }
 
     /// Offers a beat of E, and stages the far beat. No beat of E has a fault. Requires: `C` and `M`
@@ -220,7 +222,7 @@ impl<const C: usize, const M: usize, A: Allocator> SyncBridge<C, M, A> {
         requires ready { IsReady self.old.e }
         ensures { OffersBeat bridge_sends_e beat.entry self.old result self.new }
     {
-        self.client.offer_e(&beat)
+        offer_alone(&mut self.client.e, &beat)
     }
 
     /// Removes and returns the first beat of A's inbox, for the manager's side. Returns `None` if
@@ -230,7 +232,7 @@ impl<const C: usize, const M: usize, A: Allocator> SyncBridge<C, M, A> {
         requires far { IsWidth M }
         ensures { TakesBeat bridge_takes_a self.old result self.new }
     {
-        self.manager.take_a()
+        take_request(&mut self.manager.book, &mut self.manager.a)
     }
 
     /// Removes and returns the first beat of B's inbox, for the client's side. Returns `None` if
@@ -238,7 +240,7 @@ impl<const C: usize, const M: usize, A: Allocator> SyncBridge<C, M, A> {
     pub fn take_b(&mut self) -> Option<Beat<ChB, C>>
         ensures { TakesBeat bridge_takes_b self.old result self.new }
     {
-        self.client.take_b()
+        self.client.b.take()
     }
 
     /// Removes and returns the first beat of C's inbox, for the manager's side. Returns `None` if
@@ -246,7 +248,7 @@ impl<const C: usize, const M: usize, A: Allocator> SyncBridge<C, M, A> {
     pub fn take_c(&mut self) -> Option<Beat<ChC, M>>
         ensures { TakesBeat bridge_takes_c self.old result self.new }
     {
-        self.manager.take_c()
+        self.manager.c.take()
     }
 
     /// Removes and returns the first beat of D's inbox, for the client's side. Returns `None` if
@@ -256,7 +258,7 @@ impl<const C: usize, const M: usize, A: Allocator> SyncBridge<C, M, A> {
         requires far { IsWidth C }
         ensures { TakesBeat bridge_takes_d self.old result self.new }
     {
-        self.client.take_d()
+        take_response(&mut self.client.book, &mut self.client.d)
     }
 
     /// Removes and returns the first beat of E's inbox, for the manager's side. Returns `None` if
@@ -264,7 +266,7 @@ impl<const C: usize, const M: usize, A: Allocator> SyncBridge<C, M, A> {
     pub fn take_e(&mut self) -> Option<Beat<ChE, M>>
         ensures { TakesBeat bridge_takes_e self.old result self.new }
     {
-        self.manager.take_e()
+        self.manager.e.take()
     }
 
     /// Ends the offers of A by the client's side. Beats in the stage stay there, and still cross.
@@ -274,7 +276,7 @@ impl<const C: usize, const M: usize, A: Allocator> SyncBridge<C, M, A> {
     pub fn close_a(&mut self) -> Result<(), EndFault>
         ensures { ClosesChannel bridge_sends_a self.old result self.new }
     {
-        self.client.close_a()
+        self.client.a.close()
     }
 
     /// Ends the offers of B by the manager's side. Beats in the stage stay there, and still cross.
@@ -284,7 +286,7 @@ impl<const C: usize, const M: usize, A: Allocator> SyncBridge<C, M, A> {
     pub fn close_b(&mut self) -> Result<(), EndFault>
         ensures { ClosesChannel bridge_sends_b self.old result self.new }
     {
-        self.manager.close_b()
+        self.manager.b.close()
     }
 
     /// Ends the offers of C by the client's side. Beats in the stage stay there, and still cross.
@@ -294,7 +296,7 @@ impl<const C: usize, const M: usize, A: Allocator> SyncBridge<C, M, A> {
     pub fn close_c(&mut self) -> Result<(), EndFault>
         ensures { ClosesChannel bridge_sends_c self.old result self.new }
     {
-        self.client.close_c()
+        self.client.c.close()
     }
 
     /// Ends the offers of D by the manager's side. Beats in the stage stay there, and still cross.
@@ -304,7 +306,7 @@ impl<const C: usize, const M: usize, A: Allocator> SyncBridge<C, M, A> {
     pub fn close_d(&mut self) -> Result<(), EndFault>
         ensures { ClosesChannel bridge_sends_d self.old result self.new }
     {
-        self.manager.close_d()
+        self.manager.d.close()
     }
 
     /// Ends the offers of E by the client's side. Beats in the stage stay there, and still cross.
@@ -314,7 +316,7 @@ impl<const C: usize, const M: usize, A: Allocator> SyncBridge<C, M, A> {
     pub fn close_e(&mut self) -> Result<(), EndFault>
         ensures { ClosesChannel bridge_sends_e self.old result self.new }
     {
-        self.client.close_e()
+        self.client.e.close()
     }
 
     /// Moves staged beats to the rings on all channels, as many as each ring has room for. Returns

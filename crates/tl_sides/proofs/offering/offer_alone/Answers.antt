@@ -12,7 +12,7 @@ returns-in-Err g c =
       accepted = λ x h. tt;
       fault = λ x h. ap (λ o. option_map_or (λ fault. Some (Beat fault)) o None) (c.in-Err.ensures.first_fault x.accepted x.homes x.sent h);
       refused = refl;
-      rest = (refl, c.requires.2.1);
+      rest = c.requires.2.1;
     }
 
 pub returns : goal.returns
@@ -23,5 +23,5 @@ returns g c = record {
   accepted = λ x h. c.offer_at.ensures.accepted x.accepted x.homes x.sent h;
   fault = λ x h. tt;
   refused = tt;
-  rest = (refl, c.offer_at.ensures.still);
+  rest = c.offer_at.ensures.still;
 }

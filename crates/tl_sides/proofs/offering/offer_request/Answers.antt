@@ -1,7 +1,7 @@
 use Rattle.std.proofs.Common.{rules, refl, sym, subst, ap}
 use Rattle.std.specs.Prelude.{IfOk}
 use Rattle.tl_sides.proofs.Words.{beat_small, homes_with, rules_a, HasSent, IsPlaceOf, asked, asked_ask}
-use Rattle.tl_sides.proofs.PortSteps.{checked_in, client_offers}
+use Rattle.tl_sides.proofs.BoxSteps.{checked_in}
 use Rattle.tl_sides.proofs.offering.offer_request.Goals as goal
 
 pub offer_at-requires : goal.offer_at-requires
@@ -19,30 +19,31 @@ offer_at-requires g c = (
 )
 
 pub returns-in-Err : goal.returns-in-Err
-returns-in-Err g c = λ s. record {
-  admitted = λ x h. c.in-Err.ensures.admits.admitted x.history c.args.beat.now h.book
-      (checked_in rules_a _ (asked x.history) x.a_homes x.a_sent c.args.beat.now _ h.a c.check.ensures.place
-      (c.check.ensures.first_fault (asked x.history) x.a_homes x.a_sent h.a));
+returns-in-Err g c = record {
+  admitted = λ x h. c.in-Err.ensures.admits.admitted x.history c.args.beat.now h.1
+      (checked_in rules_a _ (asked x.history) x.homes x.sent c.args.beat.now _ h.0 c.check.ensures.place
+      (c.check.ensures.first_fault (asked x.history) x.homes x.sent h.0));
   accepted = λ x h. tt;
-  fault = λ x h. c.in-Err.ensures.admits.fault x.history c.args.beat.now h.book
-      (checked_in rules_a _ (asked x.history) x.a_homes x.a_sent c.args.beat.now _ h.a c.check.ensures.place
-      (c.check.ensures.first_fault (asked x.history) x.a_homes x.a_sent h.a));
-  refused = ap (λ book. record s { a = c.args.outbox.now; book = book }) c.in-Err.ensures.admits.refused;
-  rest = (refl, c.requires.2.1);
+  fault = λ x h. c.in-Err.ensures.admits.fault x.history c.args.beat.now h.1
+      (checked_in rules_a _ (asked x.history) x.homes x.sent c.args.beat.now _ h.0 c.check.ensures.place
+      (c.check.ensures.first_fault (asked x.history) x.homes x.sent h.0));
+  refused = ap (λ book. record { box = c.args.outbox.now; book = book }) c.in-Err.ensures.admits.refused;
+  rest = c.requires.2.1;
 }
 
 pub returns : goal.returns
-returns g c = λ s. record {
-  admitted = λ x h. c.in-Ok.ensures.admits.admitted x.history c.args.beat.now h.book
-      (checked_in rules_a _ (asked x.history) x.a_homes x.a_sent c.args.beat.now _ h.a c.check.ensures.place
-      (c.check.ensures.first_fault (asked x.history) x.a_homes x.a_sent h.a));
+returns g c = record {
+  admitted = λ x h. c.in-Ok.ensures.admits.admitted x.history c.args.beat.now h.1
+      (checked_in rules_a _ (asked x.history) x.homes x.sent c.args.beat.now _ h.0 c.check.ensures.place
+      (c.check.ensures.first_fault (asked x.history) x.homes x.sent h.0));
   accepted = λ x h.
-      let checked = (checked_in rules_a _ (asked x.history) x.a_homes x.a_sent c.args.beat.now _ h.a c.check.ensures.place
-      (c.check.ensures.first_fault (asked x.history) x.a_homes x.a_sent h.a)) in
-      client_offers _ x h c.offer_at.new.self _ c.args.beat.now (c.in-Ok.ensures.admits.noted x.history c.args.beat.now h.book checked)
-      (subst (λ q. HasSent rules_a c.offer_at.new.self q (homes_with rules_a (asked x.history) x.a_homes c.args.beat.now 0) x.a_sent)
-      (sym (asked_ask x.history c.args.beat.now)) (c.offer_at.ensures.accepted (asked x.history) x.a_homes x.a_sent h.a));
+      let checked = checked_in rules_a _ (asked x.history) x.homes x.sent c.args.beat.now _ h.0 c.check.ensures.place
+      (c.check.ensures.first_fault (asked x.history) x.homes x.sent h.0) in (
+        subst (λ q. HasSent rules_a c.offer_at.new.self q (homes_with rules_a (asked x.history) x.homes c.args.beat.now 0) x.sent)
+            (sym (asked_ask x.history c.args.beat.now)) (c.offer_at.ensures.accepted (asked x.history) x.homes x.sent h.0),
+        c.in-Ok.ensures.admits.noted x.history c.args.beat.now h.1 checked,
+      );
   fault = λ x h. tt;
   refused = tt;
-  rest = (refl, c.offer_at.ensures.still);
+  rest = c.offer_at.ensures.still;
 }

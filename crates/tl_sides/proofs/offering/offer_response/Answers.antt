@@ -1,7 +1,7 @@
 use Rattle.std.proofs.Common.{rules, refl, subst, ap}
 use Rattle.std.specs.Prelude.{IfOk}
 use Rattle.tl_sides.proofs.Words.{beat_small, rules_d, IsPlaceOf, answered, manager_homes}
-use Rattle.tl_sides.proofs.PortSteps.{checked_in, answered_with, manager_offers}
+use Rattle.tl_sides.proofs.BoxSteps.{checked_in, answered_with}
 use Rattle.tl_sides.proofs.offering.offer_response.Goals as goal
 
 pub offer_at-requires : goal.offer_at-requires
@@ -19,30 +19,31 @@ offer_at-requires g c = (
 )
 
 pub returns-in-Err : goal.returns-in-Err
-returns-in-Err g c = λ s. record {
-  admitted = λ x h. c.in-Err.ensures.admits.admitted x.history c.args.beat.now h.book
-      (checked_in rules_d _ (answered x.history) (manager_homes x.history) x.d_sent c.args.beat.now _ h.d c.check.ensures.place
-      (c.check.ensures.first_fault (answered x.history) (manager_homes x.history) x.d_sent h.d));
+returns-in-Err g c = record {
+  admitted = λ x h. c.in-Err.ensures.admits.admitted x.history c.args.beat.now h.1
+      (checked_in rules_d _ (answered x.history) (manager_homes x.history) x.sent c.args.beat.now _ h.0 c.check.ensures.place
+      (c.check.ensures.first_fault (answered x.history) (manager_homes x.history) x.sent h.0));
   accepted = λ x h. tt;
-  fault = λ x h. c.in-Err.ensures.admits.fault x.history c.args.beat.now h.book
-      (checked_in rules_d _ (answered x.history) (manager_homes x.history) x.d_sent c.args.beat.now _ h.d c.check.ensures.place
-      (c.check.ensures.first_fault (answered x.history) (manager_homes x.history) x.d_sent h.d));
-  refused = ap (λ book. record s { d = c.args.outbox.now; book = book }) c.in-Err.ensures.admits.refused;
-  rest = (refl, c.requires.2.1);
+  fault = λ x h. c.in-Err.ensures.admits.fault x.history c.args.beat.now h.1
+      (checked_in rules_d _ (answered x.history) (manager_homes x.history) x.sent c.args.beat.now _ h.0 c.check.ensures.place
+      (c.check.ensures.first_fault (answered x.history) (manager_homes x.history) x.sent h.0));
+  refused = ap (λ book. record { box = c.args.outbox.now; book = book }) c.in-Err.ensures.admits.refused;
+  rest = c.requires.2.1;
 }
 
 pub returns : goal.returns
-returns g c = λ s. record {
-  admitted = λ x h. c.in-Ok.ensures.admits.admitted x.history c.args.beat.now h.book
-      (checked_in rules_d _ (answered x.history) (manager_homes x.history) x.d_sent c.args.beat.now _ h.d c.check.ensures.place
-      (c.check.ensures.first_fault (answered x.history) (manager_homes x.history) x.d_sent h.d));
+returns g c = record {
+  admitted = λ x h. c.in-Ok.ensures.admits.admitted x.history c.args.beat.now h.1
+      (checked_in rules_d _ (answered x.history) (manager_homes x.history) x.sent c.args.beat.now _ h.0 c.check.ensures.place
+      (c.check.ensures.first_fault (answered x.history) (manager_homes x.history) x.sent h.0));
   accepted = λ x h.
-      let checked = (checked_in rules_d _ (answered x.history) (manager_homes x.history) x.d_sent c.args.beat.now _ h.d c.check.ensures.place
-      (c.check.ensures.first_fault (answered x.history) (manager_homes x.history) x.d_sent h.d)) in
-      manager_offers _ x h c.offer_at.new.self _ c.args.beat.now (c.in-Ok.ensures.admits.noted x.history c.args.beat.now h.book checked)
-      (answered_with x.history _ _ x.d_sent c.args.beat.now _ h.d (c.in-Ok.ensures.home x.history c.args.beat.now h.book checked)
-      (c.offer_at.ensures.accepted (answered x.history) (manager_homes x.history) x.d_sent h.d));
+      let checked = checked_in rules_d _ (answered x.history) (manager_homes x.history) x.sent c.args.beat.now _ h.0 c.check.ensures.place
+      (c.check.ensures.first_fault (answered x.history) (manager_homes x.history) x.sent h.0) in (
+        answered_with x.history _ _ x.sent c.args.beat.now _ h.0 (c.in-Ok.ensures.home x.history c.args.beat.now h.1 checked)
+            (c.offer_at.ensures.accepted (answered x.history) (manager_homes x.history) x.sent h.0),
+        c.in-Ok.ensures.admits.noted x.history c.args.beat.now h.1 checked,
+      );
   fault = λ x h. tt;
   refused = tt;
-  rest = (refl, c.offer_at.ensures.still);
+  rest = c.offer_at.ensures.still;
 }

@@ -54,6 +54,6 @@ returns g c = λ size near far rings knows_client knows_manager.
     new_sides size parts.0.0 parts.1.0 parts.2.0 parts.3.0 parts.4.0
     c.from_half-3.result.half c.from_half.result.half c.from_half-4.result.half c.from_half-2.result.half c.from_half-5.result.half
     (rw c.from_half-3.ensures rings.0, rw c.from_half.ensures rings.1, rw c.from_half-4.ensures rings.2, rw c.from_half-2.ensures rings.3, rw c.from_half-5.ensures rings.4)
-    c.with_book.result c.with_book-2.result (client.stands near far knows_client) (manager.stands near far knows_manager)
+    c.with_book.result c.with_book-2.result (client.new near far knows_client) (manager.new near far knows_manager)
     (client.ready_a, manager.ready_b, client.ready_c, manager.ready_d, client.ready_e)
     (manager.empty_a, client.empty_b, manager.empty_c, client.empty_d, manager.empty_e)

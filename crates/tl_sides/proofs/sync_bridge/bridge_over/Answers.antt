@@ -18,6 +18,6 @@ with_book-requires-2 g c = (
 pub returns : goal.returns
 returns g c = λ ring some near far made knows_client knows_manager.
     new_bridge c.with_book.result c.with_book-2.result c.args.parts.0 c.args.parts.1 c.args.parts.2 c.args.parts.3 c.args.parts.4 ring some made
-    (c.with_book.ensures.stands near far knows_client) (c.with_book-2.ensures.stands near far knows_manager)
+    (c.with_book.ensures.new near far knows_client) (c.with_book-2.ensures.new near far knows_manager)
     (c.with_book.ensures.ready_a, c.with_book-2.ensures.ready_b, c.with_book.ensures.ready_c, c.with_book-2.ensures.ready_d, c.with_book.ensures.ready_e)
     (c.with_book-2.ensures.empty_a, c.with_book.ensures.empty_b, c.with_book-2.ensures.empty_c, c.with_book.ensures.empty_d, c.with_book-2.ensures.empty_e)

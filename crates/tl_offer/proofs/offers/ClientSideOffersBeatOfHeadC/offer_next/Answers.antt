@@ -1,5 +1,7 @@
 use Rattle.tl_offer.proofs.Names.{there_is, refl, arith, slice_get_past, slice_get_read, sym, subst, client_small, SameClientEnds, on_side_c}
 use Rattle.tl_offer.proofs.NextOffers.{waits, answers, closes, holds-after, client-same}
+use Rattle.tl_offer.proofs.OfferSteps.{fails}
+use Rattle.tl_ring.proofs.FieldSizes.{beat_small}
 use Rattle.tl_offer.proofs.offers.ClientSideOffersBeatOfHeadC.offer_next.Goals as goal
 
 pub close_c-requires : goal.close_c-requires
@@ -12,9 +14,9 @@ returns-then-at-beats g c =
     (holds-after (SameClientEnds c.args.self.now) c.close_c.result _ _ _ said.closed said.refused (client-same _)
     (record { a = refl; b = refl; c = refl; d = refl; e = refl })) said.refused said.between said.stands)
 
-pub returns-in_default : goal.returns-in_default
-returns-in_default g c =
-    waits on_side_c c.args.self.now (client-same _) _ (λ x h. h.c.pipe) c.in_default.ensures _ _ _
+pub returns-then-not-ready_c : goal.returns-then-not-ready_c
+returns-then-not-ready_c g c =
+    waits on_side_c c.args.self.now (client-same _) _ (λ x h. h.c.pipe) (fails c.ready_c.result c.ready_c.ensures c.if-not-ready_c.true) _ _ _
     (there_is c.args.beats.now c.args.at c.if-at-beats.false).1
 
 pub bounds-beats-at : goal.bounds-beats-at
@@ -23,10 +25,16 @@ bounds-beats-at g c = c.if-at-beats.false
 pub offset_bounds-beats-at : goal.offset_bounds-beats-at
 offset_bounds-beats-at g c = omega (arith, c.if-at-beats.false)
 
+pub offer_c-requires : goal.offer_c-requires
+offer_c-requires g c = (
+  client_small g.row.C g.row.M c.requires.client c.requires.manager,
+  (beat_small g.row.C c.requires.client, (c.requires.client, (c.requires.manager, c.ready_c.ensures.0 c.if-not-ready_c.false))),
+)
+
 pub returns : goal.returns
 returns g c =
     let said = c.offer_c.ensures in
     rw c.from_offer.ensures (answers on_side_c _ _ _ _
-    (slice_get_read c.args.beats.now _ c.args.at c.index-beats-at.result refl c.if-at-beats.false c.index-beats-at.is) _ (λ x h. h.c.pipe) c.in-Some.ensures c.offer_c.result _
+    (slice_get_read c.args.beats.now _ c.args.at c.index-beats-at.result refl c.if-at-beats.false c.index-beats-at.is) _ (λ x h. h.c.pipe) (c.ready_c.ensures.0 c.if-not-ready_c.false) c.offer_c.result _
     (subst (SameClientEnds c.args.self.now) (sym said.rest.1) (record { a = refl; b = refl; c = said.rest.0; d = refl; e = refl })) said.admitted
     said.accepted said.fault said.refused)

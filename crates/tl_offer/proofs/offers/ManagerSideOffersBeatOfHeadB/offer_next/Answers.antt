@@ -1,5 +1,7 @@
 use Rattle.tl_offer.proofs.Names.{there_is, refl, arith, slice_get_past, slice_get_read, sym, subst, manager_small, SameManagerEnds, on_side_b}
 use Rattle.tl_offer.proofs.NextOffers.{waits, answers, closes, holds-after, manager-same}
+use Rattle.tl_offer.proofs.OfferSteps.{fails}
+use Rattle.tl_ring.proofs.FieldSizes.{beat_small}
 use Rattle.tl_offer.proofs.offers.ManagerSideOffersBeatOfHeadB.offer_next.Goals as goal
 
 pub close_b-requires : goal.close_b-requires
@@ -12,9 +14,9 @@ returns-then-at-beats g c =
     (holds-after (SameManagerEnds c.args.self.now) c.close_b.result _ _ _ said.closed said.refused (manager-same _)
     (record { a = refl; b = refl; c = refl; d = refl; e = refl })) said.refused said.between said.stands)
 
-pub returns-in_default : goal.returns-in_default
-returns-in_default g c =
-    waits on_side_b c.args.self.now (manager-same _) _ (λ x h. h.b.pipe) c.in_default.ensures _ _ _
+pub returns-then-not-ready_b : goal.returns-then-not-ready_b
+returns-then-not-ready_b g c =
+    waits on_side_b c.args.self.now (manager-same _) _ (λ x h. h.b.pipe) (fails c.ready_b.result c.ready_b.ensures c.if-not-ready_b.true) _ _ _
     (there_is c.args.beats.now c.args.at c.if-at-beats.false).1
 
 pub bounds-beats-at : goal.bounds-beats-at
@@ -23,10 +25,16 @@ bounds-beats-at g c = c.if-at-beats.false
 pub offset_bounds-beats-at : goal.offset_bounds-beats-at
 offset_bounds-beats-at g c = omega (arith, c.if-at-beats.false)
 
+pub offer_b-requires : goal.offer_b-requires
+offer_b-requires g c = (
+  manager_small g.row.C g.row.M c.requires.client c.requires.manager,
+  (beat_small g.row.M c.requires.manager, (c.requires.manager, (c.requires.client, c.ready_b.ensures.0 c.if-not-ready_b.false))),
+)
+
 pub returns : goal.returns
 returns g c =
     let said = c.offer_b.ensures in
     rw c.from_offer.ensures (answers on_side_b _ _ _ _
-    (slice_get_read c.args.beats.now _ c.args.at c.index-beats-at.result refl c.if-at-beats.false c.index-beats-at.is) _ (λ x h. h.b.pipe) c.in-Some.ensures c.offer_b.result _
+    (slice_get_read c.args.beats.now _ c.args.at c.index-beats-at.result refl c.if-at-beats.false c.index-beats-at.is) _ (λ x h. h.b.pipe) (c.ready_b.ensures.0 c.if-not-ready_b.false) c.offer_b.result _
     (subst (SameManagerEnds c.args.self.now) (sym said.rest.1) (record { a = refl; b = said.rest.0; c = refl; d = refl; e = refl })) said.admitted
     said.accepted said.fault said.refused)

@@ -2,7 +2,6 @@ use Rattle.std.proofs.Common.{◌++◌, map, refl, subst, get_or}
 use Rattle.tl_sides.proofs.Words.{rules_d, Answer}
 use Rattle.tl_settle.specs.Books.{KnowsClient}
 use Rattle.tl_sides.proofs.BridgeSteps.{lawful_head}
-use Rattle.tl_sides.proofs.PortSteps.{client_takes_all}
 use Rattle.tl_sides.proofs.Layouts.{client_layout, part_small, beat_small}
 use Rattle.tl_sides.proofs.client_port.ClientPort.take_all.Goals as goal
 
@@ -33,7 +32,6 @@ take_all-requires-2 g c = part_small (client_layout g.row.C g.row.M g.row.A g.A.
 
 pub returns : goal.returns
 returns g c = rw (← c.self.view_is) (rw (c.take_all.ensures, c.take_all-2.ensures) (record {
-  taken = λ x h. client_takes_all _ x h _
-      (subst (λ q. KnowsClient c.note_all.new.book (x.history ++ map Answer q)) c.as_slice.ensures.beats (c.note_all.ensures x.history h.book));
+  book = λ es h. subst (λ q. KnowsClient c.note_all.new.book (es ++ map Answer q)) c.as_slice.ensures.beats (c.note_all.ensures es h);
   rest = refl;
 }))

@@ -1,4 +1,3 @@
-use Rattle.std.proofs.Common.{sym}
 use Rattle.tl_sides.proofs.Layouts.{client_layout, part_small}
 use Rattle.tl_sides.proofs.client_port.ClientPort.with_book.Goals as goal
 
@@ -17,12 +16,10 @@ new-requires-4 g c = part_small (client_layout g.row.C g.row.M g.row.A g.A.Alloc
 pub new-requires-5 : goal.new-requires-5
 new-requires-5 g c = part_small (client_layout g.row.C g.row.M g.row.A g.A.Allocator) 4 9223372036854775808 c.requires-raw.1.1.1.1
 
-pub returns-clause-stands : goal.returns-clause-stands
-returns-clause-stands g c = λ client manager knows. record {
+pub returns-clause-new : goal.returns-clause-new
+returns-clause-new g c = λ client manager knows. record {
   a = c.new.ensures.stands client manager;
-  b = sym c.new-2.ensures;
   c = c.new-3.ensures.stands client manager;
-  d = sym c.new-4.ensures;
   e = c.new-5.ensures.stands client manager;
   book = knows;
 }

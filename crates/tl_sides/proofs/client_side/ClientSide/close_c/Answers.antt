@@ -1,9 +1,14 @@
-use Rattle.tl_sides.proofs.SideSteps.{side_closes_c}
-use Rattle.tl_sides.proofs.Layouts.{client_side_layout, part_small}
+use Rattle.std.proofs.Common.{ap, ◌∙◌}
+use Rattle.tl_sides.proofs.Words.{rules_c}
+use Rattle.tl_sides.proofs.BoxSteps.{closes_outbox}
+use Rattle.tl_sides.proofs.SideSteps.{client_side_of, side_closes_c}
+use Rattle.tl_sides.proofs.Layouts.{client_side_layout, inner_small}
+use Rattle.tl_sides.proofs.Lifting.{left_of}
 use Rattle.tl_sides.proofs.client_side.ClientSide.close_c.Goals as goal
 
-pub close_c-requires : goal.close_c-requires
-close_c-requires g c = part_small (client_side_layout g.row.C g.row.M g.row.A g.A.Allocator) 0 9223372036854775808 c.requires-raw.1.1.1
+pub close-requires : goal.close-requires
+close-requires g c = inner_small (client_side_layout g.row.C g.row.M g.row.A g.A.Allocator) 0 2 9223372036854775808 c.requires-raw.1.1.1
 
 pub returns : goal.returns
-returns g c = rw (← c.self.view_is) (side_closes_c c.self.inside _ _ c.close_c.ensures)
+returns g c = rw (← ap (λ q. client_side_of q) c.self-inside.view_is ∙ c.self.view_is)
+    (side_closes_c (left_of c.self-inside.view_is) _ _ (closes_outbox rules_c g.row.C _ _ _ c.close.ensures))

@@ -1,12 +1,16 @@
-use Rattle.tl_sides.proofs.SideSteps.{side_offers_c}
-use Rattle.tl_sides.proofs.Layouts.{client_side_layout, part_small, beat_small}
+use Rattle.std.proofs.Common.{ap, ◌∙◌}
+use Rattle.tl_sides.proofs.SideSteps.{client_side_of, side_offers_c}
+use Rattle.tl_sides.proofs.Layouts.{client_side_layout, inner_small, beat_small}
+use Rattle.tl_sides.proofs.Lifting.{left_of}
 use Rattle.tl_sides.proofs.client_side.ClientSide.offer_c.Goals as goal
 
-pub offer_c-requires : goal.offer_c-requires
-offer_c-requires g c = (
-  part_small (client_side_layout g.row.C g.row.M g.row.A g.A.Allocator) 0 9223372036854775808 c.requires-raw.1.1.1.0,
-  (beat_small g.row.C c.requires.near, (c.requires.near, (c.requires.far, rw (← c.self.view_is) at c.requires.ready))),
+pub offer_alone-requires : goal.offer_alone-requires
+offer_alone-requires g c = (
+  inner_small (client_side_layout g.row.C g.row.M g.row.A g.A.Allocator) 0 2 9223372036854775808 c.requires-raw.1.1.1.0,
+  (beat_small g.row.C c.requires.near, (c.requires.near, c.requires.far, rw (← ap (λ q. client_side_of q) c.self-inside.view_is ∙ c.self.view_is) at c.requires.ready)),
 )
 
 pub returns : goal.returns
-returns g c = rw (← c.self.view_is) (side_offers_c c.self.inside _ _ _ (rw (← c.self.view_is) at c.requires.ready) c.offer_c.ensures)
+returns g c =
+    let view = ap (λ q. client_side_of q) c.self-inside.view_is ∙ c.self.view_is in
+    rw (← view) (side_offers_c (left_of c.self-inside.view_is) _ _ _ (rw (← view) at c.requires.ready) c.offer_alone.ensures)

@@ -1,8 +1,10 @@
-use Rattle.tl_sides.proofs.Layouts.{client_side_layout, part_small}
+use Rattle.std.proofs.Common.{ap, ◌∙◌}
+use Rattle.tl_sides.proofs.SideSteps.{client_side_of}
+use Rattle.tl_sides.proofs.Layouts.{client_side_layout, inner_small}
 use Rattle.tl_sides.proofs.client_side.ClientSide.ready_a.Goals as goal
 
-pub ready_a-requires : goal.ready_a-requires
-ready_a-requires g c = part_small (client_side_layout g.row.C g.row.M g.row.A g.A.Allocator) 0 9223372036854775808 c.requires-raw.1.1.1
+pub ready-requires : goal.ready-requires
+ready-requires g c = inner_small (client_side_layout g.row.C g.row.M g.row.A g.A.Allocator) 0 0 9223372036854775808 c.requires-raw.1.1.1
 
 pub returns : goal.returns
-returns g c = rw (← c.self.view_is) c.ready_a.ensures
+returns g c = rw (← ap (λ q. client_side_of q) c.self-inside.view_is ∙ c.self.view_is) c.ready.ensures

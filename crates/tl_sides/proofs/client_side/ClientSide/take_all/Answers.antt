@@ -1,6 +1,6 @@
 use Rattle.std.proofs.Common.{ap}
 use Rattle.tl_sides.proofs.Layouts.{client_side_layout, part_small}
-use Rattle.tl_sides.proofs.SideSteps.{client_side_of, client_done, client_port_stands, client_takes_all}
+use Rattle.tl_sides.proofs.SideSteps.{client_side_of, client_takes_all}
 use Rattle.tl_sides.proofs.client_side.ClientSide.take_all.Goals as goal
 
 pub take_all-requires : goal.take_all-requires
@@ -13,6 +13,6 @@ take_all-requires g c = (
 pub returns : goal.returns
 returns g c = let said = c.take_all.ensures in rw (← c.self.view_is) (record {
   taken = λ x h. client_takes_all c.self.inside x h c.take_all.new.self said.rest
-      (said.taken (client_done c.self.inside x) (client_port_stands c.self.inside x h)).book;
+      (said.book x.history h.book);
   rest = ap (λ z. client_side_of (record c.self.inside { port = z })) said.rest;
 })

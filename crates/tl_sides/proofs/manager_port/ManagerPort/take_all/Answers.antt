@@ -2,7 +2,6 @@ use Rattle.std.proofs.Common.{◌++◌, map, refl, subst, get_or}
 use Rattle.tl_sides.proofs.Words.{rules_a, Ask}
 use Rattle.tl_settle.specs.Books.{KnowsManager}
 use Rattle.tl_sides.proofs.BridgeSteps.{lawful_head}
-use Rattle.tl_sides.proofs.PortSteps.{manager_takes_all}
 use Rattle.tl_sides.proofs.Layouts.{manager_layout, part_small, beat_small}
 use Rattle.tl_sides.proofs.manager_port.ManagerPort.take_all.Goals as goal
 
@@ -36,7 +35,6 @@ take_all-requires-3 g c = part_small (manager_layout g.row.C g.row.M g.row.A g.A
 
 pub returns : goal.returns
 returns g c = rw (← c.self.view_is) (rw (c.take_all.ensures, c.take_all-2.ensures, c.take_all-3.ensures) (record {
-  taken = λ x h. manager_takes_all _ x h _
-      (subst (λ q. KnowsManager c.note_all.new.book (x.history ++ map Ask q)) c.as_slice.ensures.beats (c.note_all.ensures x.history h.book));
+  book = λ es h. subst (λ q. KnowsManager c.note_all.new.book (es ++ map Ask q)) c.as_slice.ensures.beats (c.note_all.ensures es h);
   rest = refl;
 }))

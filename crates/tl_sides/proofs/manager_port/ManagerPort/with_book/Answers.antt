@@ -1,4 +1,3 @@
-use Rattle.std.proofs.Common.{sym}
 use Rattle.tl_sides.proofs.Layouts.{manager_layout, part_small}
 use Rattle.tl_sides.proofs.manager_port.ManagerPort.with_book.Goals as goal
 
@@ -17,12 +16,9 @@ new-requires-4 g c = part_small (manager_layout g.row.C g.row.M g.row.A g.A.Allo
 pub new-requires-5 : goal.new-requires-5
 new-requires-5 g c = part_small (manager_layout g.row.C g.row.M g.row.A g.A.Allocator) 4 9223372036854775808 c.requires-raw.1.1.1.1
 
-pub returns-clause-stands : goal.returns-clause-stands
-returns-clause-stands g c = λ client manager knows. record {
-  a = sym c.new.ensures;
+pub returns-clause-new : goal.returns-clause-new
+returns-clause-new g c = λ client manager knows. record {
   b = c.new-2.ensures.stands manager client;
-  c = sym c.new-3.ensures;
   d = c.new-4.ensures.stands manager client;
-  e = sym c.new-5.ensures;
   book = knows;
 }

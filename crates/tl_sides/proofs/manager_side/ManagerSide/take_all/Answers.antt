@@ -1,6 +1,6 @@
 use Rattle.std.proofs.Common.{ap}
 use Rattle.tl_sides.proofs.Layouts.{manager_side_layout, part_small}
-use Rattle.tl_sides.proofs.SideSteps.{manager_side_of, manager_done, manager_port_stands, manager_takes_all}
+use Rattle.tl_sides.proofs.SideSteps.{manager_side_of, manager_takes_all}
 use Rattle.tl_sides.proofs.manager_side.ManagerSide.take_all.Goals as goal
 
 pub take_all-requires : goal.take_all-requires
@@ -13,6 +13,6 @@ take_all-requires g c = (
 pub returns : goal.returns
 returns g c = let said = c.take_all.ensures in rw (← c.self.view_is) (record {
   taken = λ x h. manager_takes_all c.self.inside x h c.take_all.new.self said.rest
-      (said.taken (manager_done c.self.inside x) (manager_port_stands c.self.inside x h)).book;
+      (said.book x.history h.book);
   rest = ap (λ z. manager_side_of (record c.self.inside { port = z })) said.rest;
 })

@@ -1,9 +1,14 @@
-use Rattle.tl_sides.proofs.Bridging.{bridge_closes_d}
-use Rattle.tl_sides.proofs.Layouts.{bridge_layout, part_small}
+use Rattle.std.proofs.Common.{ap, ◌∙◌}
+use Rattle.tl_sides.proofs.Words.{rules_d}
+use Rattle.tl_sides.proofs.BoxSteps.{closes_outbox}
+use Rattle.tl_sides.proofs.Bridging.{as_bridge, bridge_closes_d}
+use Rattle.tl_sides.proofs.Layouts.{bridge_layout, inner_small}
+use Rattle.tl_sides.proofs.Lifting.{left_of}
 use Rattle.tl_sides.proofs.sync_bridge.SyncBridge.close_d.Goals as goal
 
-pub close_d-requires : goal.close_d-requires
-close_d-requires g c = part_small (bridge_layout g.row.C g.row.M g.row.A g.A.Allocator) 1 9223372036854775808 c.requires-raw.1.1.1
+pub close-requires : goal.close-requires
+close-requires g c = inner_small (bridge_layout g.row.C g.row.M g.row.A g.A.Allocator) 1 3 9223372036854775808 c.requires-raw.1.1.1
 
 pub returns : goal.returns
-returns g c = rw (← c.self.view_is) (bridge_closes_d c.self.inside _ _ c.close_d.ensures)
+returns g c = rw (← ap (λ q. as_bridge q) c.self-inside.view_is ∙ c.self.view_is)
+    (bridge_closes_d (left_of c.self-inside.view_is) _ _ (closes_outbox rules_d g.row.M _ _ _ c.close.ensures))

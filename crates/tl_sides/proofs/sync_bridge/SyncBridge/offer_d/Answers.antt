@@ -1,12 +1,19 @@
-use Rattle.tl_sides.proofs.Bridging.{bridge_offers_d}
-use Rattle.tl_sides.proofs.Layouts.{bridge_layout, part_small, beat_small}
+use Rattle.std.proofs.Common.{ap, ◌∙◌}
+use Rattle.tl_sides.proofs.Bridging.{as_bridge, bridge_offers_d}
+use Rattle.tl_sides.proofs.Layouts.{bridge_layout, inner_small, beat_small}
+use Rattle.tl_sides.proofs.Lifting.{left_of}
 use Rattle.tl_sides.proofs.sync_bridge.SyncBridge.offer_d.Goals as goal
 
-pub offer_d-requires : goal.offer_d-requires
-offer_d-requires g c = (
-  part_small (bridge_layout g.row.C g.row.M g.row.A g.A.Allocator) 1 9223372036854775808 c.requires-raw.1.1.1.0,
-  (beat_small g.row.M c.requires.manager, (c.requires.manager, (c.requires.client, rw (← c.self.view_is) at c.requires.ready))),
+pub offer_response-requires : goal.offer_response-requires
+offer_response-requires g c = (
+  inner_small (bridge_layout g.row.C g.row.M g.row.A g.A.Allocator) 1 5 9223372036854775808 c.requires-raw.1.1.1.0,
+  (
+    inner_small (bridge_layout g.row.C g.row.M g.row.A g.A.Allocator) 1 3 9223372036854775808 c.requires-raw.1.1.1.0,
+    (beat_small g.row.M c.requires.manager, (c.requires.manager, c.requires.client, rw (← ap (λ q. as_bridge q) c.self-inside.view_is ∙ c.self.view_is) at c.requires.ready)),
+  ),
 )
 
 pub returns : goal.returns
-returns g c = rw (← c.self.view_is) (bridge_offers_d c.self.inside _ _ _ (rw (← c.self.view_is) at c.requires.ready) c.offer_d.ensures)
+returns g c =
+    let view = ap (λ q. as_bridge q) c.self-inside.view_is ∙ c.self.view_is in
+    rw (← view) (bridge_offers_d (left_of c.self-inside.view_is) _ _ _ (rw (← view) at c.requires.ready) c.offer_response.ensures)

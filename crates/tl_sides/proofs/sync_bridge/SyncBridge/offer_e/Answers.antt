@@ -1,12 +1,16 @@
-use Rattle.tl_sides.proofs.Bridging.{bridge_offers_e}
-use Rattle.tl_sides.proofs.Layouts.{bridge_layout, part_small, beat_small}
+use Rattle.std.proofs.Common.{ap, ◌∙◌}
+use Rattle.tl_sides.proofs.Bridging.{as_bridge, bridge_offers_e}
+use Rattle.tl_sides.proofs.Layouts.{bridge_layout, inner_small, beat_small}
+use Rattle.tl_sides.proofs.Lifting.{left_of}
 use Rattle.tl_sides.proofs.sync_bridge.SyncBridge.offer_e.Goals as goal
 
-pub offer_e-requires : goal.offer_e-requires
-offer_e-requires g c = (
-  part_small (bridge_layout g.row.C g.row.M g.row.A g.A.Allocator) 0 9223372036854775808 c.requires-raw.1.1.1.0,
-  (beat_small g.row.C c.requires.client, (c.requires.client, (c.requires.manager, rw (← c.self.view_is) at c.requires.ready))),
+pub offer_alone-requires : goal.offer_alone-requires
+offer_alone-requires g c = (
+  inner_small (bridge_layout g.row.C g.row.M g.row.A g.A.Allocator) 0 4 9223372036854775808 c.requires-raw.1.1.1.0,
+  (beat_small g.row.C c.requires.client, (c.requires.client, c.requires.manager, rw (← ap (λ q. as_bridge q) c.self-inside.view_is ∙ c.self.view_is) at c.requires.ready)),
 )
 
 pub returns : goal.returns
-returns g c = rw (← c.self.view_is) (bridge_offers_e c.self.inside _ _ _ (rw (← c.self.view_is) at c.requires.ready) c.offer_e.ensures)
+returns g c =
+    let view = ap (λ q. as_bridge q) c.self-inside.view_is ∙ c.self.view_is in
+    rw (← view) (bridge_offers_e (left_of c.self-inside.view_is) _ _ _ (rw (← view) at c.requires.ready) c.offer_alone.ensures)

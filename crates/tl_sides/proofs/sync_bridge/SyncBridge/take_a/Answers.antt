@@ -1,12 +1,17 @@
-use Rattle.tl_sides.proofs.Bridging.{bridge_taken_a}
-use Rattle.tl_sides.proofs.Layouts.{bridge_layout, part_small, beat_small}
+use Rattle.std.proofs.Common.{ap, ◌∙◌}
+use Rattle.tl_sides.proofs.Bridging.{as_bridge, bridge_taken_a}
+use Rattle.tl_sides.proofs.Layouts.{bridge_layout, inner_small, beat_small}
+use Rattle.tl_sides.proofs.Lifting.{left_of}
 use Rattle.tl_sides.proofs.sync_bridge.SyncBridge.take_a.Goals as goal
 
-pub take_a-requires : goal.take_a-requires
-take_a-requires g c = (
-  part_small (bridge_layout g.row.C g.row.M g.row.A g.A.Allocator) 1 9223372036854775808 c.requires-raw.1.1.1.0,
-  (beat_small g.row.M c.requires.far, c.requires.far),
+pub take_request-requires : goal.take_request-requires
+take_request-requires g c = (
+  inner_small (bridge_layout g.row.C g.row.M g.row.A g.A.Allocator) 1 5 9223372036854775808 c.requires-raw.1.1.1.0,
+  (
+    inner_small (bridge_layout g.row.C g.row.M g.row.A g.A.Allocator) 1 0 9223372036854775808 c.requires-raw.1.1.1.0,
+    (beat_small g.row.M c.requires.far, c.requires.far),
+  ),
 )
 
 pub returns : goal.returns
-returns g c = rw (← c.self.view_is) (bridge_taken_a c.self.inside _ _ c.take_a.ensures)
+returns g c = rw (← ap (λ q. as_bridge q) c.self-inside.view_is ∙ c.self.view_is) (bridge_taken_a (left_of c.self-inside.view_is) _ _ c.take_request.ensures)

@@ -1,4 +1,4 @@
-use Rattle.tl_sides.proofs.Bridging.{client_of, client_stands, manager_of, manager_stands, all_taken}
+use Rattle.tl_sides.proofs.Bridging.{all_taken}
 use Rattle.tl_sides.proofs.Layouts.{bridge_layout, part_small}
 use Rattle.tl_sides.proofs.sync_bridge.SyncBridge.take_all.Goals as goal
 
@@ -19,5 +19,4 @@ take_all-requires-2 g c = (
 pub returns : goal.returns
 returns g c = rw (← c.self.view_is)
     (λ x h. all_taken c.self.inside x h c.take_all.new.self c.take_all-2.new.self c.take_all.ensures.rest c.take_all-2.ensures.rest
-    (c.take_all.ensures.taken (client_of x) (client_stands c.self.inside x h)).book
-    (c.take_all-2.ensures.taken (manager_of x) (manager_stands c.self.inside x h)).book)
+    (c.take_all.ensures.book x.client h.client) (c.take_all-2.ensures.book x.manager h.manager))

@@ -1,8 +1,0 @@
-use Rattle.tl_sides.proofs.Layouts.{client_layout, part_small}
-use Rattle.tl_sides.proofs.client_port.ClientPort.ready_e.Goals as goal
-
-pub ready-requires : goal.ready-requires
-ready-requires g c = part_small (client_layout g.row.C g.row.M g.row.A g.A.Allocator) 4 9223372036854775808 c.requires-raw.1.1.1
-
-pub returns : goal.returns
-returns g c = rw (← c.self.view_is) c.ready.ensures
