@@ -43,6 +43,9 @@ module _ {A : Type 0} {C M : ℕ} where
   pub closed_a : {s s' : ClientState A C M} {number : ℕ} → ClosesNumbered side_sends_a s number s' → SameClient s s'
   closed_a = after_close side_sends_a SameClient client_same (λ s. offered_a (refl, refl))
 
+  pub closed_rest_a : {s s' : ClientState A C M} {number : ℕ} → ClosesNumbered side_sends_a s number s' → (side_sends_a {A = A} {C = C} {M = M}).Keeps s s'
+  closed_rest_a = after_close side_sends_a ((side_sends_a {A = A} {C = C} {M = M}).Keeps) (λ s. (refl, refl)) (λ s. (refl, refl))
+
   pub taken_b : {s s' : ClientState A C M} → (side_takes_b {A = A} {C = C} {M = M}).Keeps s s' → SameClient s s'
   taken_b rest = search rules
 
@@ -52,6 +55,9 @@ module _ {A : Type 0} {C M : ℕ} where
   pub closed_c : {s s' : ClientState A C M} {number : ℕ} → ClosesNumbered side_sends_c s number s' → SameClient s s'
   closed_c = after_close side_sends_c SameClient client_same (λ s. offered_c (refl, refl))
 
+  pub closed_rest_c : {s s' : ClientState A C M} {number : ℕ} → ClosesNumbered side_sends_c s number s' → (side_sends_c {A = A} {C = C} {M = M}).Keeps s s'
+  closed_rest_c = after_close side_sends_c ((side_sends_c {A = A} {C = C} {M = M}).Keeps) (λ s. (refl, refl)) (λ s. (refl, refl))
+
   pub taken_d : {s s' : ClientState A C M} → (side_takes_d {A = A} {C = C} {M = M}).Keeps s s' → SameClient s s'
   taken_d rest = search rules
 
@@ -60,6 +66,9 @@ module _ {A : Type 0} {C M : ℕ} where
 
   pub closed_e : {s s' : ClientState A C M} {number : ℕ} → ClosesNumbered side_sends_e s number s' → SameClient s s'
   closed_e = after_close side_sends_e SameClient client_same (λ s. offered_e (refl, refl))
+
+  pub closed_rest_e : {s s' : ClientState A C M} {number : ℕ} → ClosesNumbered side_sends_e s number s' → (side_sends_e {A = A} {C = C} {M = M}).Keeps s s'
+  closed_rest_e = after_close side_sends_e ((side_sends_e {A = A} {C = C} {M = M}).Keeps) (λ s. (refl, refl)) (λ s. (refl, refl))
 
   pub manager_same : (t : ManagerState A C M) → SameManager t t
   manager_same t = search rules
@@ -73,6 +82,9 @@ module _ {A : Type 0} {C M : ℕ} where
   pub closed_b : {t t' : ManagerState A C M} {number : ℕ} → ClosesNumbered side_sends_b t number t' → SameManager t t'
   closed_b = after_close side_sends_b SameManager manager_same (λ t. offered_b (refl, refl))
 
+  pub closed_rest_b : {t t' : ManagerState A C M} {number : ℕ} → ClosesNumbered side_sends_b t number t' → (side_sends_b {A = A} {C = C} {M = M}).Keeps t t'
+  closed_rest_b = after_close side_sends_b ((side_sends_b {A = A} {C = C} {M = M}).Keeps) (λ t. (refl, refl)) (λ t. (refl, refl))
+
   pub taken_c : {t t' : ManagerState A C M} → (side_takes_c {A = A} {C = C} {M = M}).Keeps t t' → SameManager t t'
   taken_c rest = search rules
 
@@ -81,6 +93,9 @@ module _ {A : Type 0} {C M : ℕ} where
 
   pub closed_d : {t t' : ManagerState A C M} {number : ℕ} → ClosesNumbered side_sends_d t number t' → SameManager t t'
   closed_d = after_close side_sends_d SameManager manager_same (λ t. offered_d (refl, refl))
+
+  pub closed_rest_d : {t t' : ManagerState A C M} {number : ℕ} → ClosesNumbered side_sends_d t number t' → (side_sends_d {A = A} {C = C} {M = M}).Keeps t t'
+  closed_rest_d = after_close side_sends_d ((side_sends_d {A = A} {C = C} {M = M}).Keeps) (λ t. (refl, refl)) (λ t. (refl, refl))
 
   pub taken_e : {t t' : ManagerState A C M} → (side_takes_e {A = A} {C = C} {M = M}).Keeps t t' → SameManager t t'
   taken_e rest = search rules

@@ -8,7 +8,7 @@ use Rattle.tl_c_beats.specs.declared.answers.TheConstants.{NOT_OPEN, BRIDGE_MISM
 use Rattle.tl_c.specs.declared.held.ClientHeld.{ClientHeld}
 use Rattle.tl_c.specs.declared.held.ManagerHeld.{ManagerHeld}
 use Rattle.tl_c.specs.declared.widths.TheConstants.{CLIENT, MANAGER}
-use Rattle.tl_c.specs.Calls.{Keeps, MayMeet, MeetLegally}
+use Rattle.tl_c.specs.Calls.{Keeps, MayMeet, MeetLegally, ClientStays, ManagerStays}
 use Rattle.tl_c.specs.Settling.{answer_of_two}
 use Rattle.tl_c.proofs.Keeping.{manager_same}
 
@@ -22,6 +22,18 @@ bridge_mismatch e = absurd (omega (arith, e))
 pub untouched : (held : Option ManagerHeld) {n : ℕ} → Keeps (λ h k. SameManager h.side k.side) held held × (n ≡ n)
 untouched None = (refl, refl)
 untouched (Some h) = (manager_same h.side, refl)
+
+-- a side that stays as it is moves no beat
+pub client_stays : (s : ClientState Global CLIENT MANAGER) → ClientStays s s
+client_stays s = record { a = (refl, refl, refl); b = (refl, refl); c = (refl, refl, refl); d = (refl, refl); e = (refl, refl, refl); book = refl }
+
+pub manager_stays : (t : ManagerState Global CLIENT MANAGER) → ManagerStays t t
+manager_stays t = record { a = (refl, refl); b = (refl, refl, refl); c = (refl, refl); d = (refl, refl, refl); e = (refl, refl); book = refl }
+
+pub unmoved : (held : Option ManagerHeld) {n : ℕ} →
+    Keeps (λ h k. SameManager h.side k.side × ManagerStays h.side k.side) held held × (n ≡ n)
+unmoved None = (refl, refl)
+unmoved (Some h) = ((manager_same h.side, manager_stays h.side), refl)
 
 same_yes : (m n : ℕ) → m ≡ n → (m == n) ≡ true
 same_yes m n e = search rules

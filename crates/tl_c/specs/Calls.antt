@@ -12,10 +12,11 @@ use Rattle.tl_msg.specs.declared.beat.BeatOf.{BeatOf}
 use Rattle.tl_convert.specs.Laws.{HasNoFaults}
 use Rattle.tl_settle.specs.Obeying.{ObeysRules}
 use Rattle.tl_sides.specs.Legal.{WentOn}
-use Rattle.tl_ring.specs.Ends.{Sending, Taking, known_items}
+use Rattle.tl_ring.specs.Ends.{Sending, Taking, known_items, received, sent}
 use Rattle.std.specs.Global.{Global}
-use Rattle.tl_sides.specs.Calls.{SendingChannel}
+use Rattle.tl_sides.specs.Calls.{SendingChannel, TakingChannel}
 use Rattle.tl_sides.specs.Sides.{side_sends_a, side_sends_b, side_sends_c, side_sends_d, side_sends_e}
+use Rattle.tl_sides.specs.Sides.{side_takes_a, side_takes_b, side_takes_c, side_takes_d, side_takes_e}
 use Rattle.tl_sides.specs.Ends.{Pumps, Fetches, pump_count, fetch_count}
 use Rattle.tl_sides.specs.Sides.{ClientState, ManagerState, ClientPast, ManagerPast, ClientStandsFor, ManagerStandsFor, AreSides, SidesMeet}
 use Rattle.tl_sides.specs.Sides.{SameClient, SameManager, client_pumps, manager_pumps}
@@ -55,6 +56,55 @@ KeepsClient before now = Keeps (λ h k. SameClient h.side k.side) before.owned.h
 abbrev pub KeepsManager : (before now : ManagerHandle) → Type 0
 KeepsManager before now = Keeps (λ h k. SameManager h.side k.side) before.owned.held now.owned.held × (now.bridge ≡ before.bridge)
 
+-- a handle keeps its side and its number, and the parts of the side that `SameParts` compares stay as they were
+abbrev pub KeepsOfClient : (SameParts : ClientState Global CLIENT MANAGER → ClientState Global CLIENT MANAGER → Type 0) →
+    (before now : ClientHandle) → Type 0
+KeepsOfClient SameParts before now =
+    Keeps (λ h k. SameClient h.side k.side × SameParts h.side k.side) before.owned.held now.owned.held × (now.bridge ≡ before.bridge)
+
+abbrev pub KeepsOfManager : (SameParts : ManagerState Global CLIENT MANAGER → ManagerState Global CLIENT MANAGER → Type 0) →
+    (before now : ManagerHandle) → Type 0
+KeepsOfManager SameParts before now =
+    Keeps (λ h k. SameManager h.side k.side × SameParts h.side k.side) before.owned.held now.owned.held × (now.bridge ≡ before.bridge)
+
+-- all but the ends of A, C and E, or all but those of B and D, are the same
+abbrev pub same_but_client_sends : ClientState Global CLIENT MANAGER → ClientState Global CLIENT MANAGER → Type 0
+same_but_client_sends s t = t ≡ record s { a = t.a; c = t.c; e = t.e }
+
+abbrev pub same_but_client_takes : ClientState Global CLIENT MANAGER → ClientState Global CLIENT MANAGER → Type 0
+same_but_client_takes s t = t ≡ record s { b = t.b; d = t.d }
+
+abbrev pub same_but_manager_sends : ManagerState Global CLIENT MANAGER → ManagerState Global CLIENT MANAGER → Type 0
+same_but_manager_sends s t = t ≡ record s { b = t.b; d = t.d }
+
+abbrev pub same_but_manager_takes : ManagerState Global CLIENT MANAGER → ManagerState Global CLIENT MANAGER → Type 0
+same_but_manager_takes s t = t ≡ record s { a = t.a; c = t.c; e = t.e }
+
+-- no beat moved at an end: what is staged, what was sent and whether the channel is closed are the same, or what is in
+-- the inbox and what was received
+abbrev pub SendStays : {K A H : Type 0} {v : ℕ} → (s t : Sending K A H v) → Type 0
+SendStays s t = (t.stage ≡ s.stage) × (t.closed ≡ s.closed) × (sent t ≡ sent s)
+
+abbrev pub TakeStays : {K A H : Type 0} {v : ℕ} → (s t : Taking K A H v) → Type 0
+TakeStays s t = (t.inbox ≡ s.inbox) × (received t ≡ received s)
+
+-- no beat moved at a side
+pub record ClientStays (s t : ClientState Global CLIENT MANAGER) : Type 0 where
+  pub a : SendStays s.a t.a
+  pub b : TakeStays s.b t.b
+  pub c : SendStays s.c t.c
+  pub d : TakeStays s.d t.d
+  pub e : SendStays s.e t.e
+  pub book : t.book ≡ s.book
+
+pub record ManagerStays (s t : ManagerState Global CLIENT MANAGER) : Type 0 where
+  pub a : TakeStays s.a t.a
+  pub b : SendStays s.b t.b
+  pub c : TakeStays s.c t.c
+  pub d : SendStays s.d t.d
+  pub e : TakeStays s.e t.e
+  pub book : t.book ≡ s.book
+
 -- the channels that the held sides send
 abbrev pub sends_a : SendingChannel (ClientState Global CLIENT MANAGER) (ClientPast CLIENT MANAGER) HeadA CLIENT
 sends_a = side_sends_a
@@ -70,6 +120,22 @@ sends_d = side_sends_d
 
 abbrev pub sends_e : SendingChannel (ClientState Global CLIENT MANAGER) (ClientPast CLIENT MANAGER) HeadE CLIENT
 sends_e = side_sends_e
+
+-- the channels that the held sides take
+abbrev pub takes_a : TakingChannel (ManagerState Global CLIENT MANAGER) (ManagerPast CLIENT MANAGER) HeadA MANAGER
+takes_a = side_takes_a
+
+abbrev pub takes_b : TakingChannel (ClientState Global CLIENT MANAGER) (ClientPast CLIENT MANAGER) HeadB CLIENT
+takes_b = side_takes_b
+
+abbrev pub takes_c : TakingChannel (ManagerState Global CLIENT MANAGER) (ManagerPast CLIENT MANAGER) HeadC MANAGER
+takes_c = side_takes_c
+
+abbrev pub takes_d : TakingChannel (ClientState Global CLIENT MANAGER) (ClientPast CLIENT MANAGER) HeadD CLIENT
+takes_d = side_takes_d
+
+abbrev pub takes_e : TakingChannel (ManagerState Global CLIENT MANAGER) (ManagerPast CLIENT MANAGER) HeadE MANAGER
+takes_e = side_takes_e
 
 -- the beats of an inbox of a side, if one is held: those that it has fetched on a channel and not yet taken
 abbrev pub waiting : {S A : Type 0} → (inbox : S → List A) → Option S → List A

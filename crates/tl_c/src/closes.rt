@@ -1,6 +1,6 @@
 //! The closing of each channel.
 ghost use Rattle.tl_c_beats.specs.Calls.{Closes};
-ghost use Rattle.tl_c.specs.Calls.{HoldsClient, HoldsManager, KeepsClient, KeepsManager, sends_a, sends_b, sends_c, sends_d, sends_e};
+ghost use Rattle.tl_c.specs.Calls.{HoldsClient, HoldsManager, KeepsOfClient, KeepsOfManager, sends_a, sends_b, sends_c, sends_d, sends_e};
 
 use crate::client_handle::ClientHandle;
 use crate::manager_handle::ManagerHandle;
@@ -14,7 +14,7 @@ use tl_c_beats::{NOT_OPEN, close_a, close_b, close_c, close_d, close_e, on_held}
 #[unsafe(no_mangle)]
 pub extern "C" fn tl_close_a(alloc: Global, client: &mut ClientHandle) -> u8
     ensures close { Closes HoldsClient NOT_OPEN sends_a client.old.owned.held client.new.owned.held result }
-    ensures kept { KeepsClient client.old client.new }
+    ensures kept { KeepsOfClient sends_a.Keeps client.old client.new }
 {
     on_held!(client, alloc, NOT_OPEN, |held| close_a(&mut held.side))
 }
@@ -26,7 +26,7 @@ pub extern "C" fn tl_close_a(alloc: Global, client: &mut ClientHandle) -> u8
 #[unsafe(no_mangle)]
 pub extern "C" fn tl_close_b(alloc: Global, manager: &mut ManagerHandle) -> u8
     ensures close { Closes HoldsManager NOT_OPEN sends_b manager.old.owned.held manager.new.owned.held result }
-    ensures kept { KeepsManager manager.old manager.new }
+    ensures kept { KeepsOfManager sends_b.Keeps manager.old manager.new }
 {
     on_held!(manager, alloc, NOT_OPEN, |held| close_b(&mut held.side))
 }
@@ -38,7 +38,7 @@ pub extern "C" fn tl_close_b(alloc: Global, manager: &mut ManagerHandle) -> u8
 #[unsafe(no_mangle)]
 pub extern "C" fn tl_close_c(alloc: Global, client: &mut ClientHandle) -> u8
     ensures close { Closes HoldsClient NOT_OPEN sends_c client.old.owned.held client.new.owned.held result }
-    ensures kept { KeepsClient client.old client.new }
+    ensures kept { KeepsOfClient sends_c.Keeps client.old client.new }
 {
     on_held!(client, alloc, NOT_OPEN, |held| close_c(&mut held.side))
 }
@@ -50,7 +50,7 @@ pub extern "C" fn tl_close_c(alloc: Global, client: &mut ClientHandle) -> u8
 #[unsafe(no_mangle)]
 pub extern "C" fn tl_close_d(alloc: Global, manager: &mut ManagerHandle) -> u8
     ensures close { Closes HoldsManager NOT_OPEN sends_d manager.old.owned.held manager.new.owned.held result }
-    ensures kept { KeepsManager manager.old manager.new }
+    ensures kept { KeepsOfManager sends_d.Keeps manager.old manager.new }
 {
     on_held!(manager, alloc, NOT_OPEN, |held| close_d(&mut held.side))
 }
@@ -62,7 +62,7 @@ pub extern "C" fn tl_close_d(alloc: Global, manager: &mut ManagerHandle) -> u8
 #[unsafe(no_mangle)]
 pub extern "C" fn tl_close_e(alloc: Global, client: &mut ClientHandle) -> u8
     ensures close { Closes HoldsClient NOT_OPEN sends_e client.old.owned.held client.new.owned.held result }
-    ensures kept { KeepsClient client.old client.new }
+    ensures kept { KeepsOfClient sends_e.Keeps client.old client.new }
 {
     on_held!(client, alloc, NOT_OPEN, |held| close_e(&mut held.side))
 }

@@ -1,7 +1,7 @@
 //! Calls that bring both sides of a bridge together.
 ghost use Rattle.std.specs.Prelude.{◌≡◌, ◌≢◌};
 ghost use Rattle.tl_sides.specs.Sides.{ClientPast, ManagerPast};
-ghost use Rattle.tl_c.specs.Calls.{HoldsClient, HoldsManager, HoldSides, KeepsClient, KeepsManager, MayMeet, HaveMet, AreCounted};
+ghost use Rattle.tl_c.specs.Calls.{HoldsClient, HoldsManager, HoldSides, KeepsClient, KeepsManager, KeepsOfClient, KeepsOfManager, ClientStays, ManagerStays, MayMeet, HaveMet, AreCounted};
 ghost use Rattle.tl_c.specs.Settling.{HaveSettled, AreStill, meeting_answer};
 
 use crate::client_handle::ClientHandle;
@@ -63,7 +63,8 @@ pub extern "C" fn tl_meet(
     ensures counts { result ≡ 0 →
         AreCounted client.new.owned.held manager.new.owned.held counts.new }
     ensures sides { result ≡ 0 → HoldSides client.new.owned.held manager.new.owned.held }
-    ensures kept { KeepsClient client.old client.new × KeepsManager manager.old manager.new }
+    ensures kept { KeepsOfClient ClientStays client.old client.new ×
+        KeepsOfManager ManagerStays manager.old manager.new }
     ensures same { result ≢ 0 → (client.new.owned.held ≡ client.old.owned.held) ×
         (manager.new.owned.held ≡ manager.old.owned.held) × (counts.new ≡ counts.old) }
 {

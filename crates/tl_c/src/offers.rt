@@ -1,7 +1,7 @@
 //! The offers of each channel.
 ghost use Rattle.tl_c_beats.specs.Calls.{Asks, Offers};
 ghost use Rattle.tl_c_beats.specs.Fields.{beat_a, beat_b, beat_c, beat_d, beat_e};
-ghost use Rattle.tl_c.specs.Calls.{HoldsClient, HoldsManager, KeepsClient, KeepsManager, sends_a, sends_b, sends_c, sends_d, sends_e};
+ghost use Rattle.tl_c.specs.Calls.{HoldsClient, HoldsManager, KeepsClient, KeepsManager, KeepsOfClient, KeepsOfManager, sends_a, sends_b, sends_c, sends_d, sends_e};
 
 use crate::client_handle::ClientHandle;
 use crate::manager_handle::ManagerHandle;
@@ -34,7 +34,7 @@ pub extern "C" fn tl_offer_a(
 ) -> u8
     ensures offer { Offers HoldsClient NOT_OPEN sends_a (λ x. x.a) (beat_a beat.now lanes.now)
         client.old.owned.held client.new.owned.held result }
-    ensures kept { KeepsClient client.old client.new }
+    ensures kept { KeepsOfClient sends_a.Keeps client.old client.new }
 {
     let beat = beat_a(beat, lanes);
     offer_held!(client, alloc, NOT_OPEN, side.ready_a, offer_a(beat))
@@ -63,7 +63,7 @@ pub extern "C" fn tl_offer_b(
 ) -> u8
     ensures offer { Offers HoldsManager NOT_OPEN sends_b (λ x. x.b) (beat_b beat.now lanes.now)
         manager.old.owned.held manager.new.owned.held result }
-    ensures kept { KeepsManager manager.old manager.new }
+    ensures kept { KeepsOfManager sends_b.Keeps manager.old manager.new }
 {
     let beat = beat_b(beat, lanes);
     offer_held!(manager, alloc, NOT_OPEN, side.ready_b, offer_b(beat))
@@ -92,7 +92,7 @@ pub extern "C" fn tl_offer_c(
 ) -> u8
     ensures offer { Offers HoldsClient NOT_OPEN sends_c (λ x. x.c) (beat_c beat.now lanes.now)
         client.old.owned.held client.new.owned.held result }
-    ensures kept { KeepsClient client.old client.new }
+    ensures kept { KeepsOfClient sends_c.Keeps client.old client.new }
 {
     let beat = beat_c(beat, lanes);
     offer_held!(client, alloc, NOT_OPEN, side.ready_c, offer_c(beat))
@@ -121,7 +121,7 @@ pub extern "C" fn tl_offer_d(
 ) -> u8
     ensures offer { Offers HoldsManager NOT_OPEN sends_d (λ x. x.d) (beat_d beat.now lanes.now)
         manager.old.owned.held manager.new.owned.held result }
-    ensures kept { KeepsManager manager.old manager.new }
+    ensures kept { KeepsOfManager sends_d.Keeps manager.old manager.new }
 {
     let beat = beat_d(beat, lanes);
     offer_held!(manager, alloc, NOT_OPEN, side.ready_d, offer_d(beat))
@@ -150,7 +150,7 @@ pub extern "C" fn tl_offer_e(
 ) -> u8
     ensures offer { Offers HoldsClient NOT_OPEN sends_e (λ x. x.e) (beat_e beat.now lanes.now)
         client.old.owned.held client.new.owned.held result }
-    ensures kept { KeepsClient client.old client.new }
+    ensures kept { KeepsOfClient sends_e.Keeps client.old client.new }
 {
     let beat = beat_e(beat, lanes);
     offer_held!(client, alloc, NOT_OPEN, side.ready_e, offer_e(beat))

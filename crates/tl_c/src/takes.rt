@@ -2,7 +2,7 @@
 ghost use Rattle.tl_msg.specs.Tables.{rules_a, rules_b, rules_c, rules_d, rules_e};
 ghost use Rattle.tl_sides.specs.Sides.{client_takes_b, client_takes_d, manager_takes_a, manager_takes_c, manager_takes_e};
 ghost use Rattle.tl_c_beats.specs.Fields.{fields_a, fields_b, fields_c, fields_d, fields_e};
-ghost use Rattle.tl_c.specs.Calls.{HoldsClient, HoldsManager, KeepsClient, KeepsManager, Takes, inbox_a, inbox_b, inbox_c, inbox_d, inbox_e};
+ghost use Rattle.tl_c.specs.Calls.{HoldsClient, HoldsManager, KeepsOfClient, KeepsOfManager, Takes, inbox_a, inbox_b, inbox_c, inbox_d, inbox_e, takes_a, takes_b, takes_c, takes_d, takes_e};
 
 use crate::client_handle::ClientHandle;
 use crate::manager_handle::ManagerHandle;
@@ -21,7 +21,7 @@ pub extern "C" fn tl_take_a(
 ) -> bool
     ensures take { Takes HoldsManager rules_a fields_a inbox_a manager_takes_a
         manager.old.owned.held manager.new.owned.held beat.old beat.new lanes.old lanes.new result }
-    ensures kept { KeepsManager manager.old manager.new }
+    ensures kept { KeepsOfManager takes_a.Keeps manager.old manager.new }
 {
     let far = on_held!(manager, alloc, false, |held| held.side.take_a());
     tell_a(far, beat, lanes)
@@ -38,7 +38,7 @@ pub extern "C" fn tl_take_b(
 ) -> bool
     ensures take { Takes HoldsClient rules_b fields_b inbox_b client_takes_b
         client.old.owned.held client.new.owned.held beat.old beat.new lanes.old lanes.new result }
-    ensures kept { KeepsClient client.old client.new }
+    ensures kept { KeepsOfClient takes_b.Keeps client.old client.new }
 {
     let far = on_held!(client, alloc, false, |held| held.side.take_b());
     tell_b(far, beat, lanes)
@@ -55,7 +55,7 @@ pub extern "C" fn tl_take_c(
 ) -> bool
     ensures take { Takes HoldsManager rules_c fields_c inbox_c manager_takes_c
         manager.old.owned.held manager.new.owned.held beat.old beat.new lanes.old lanes.new result }
-    ensures kept { KeepsManager manager.old manager.new }
+    ensures kept { KeepsOfManager takes_c.Keeps manager.old manager.new }
 {
     let far = on_held!(manager, alloc, false, |held| held.side.take_c());
     tell_c(far, beat, lanes)
@@ -72,7 +72,7 @@ pub extern "C" fn tl_take_d(
 ) -> bool
     ensures take { Takes HoldsClient rules_d fields_d inbox_d client_takes_d
         client.old.owned.held client.new.owned.held beat.old beat.new lanes.old lanes.new result }
-    ensures kept { KeepsClient client.old client.new }
+    ensures kept { KeepsOfClient takes_d.Keeps client.old client.new }
 {
     let far = on_held!(client, alloc, false, |held| held.side.take_d());
     tell_d(far, beat, lanes)
@@ -89,7 +89,7 @@ pub extern "C" fn tl_take_e(
 ) -> bool
     ensures take { Takes HoldsManager rules_e fields_e inbox_e manager_takes_e
         manager.old.owned.held manager.new.owned.held beat.old beat.new lanes.old lanes.new result }
-    ensures kept { KeepsManager manager.old manager.new }
+    ensures kept { KeepsOfManager takes_e.Keeps manager.old manager.new }
 {
     let far = on_held!(manager, alloc, false, |held| held.side.take_e());
     tell_e(far, beat, lanes)

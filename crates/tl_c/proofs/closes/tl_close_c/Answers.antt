@@ -1,6 +1,6 @@
 use Rattle.std.proofs.Common.{refl}
 use Rattle.tl_c_beats.proofs.Closing.{closes_none, closes}
-use Rattle.tl_c.proofs.Keeping.{held_at, kept, kept_none, closed_c}
+use Rattle.tl_c.proofs.Keeping.{held_at, kept, kept_none, closed_c, closed_rest_c}
 use Rattle.tl_c.proofs.closes.tl_close_c.Goals as goal
 
 pub returns-in_default : goal.returns-in_default
@@ -18,5 +18,5 @@ returns c =
       close = closes (λ q. record { side = q }) {q = c.deref_mut.result.now.side} {q' = c.close_c.new.client} was c.on_held-put.ensures.held
           (λ x s. s) (λ x s. s) c.close_c.ensures;
       kept = kept _ {h = c.deref_mut.result.now} {k = record { side = c.close_c.new.client }} was c.on_held-put.ensures.held
-          (closed_c c.close_c.ensures) c.on_held-take.ensures.number c.on_held-put.ensures.number;
+          (closed_c c.close_c.ensures, closed_rest_c c.close_c.ensures) c.on_held-take.ensures.number c.on_held-put.ensures.number;
     }

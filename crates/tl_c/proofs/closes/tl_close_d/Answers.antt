@@ -1,6 +1,6 @@
 use Rattle.std.proofs.Common.{refl}
 use Rattle.tl_c_beats.proofs.Closing.{closes_none, closes}
-use Rattle.tl_c.proofs.Keeping.{held_at, kept, kept_none, closed_d}
+use Rattle.tl_c.proofs.Keeping.{held_at, kept, kept_none, closed_d, closed_rest_d}
 use Rattle.tl_c.proofs.closes.tl_close_d.Goals as goal
 
 pub returns-in_default : goal.returns-in_default
@@ -18,5 +18,5 @@ returns c =
       close = closes (λ q. record { side = q }) {q = c.deref_mut.result.now.side} {q' = c.close_d.new.manager} was c.on_held-put.ensures.held
           (λ x s. s) (λ x s. s) c.close_d.ensures;
       kept = kept _ {h = c.deref_mut.result.now} {k = record { side = c.close_d.new.manager }} was c.on_held-put.ensures.held
-          (closed_d c.close_d.ensures) c.on_held-take.ensures.number c.on_held-put.ensures.number;
+          (closed_d c.close_d.ensures, closed_rest_d c.close_d.ensures) c.on_held-take.ensures.number c.on_held-put.ensures.number;
     }

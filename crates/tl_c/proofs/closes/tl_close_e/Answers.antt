@@ -1,6 +1,6 @@
 use Rattle.std.proofs.Common.{refl}
 use Rattle.tl_c_beats.proofs.Closing.{closes_none, closes}
-use Rattle.tl_c.proofs.Keeping.{held_at, kept, kept_none, closed_e}
+use Rattle.tl_c.proofs.Keeping.{held_at, kept, kept_none, closed_e, closed_rest_e}
 use Rattle.tl_c.proofs.closes.tl_close_e.Goals as goal
 
 pub returns-in_default : goal.returns-in_default
@@ -18,5 +18,5 @@ returns c =
       close = closes (λ q. record { side = q }) {q = c.deref_mut.result.now.side} {q' = c.close_e.new.client} was c.on_held-put.ensures.held
           (λ x s. s) (λ x s. s) c.close_e.ensures;
       kept = kept _ {h = c.deref_mut.result.now} {k = record { side = c.close_e.new.client }} was c.on_held-put.ensures.held
-          (closed_e c.close_e.ensures) c.on_held-take.ensures.number c.on_held-put.ensures.number;
+          (closed_e c.close_e.ensures, closed_rest_e c.close_e.ensures) c.on_held-take.ensures.number c.on_held-put.ensures.number;
     }

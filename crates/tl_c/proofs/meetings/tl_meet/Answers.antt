@@ -2,7 +2,7 @@ use Rattle.std.proofs.Common.{refl, sym, ◌∙◌, subst}
 use Rattle.tl_c.specs.Calls.{HoldsClient, HoldsManager, HoldSides, HaveMet}
 use Rattle.tl_c.proofs.Counting.{counted}
 use Rattle.tl_c.proofs.Keeping.{held_at, kept, kept_none, client_same, manager_same}
-use Rattle.tl_c.proofs.Meeting.{not_open, bridge_mismatch, untouched, for_both, answer_no_client, answer_no_manager, answer_others, answer_met}
+use Rattle.tl_c.proofs.Meeting.{not_open, bridge_mismatch, unmoved, client_stays, manager_stays, for_both, answer_no_client, answer_no_manager, answer_others, answer_met}
 use Rattle.tl_c.proofs.Meeting.{meet_legally}
 use Rattle.tl_c.proofs.BothWidths.{widths}
 use Rattle.tl_c.proofs.meetings.tl_meet.Goals as goal
@@ -18,7 +18,7 @@ returns-in_default c =
       met = λ x y h k zero. not_open zero;
       counts = λ zero. not_open zero;
       sides = λ zero. not_open zero;
-      kept = (kept_none _ client c.take.ensures.after c.take.ensures.number, untouched _);
+      kept = (kept_none _ client c.take.ensures.after c.take.ensures.number, unmoved _);
       same = λ not. (c.take.ensures.after ∙ sym client, refl, refl);
     }
 
@@ -32,7 +32,7 @@ returns-in_default-take c =
       counts = λ zero. not_open zero;
       sides = λ zero. not_open zero;
       kept = (
-        kept _ client c.put.ensures.held (client_same _) c.take.ensures.number c.put.ensures.number,
+        kept _ client c.put.ensures.held (client_same _, client_stays _) c.take.ensures.number c.put.ensures.number,
         kept_none _ manager c.take-2.ensures.after c.take-2.ensures.number,
       );
       same = λ not. (c.put.ensures.held ∙ sym client, c.take-2.ensures.after ∙ sym manager, refl);
@@ -50,8 +50,8 @@ returns-then-client-manager c =
       counts = λ zero. bridge_mismatch zero;
       sides = λ zero. bridge_mismatch zero;
       kept = (
-        kept _ client put.held (client_same _) c.take.ensures.number put.number,
-        kept _ manager put_2.held (manager_same _) c.take-2.ensures.number put_2.number,
+        kept _ client put.held (client_same _, client_stays _) c.take.ensures.number put.number,
+        kept _ manager put_2.held (manager_same _, manager_stays _) c.take-2.ensures.number put_2.number,
       );
       same = λ not. (put.held ∙ sym client, put_2.held ∙ sym manager, refl);
     }
@@ -77,20 +77,40 @@ returns c =
         e = met.ensures.e.pair;
       });
       kept = (
-        kept _ {h = c.deref_mut.result.now} {k = record { side = met.new.client }} client client_now (record {
-          a = met.ensures.a.send;
-          b = met.ensures.b.take;
-          c = met.ensures.c.send;
-          d = met.ensures.d.take;
-          e = met.ensures.e.send;
-        }) c.take.ensures.number c.put-2.ensures.number,
-        kept _ {h = c.deref_mut-2.result.now} {k = record { side = met.new.manager }} manager manager_now (record {
-          a = met.ensures.a.take;
-          b = met.ensures.b.send;
-          c = met.ensures.c.take;
-          d = met.ensures.d.send;
-          e = met.ensures.e.take;
-        }) c.take-2.ensures.number c.put-3.ensures.number,
+        kept _ {h = c.deref_mut.result.now} {k = record { side = met.new.client }} client client_now (
+          record {
+            a = met.ensures.a.send;
+            b = met.ensures.b.take;
+            c = met.ensures.c.send;
+            d = met.ensures.d.take;
+            e = met.ensures.e.send;
+          },
+          record {
+            a = (met.ensures.a.same_stage, met.ensures.a.same_closed, met.ensures.a.same_sent);
+            b = (met.ensures.b.same_inbox, met.ensures.b.same_received);
+            c = (met.ensures.c.same_stage, met.ensures.c.same_closed, met.ensures.c.same_sent);
+            d = (met.ensures.d.same_inbox, met.ensures.d.same_received);
+            e = (met.ensures.e.same_stage, met.ensures.e.same_closed, met.ensures.e.same_sent);
+            book = met.ensures.books.0;
+          },
+        ) c.take.ensures.number c.put-2.ensures.number,
+        kept _ {h = c.deref_mut-2.result.now} {k = record { side = met.new.manager }} manager manager_now (
+          record {
+            a = met.ensures.a.take;
+            b = met.ensures.b.send;
+            c = met.ensures.c.take;
+            d = met.ensures.d.send;
+            e = met.ensures.e.take;
+          },
+          record {
+            a = (met.ensures.a.same_inbox, met.ensures.a.same_received);
+            b = (met.ensures.b.same_stage, met.ensures.b.same_closed, met.ensures.b.same_sent);
+            c = (met.ensures.c.same_inbox, met.ensures.c.same_received);
+            d = (met.ensures.d.same_stage, met.ensures.d.same_closed, met.ensures.d.same_sent);
+            e = (met.ensures.e.same_inbox, met.ensures.e.same_received);
+            book = met.ensures.books.1;
+          },
+        ) c.take-2.ensures.number c.put-3.ensures.number,
       );
       same = λ not. absurd (not refl);
     }

@@ -27,7 +27,7 @@ returns c =
     record {
       offer = offers_later (as_pipe c.offer_held-deref.result.now.side.d) c.offer_held-deref.result.now
           (λ x s. (s.d.pipe.stage, s.d.pipe.closed)) was is c.if-offer_held.ensures;
-      kept = kept _ was is (manager_same _) c.offer_held-take.ensures.number c.offer_held-put.ensures.number;
+      kept = kept _ was is (manager_same _, (refl, refl)) c.offer_held-take.ensures.number c.offer_held-put.ensures.number;
     }
 
 pub returns-2 : goal.returns-2
@@ -40,6 +40,6 @@ returns-2 c =
           (λ x s. s) (λ x s. s) c.offer_held-offer_d.result c.beat_d-beat.ensures
           (subst (λ h. IsTrue true ↔ IsReady (as_pipe h.side.d)) same c.if-offer_held.ensures) c.offer_held.ensures c.offer_held-offer_d.ensures;
       kept = kept _ {h = c.offer_held-deref_mut.result.now} {k = record { side = c.offer_held-offer_d.new.self }} was
-          c.offer_held-put-2.ensures.held (offered_d c.offer_held-offer_d.ensures.rest)
+          c.offer_held-put-2.ensures.held (offered_d c.offer_held-offer_d.ensures.rest, c.offer_held-offer_d.ensures.rest)
           c.offer_held-take.ensures.number c.offer_held-put-2.ensures.number;
     }

@@ -22,5 +22,5 @@ returns c =
       take = takes (λ h. h.side.a.inbox) {h = c.deref_mut.result.now} {k = record { side = c.take_a.new.self }} was c.on_held-put.ensures.held
           c.take_a.ensures.beat c.take_a.ensures.lawful c.take_a.ensures.taken c.tell_a.ensures;
       kept = kept _ {h = c.deref_mut.result.now} {k = record { side = c.take_a.new.self }} was c.on_held-put.ensures.held
-          (taken_a c.take_a.ensures.rest) c.on_held-take.ensures.number c.on_held-put.ensures.number;
+          (taken_a c.take_a.ensures.rest, c.take_a.ensures.rest) c.on_held-take.ensures.number c.on_held-put.ensures.number;
     }

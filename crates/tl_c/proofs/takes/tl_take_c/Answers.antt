@@ -18,5 +18,5 @@ returns c =
       take = takes (λ h. h.side.c.inbox) {h = c.deref_mut.result.now} {k = record { side = c.take_c.new.self }} was c.on_held-put.ensures.held
           c.take_c.ensures.beat c.take_c.ensures.lawful c.take_c.ensures.taken c.tell_c.ensures;
       kept = kept _ {h = c.deref_mut.result.now} {k = record { side = c.take_c.new.self }} was c.on_held-put.ensures.held
-          (taken_c c.take_c.ensures.rest) c.on_held-take.ensures.number c.on_held-put.ensures.number;
+          (taken_c c.take_c.ensures.rest, c.take_c.ensures.rest) c.on_held-take.ensures.number c.on_held-put.ensures.number;
     }
