@@ -2,13 +2,13 @@
 ghost use Rattle.std.specs.Prelude.{◌≡◌};
 ghost use Rattle.tl_explain.specs.Fates.{fate_beside, fate_of};
 
-use crate::line_report::BeatStatus;
 use tl_msg::{SideFault, Verdict};
 
 /// The outcome of a near beat.
-#[derive(Clone, Copy)]
+#[derive(Clone, Copy, Default)]
 pub enum BeatOutcome {
     /// Its side accepted it.
+    #[default]
     Accepted,
     /// It breaks a rule of the link, and is refused permanently.
     Refused(SideFault),
@@ -16,27 +16,6 @@ pub enum BeatOutcome {
     Waiting(SideFault),
     /// A beat before it on its channel was not accepted, so it was never offered.
     NotOffered,
-}
-
-impl BeatOutcome {
-    /// Returns the word for the status of a beat at which its channel stops.
-    pub fn how(&self) -> Option<&'static str> {
-        match self {
-            BeatOutcome::Refused(_) => Some("was refused"),
-            BeatOutcome::Waiting(_) => Some("waits"),
-            BeatOutcome::Accepted | BeatOutcome::NotOffered => None,
-        }
-    }
-
-    /// Returns the status of a beat.
-    pub fn fares(&self) -> BeatStatus {
-        match self {
-            BeatOutcome::Accepted => BeatStatus::Accepted,
-            BeatOutcome::Refused(_) => BeatStatus::Refused,
-            BeatOutcome::Waiting(_) => BeatStatus::Waits,
-            BeatOutcome::NotOffered => BeatStatus::NotOffered,
-        }
-    }
 }
 
 /// Returns the outcome of beat number `at` of a channel, if the channel stops at beat number `stop`

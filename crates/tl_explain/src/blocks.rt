@@ -3,23 +3,16 @@ ghost use Rattle.std.specs.Prelude.{◌≡◌, false, OnOk, IfErr};
 ghost use Rattle.tl_stream.specs.declared.fault.TextFault.TheVariants.{Write as WriteFault};
 ghost use Rattle.tl_explain.specs.Inner.Explanation.{Continues};
 
-use crate::alike::Alike;
-use crate::line_report::{LETTERS, LineReport};
-use std::alloc::Global;
+use crate::story::Story;
 use std::io::Write;
 use tl_answer::{TextFault, write_all};
-use tl_lanes::WIDEST;
 use tl_remarks::TextBuf;
-use tl_trace::LONGEST_LINE;
 
 /// The number of bytes that are collected before they are written.
 const BLOCK: usize = 65_536;
 
 /// The capacity for a block and for the text on one more line.
-const BLOCK_CAPACITY: usize = 2 * BLOCK;
-
-/// The largest number of bytes in the lines of the far beats of one near beat.
-const FAR_ROOM: usize = WIDEST * LONGEST_LINE;
+pub const BLOCK_CAPACITY: usize = 2 * BLOCK;
 
 /// Writes the text of a buffer, and empties the buffer.
 #[inline(never)]
@@ -33,26 +26,10 @@ fn write_page<W: Write>(page: &mut TextBuf, writer: &mut W) -> Result<(), TextFa
     written
 }
 
-impl LineReport {
-    /// Allocates all memory that the story needs, if beats are not drawn.
-    #[inline(never)]
-    pub fn make_room(&mut self, alloc: Global) {
-        for _ in LETTERS {
-            self.page.out_of_memory |= self.alike.push(Alike::new(alloc)).is_err();
-        }
-        if self.drawing.is_wanted {
-            return;
-        }
-        let page = self.page.text.reserve(BLOCK_CAPACITY);
-        let lines = self.lines.reserve(FAR_ROOM);
-        // (a channel stops once)
-        let stops = self.course.stops.reserve(LETTERS.len());
-        self.page.out_of_memory |= page.and(lines).and(stops).is_err();
-    }
-
+impl Story {
     /// Returns whether there is a block of sentences, none of which can still be removed.
     fn has_block(&self) -> bool {
-        self.page.len() >= BLOCK && self.run.count == 0
+        self.page.len() >= BLOCK && !self.entry.is_held()
     }
 
     /// Writes the text so far, if it fills a block; for a page, writes nothing. Errors: `Write`.

@@ -1,8 +1,10 @@
-//! The outcome of a beat of a channel, and the far beats that it completed.
+//! The lines of a channel: the record of each, with the far beats that its beat completed.
 ghost use Rattle.std.specs.Prelude.{◌≡◌, true};
 ghost use Rattle.tl_lanes.specs.Lanes.{IsWidth};
 
-use crate::line_report::LineReport;
+use crate::beat_outcome::BeatOutcome;
+use crate::record::LineRecord;
+use crate::story::Story;
 use arrayvec::ArrayVec;
 use std::slice;
 use tl_convert::Converter;
@@ -18,20 +20,24 @@ fn are_widths(w: usize, v: usize) -> bool
     is_width(w) && is_width(v)
 }
 
-/// Replaces the contents of `far` by the far beats that an accepted near beat completes.
+/// Replaces the contents of `far` by the far beats that an accepted near beat completes. Returns the
+/// number of the near beat in its message, from 0.
 fn feed<K: Channel, const W: usize, const V: usize>(
     converter: &mut Converter<K, W, V>,
     beat: &Beat<K, W>,
     home: u64,
     far: &mut ArrayVec<Beat<K, V>, WIDEST>,
-)
+) -> u32
     // (one clause, because the checker proves each clause separately at each call)
     requires { IsWidth W × IsWidth V }
 {
     far.clear();
-    if let Ok(place) = converter.check(beat) {
-        converter.feed_at(beat, place, home, far);
-    }
+    let Ok(place) = converter.check(beat) else {
+        return 0;
+    };
+    let index = place.index;
+    converter.feed_at(beat, place, home, far);
+    index
 }
 
 /// Does the same as [`feed`] if both are widths. This is a test, because a clause would have to be
@@ -42,78 +48,81 @@ fn pass<K: Channel, const W: usize, const V: usize>(
     beat: &Beat<K, W>,
     home: u64,
     far: &mut ArrayVec<Beat<K, V>, WIDEST>,
-) {
+) -> u32 {
     if are_widths(W, V) {
-        feed::<K, W, V>(converter, beat, home, far);
+        feed::<K, W, V>(converter, beat, home, far)
+    } else {
+        0
     }
 }
 
-/// Appends the lines of beats. Returns false if that fails.
-fn write_lines<K: Describe, const W: usize>(
+/// Writes the line of this beat. Returns false if that fails.
+fn write_line<K: Describe, const W: usize>(
     out: &mut Vec<u8>,
-    beats: &[Beat<K, W>],
+    beat: &Beat<K, W>,
     version: u8,
 ) -> bool {
     // (tested here as well)
-    is_width(W) && write_far::<K, W>(out, beats, version).is_ok()
+    is_width(W) && write_far::<K, W>(out, slice::from_ref(beat), version).is_ok()
 }
 
-/// Keeps the lines of these beats instead of those kept before.
-fn keep_lines<K: Describe, const W: usize>(story: &mut LineReport, beats: &[Beat<K, W>]) {
-    story.lines.clear();
-    let are_kept = write_lines::<K, W>(&mut story.lines, beats, story.version);
-    story.page.out_of_memory |= !are_kept;
+/// Keeps the line of this beat instead of the one kept before.
+fn keep_line<K: Describe, const W: usize>(story: &mut Story, beat: &Beat<K, W>) {
+    let version = story.walk.version;
+    story.line.clear();
+    let is_kept = write_line::<K, W>(&mut story.line, beat, version);
+    story.page.out_of_memory |= !is_kept;
 }
 
-/// Writes the far beats, if they are shown, each after four spaces, with their lanes if these are
-/// shown; or draws them. The line of a single one is not copied.
-fn put_far<K: Describe, const V: usize>(story: &mut LineReport, far: &[Beat<K, V>]) {
-    if far.is_empty() | !story.shows_far() {
-        return;
+/// Adds the beats of a line: the near beat, and the far beats that it completed.
+fn put_beats<K: Describe, const W: usize, const V: usize>(
+    story: &mut Story,
+    record: &LineRecord,
+    beat: &Beat<K, W>,
+    far: &[Beat<K, V>],
+) {
+    if story.look.page {
+        keep_line::<K, W>(story, beat);
     }
-    if (far.len() == 1) & !story.shows_far_lanes() {
-        story.page.put_text("    ");
-        story.page.out_of_memory |= !write_lines::<K, V>(&mut story.page.text, far, story.version);
-        return;
+    let has_lanes = story.has_lanes();
+    if has_lanes {
+        story.put_beat(record, &record.near_beat(W), &beat.lanes);
     }
-    keep_lines::<K, V>(story, far);
-    // all lines of a channel have the same length
-    let length = story.lines.len() / far.len().max(1);
     for number in 0..far.len() {
-        story.put_far_line(number, length);
-        if story.shows_far_lanes() {
-            let seen = beat_fields_of::<K, V>(&far[number], story.version);
-            story.put_far_lanes(number, length, &seen, &far[number].lanes);
+        let beat = &far[number];
+        keep_line::<K, V>(story, beat);
+        if has_lanes {
+            let fields = beat_fields_of::<K, V>(beat, story.walk.version);
+            story.put_beat(record, &record.far_beat(number, &fields, V), &beat.lanes);
+        } else {
+            story.put_far_line();
         }
     }
 }
 
-/// Writes the outcome of the next near beat, or draws the beat. Returns whether it was accepted.
-fn put_near<K: Describe, const W: usize>(story: &mut LineReport, beat: &Beat<K, W>) -> bool {
-    let seen = beat_fields_of::<K, W>(beat, story.version);
-    let accepted = story.put_near(&seen, &beat.lanes);
-    if story.drawing.is_wanted {
-        keep_lines::<K, W>(story, slice::from_ref(beat));
-        story.draw_near(&seen, &beat.lanes, accepted);
-    }
-    accepted
-}
-
-/// Writes the outcome of the next of these beats of a channel as one line, and below it the far
-/// beats that it completed. The channel's converter makes them; `far` holds them.
+/// Makes the record of the next line, which has the next of these beats of a channel, and adds it to
+/// the output. The channel's converter makes the far beats that the beat completes; `far` holds
+/// them.
 #[inline(never)]
 pub fn tell<K: Describe, const W: usize, const V: usize>(
-    story: &mut LineReport,
+    story: &mut Story,
     beats: &[Beat<K, W>],
     converter: &mut Converter<K, W, V>,
     far: &mut ArrayVec<Beat<K, V>, WIDEST>,
 ) {
-    let Some(beat) = beats.get(story.course.walk.near) else {
+    let Some(beat) = beats.get(story.walk.channel.near) else {
         return;
     };
-    if put_near::<K, W>(story, beat) {
-        pass::<K, W, V>(converter, beat, story.course.walk.home, far);
-        put_far::<K, V>(story, far.as_slice());
+    let fields = beat_fields_of::<K, W>(beat, story.walk.version);
+    let mut record = story.walk.record_of(&fields);
+    far.clear();
+    if let BeatOutcome::Accepted = record.fate {
+        let index = pass::<K, W, V>(converter, beat, record.home.unwrap_or(0), far);
+        story.walk.accept(&mut record, index, far.len());
     }
-    story.end_line();
+    if story.begin_shown(&record) {
+        put_beats::<K, W, V>(story, &record, beat, far.as_slice());
+        story.end_shown(&record);
+    }
+    story.walk.end_line();
 }

@@ -14,12 +14,12 @@ ghost use Rattle.tl_explain.specs.Inner.Explanation.{Continues, Tells};
 
 use crate::channel::tell;
 use crate::display_options::DisplayOptions;
-use crate::held::{held_of, waiting_source};
+use crate::held::{HeldPair, held_of, waiting_source};
 use crate::letters::letters_of;
-use crate::line_report::LineReport;
-use crate::requests::HeldPair;
+use crate::story::Story;
+use crate::walk::Walk;
 use arrayvec::ArrayVec;
-use std::alloc::Global;
+use std::alloc::{AllocError, Global};
 use std::io::Write;
 use tl_answer::{Answer, TextFault, at_width, check_of, write_all};
 use tl_check::verdicts_of;
@@ -34,7 +34,7 @@ use tl_trace::{Header, Script, TraceFault, TraceKind, header_of_text, read_scrip
 /// E has nothing on its lanes, so a bus of one byte is used for any width.
 #[inline(never)]
 fn tell_all<W: Write, const C: usize, const M: usize>(
-    story: &mut LineReport,
+    story: &mut Story,
     script: &Script<C, M>,
     is_page: bool,
     writer: &mut W,
@@ -54,8 +54,8 @@ fn tell_all<W: Write, const C: usize, const M: usize>(
     let mut far_d = ArrayVec::<Beat<ChD, C>, WIDEST>::new();
     let mut way_e = Converter::<ChE, C, 1>::new();
     let mut far_e = ArrayVec::<Beat<ChE, 1>, WIDEST>::new();
-    for at in 0..story.lines_to_tell() {
-        match story.begin_line(at) {
+    for at in 0..story.walk.lines() {
+        match story.walk.begin_line(at) {
             b'A' => tell::<ChA, C, M>(story, &script.a, &mut way_a, &mut far_a),
             b'B' => tell::<ChB, M, C>(story, &script.b, &mut way_b, &mut far_b),
             b'C' => tell::<ChC, C, M>(story, &script.c, &mut way_c, &mut far_c),
@@ -86,8 +86,8 @@ fn held_in<const C: usize, const M: usize>(
     }
 }
 
-/// Creates the story of this script's text; no line has been written yet. If beats are not drawn,
-/// all memory that it needs is allocated here, and a failure is recorded.
+/// Creates the story of this script's text; no line has been written yet. All memory that it needs
+/// is allocated here, except for a page. Errors: `AllocError` if the allocator fails.
 #[inline(never)]
 fn story_of<const C: usize, const M: usize>(
     alloc: Global,
@@ -97,7 +97,7 @@ fn story_of<const C: usize, const M: usize>(
     version: u8,
     look: &DisplayOptions,
     times: &[u8],
-) -> LineReport
+) -> Result<Story, AllocError>
     requires { IsWidth C × IsWidth M }
 {
     let header = Header {
@@ -105,11 +105,14 @@ fn story_of<const C: usize, const M: usize>(
         client: C,
         manager: M,
     };
-    let letters = letters_of(alloc, text, &header);
+    let letters = letters_of(alloc, text, &header)?;
     let (remarks, in_order) = (look.remarks, look.in_order);
-    let noted = notes_of::<C, M>(alloc, &letters.text, script, verdicts, remarks, in_order);
-    let held = held_in::<C, M>(&letters.text, script, verdicts);
-    LineReport::new(alloc, &header, look, verdicts, letters, noted, held, times)
+    let noted = notes_of::<C, M>(alloc, &letters, script, verdicts, remarks, in_order);
+    let held = held_in::<C, M>(&letters, script, verdicts);
+    let walk = Walk::new(
+        alloc, &header, verdicts, letters, noted, held, in_order, times,
+    )?;
+    Story::new(alloc, walk, look)
 }
 
 /// The verdicts of the channels of a script, from A to E, and the answer of a check.
@@ -164,7 +167,7 @@ fn answer_to<const C: usize, const M: usize>(
 /// The part of a text's story that is not written yet, and the answer of a check.
 #[derive(Drop)]
 pub struct Explanation {
-    pub story: LineReport,
+    pub story: Story,
     pub answer: Answer,
 }
 
@@ -187,10 +190,9 @@ fn begin<const C: usize, const M: usize>(
     ensures err { IfErr result (λ fault. fault ≡ NoMemory) }
 {
     let Checked { verdicts, answer } = answer_to::<C, M>(alloc, text, script, version)?;
-    let story = story_of::<C, M>(alloc, text, script, &verdicts, version, look, times);
-    if story.page.out_of_memory {
+    let Ok(story) = story_of::<C, M>(alloc, text, script, &verdicts, version, look, times) else {
         return Err(TextFault::OutOfMemory);
-    }
+    };
     Ok(Explanation { story, answer })
 }
 

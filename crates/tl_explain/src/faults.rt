@@ -1,10 +1,13 @@
-//! The faults of a beat in sentences: the field, its value, and the value that it must have.
-use crate::channel_position::ChannelPosition;
+//! The faults of a beat in sentences: the field, its value, and the value that it must have. If a
+//! request or a response is missing, the sentence names that.
+use crate::held::Held;
 use crate::lane_list::{lanes_of, put_lanes};
-use crate::words::name_of;
+use crate::record::LineRecord;
+use crate::sentences::name_of;
+use crate::walk::Walk;
 use tl_lanes::Mask;
-use tl_msg::{BeatFault, Kind};
-use tl_remarks::Piece::{self, Address, Id, Length, Letter, Number, Text};
+use tl_msg::{BeatFault, Kind, SideFault};
+use tl_remarks::Piece::{self, Address, Id, Length, Letter, Line, Number, Text};
 use tl_remarks::{BeatFields, TextBuf};
 
 /// Returns the sentence on a wrong opcode.
@@ -131,13 +134,13 @@ fn field_at(at: usize, fields: [u64; 7], version: u8) -> Piece<'static> {
 
 /// Writes which field of a beat differs from that of its burst's first beat, its value, and the
 /// first one.
-fn put_change(out: &mut TextBuf, beat: &BeatFields, walk: &ChannelPosition) {
-    let (is, was) = (fields_of(beat), fields_of(&walk.first));
+fn put_change(out: &mut TextBuf, beat: &BeatFields, first: &LineRecord) {
+    let (is, was) = (fields_of(beat), fields_of(&first.beat));
     let at = changed_field(is, was);
     out.say(
-        "inside the burst that line # begins, # is # and was #",
+        "inside the burst that # begins, # is # and was #",
         &[
-            Number(walk.first_line),
+            Line(first.line),
             Text(FIELDS.get(at).copied().unwrap_or("")),
             field_at(at, is, beat.version),
             field_at(at, was, beat.version),
@@ -145,19 +148,98 @@ fn put_change(out: &mut TextBuf, beat: &BeatFields, walk: &ChannelPosition) {
     );
 }
 
-/// Writes the sentence on the fault of the next near beat of a channel.
-pub fn put_beat_fault(
-    out: &mut TextBuf,
-    beat: &BeatFields,
-    fault: BeatFault,
-    walk: &ChannelPosition,
-) {
+/// Returns a beat's source.
+fn source_of(beat: &BeatFields) -> Piece<'static> {
+    Id(beat.source, beat.version)
+}
+
+/// Writes the line of a beat that its channel did not accept, and what happened to it.
+fn put_held(out: &mut TextBuf, walk: &Walk, held: Held) {
+    let channel = walk.channel_of(held.letter);
+    if held.line != channel.stop {
+        out.say("# was not offered, since ", &[Line(held.line)]);
+    }
+    channel.put_stop(out);
+}
+
+/// Writes that the source of a beat of A is still busy with its last request.
+fn put_busy(out: &mut TextBuf, walk: &Walk, beat: &BeatFields) {
+    let still = "source # still waits for the response to its request";
+    out.say(still, &[source_of(beat)]);
+    if let Some(request) = walk.last_request(beat.source) {
+        out.say(" in #", &[Line(request.line)]);
+    }
+    match walk.held.response {
+        Some(response) => {
+            out.put_text(": its response in ");
+            put_held(out, walk, response);
+        }
+        None => out.put_text(": answer it on D, or use another source"),
+    }
+}
+
+/// Writes that no request with the source of a beat of D waits for a response, and why.
+fn put_none_waits(out: &mut TextBuf, walk: &Walk, beat: &BeatFields) {
+    out.say(
+        "no request of source # waits for a response",
+        &[source_of(beat)],
+    );
+    if let Some(held) = walk.held.request {
+        out.put_text(": that in ");
+        return put_held(out, walk, held);
+    }
+    if let Some(last) = walk.last_request(beat.source) {
+        return out.say(": its last one, in #, is answered", &[Line(last.line)]);
+    }
+    out.put_text(": send one on A, or mend the source");
+    if let Some(request) = walk.open_request(None) {
+        let waits = "; the first request that waits is of source #, in #";
+        out.say(waits, &[Id(request.id, beat.version), Line(request.line)]);
+    }
+}
+
+/// Writes why a beat of D waits: no request of its source that waits for a response has arrived.
+fn put_no_request(out: &mut TextBuf, walk: &Walk, beat: &BeatFields) {
+    match walk.open_request(Some(beat.source)) {
+        Some(request) => out.say(
+            "the request of source # in # has not arrived: bytes of its first far beat are missing",
+            &[source_of(beat), Line(request.line)],
+        ),
+        None => put_none_waits(out, walk, beat),
+    }
+}
+
+/// Writes why a beat of D is refused: its size is not that of its request.
+fn put_mismatch(out: &mut TextBuf, walk: &Walk, beat: &BeatFields) {
+    out.say(
+        "the response is of #, but its request",
+        &[Length(beat.size)],
+    );
+    match walk.open_request(Some(beat.source)) {
+        Some(request) => out.say(
+            ", in #, is of #",
+            &[Line(request.line), Length(request.size)],
+        ),
+        None => out.put_text(" is of another size"),
+    }
+}
+
+/// Writes why the beat of a channel with these fields was not accepted.
+pub fn put_fault(out: &mut TextBuf, walk: &Walk, beat: &BeatFields, fault: SideFault) {
+    let channel = walk.channel_of(beat.letter);
     match fault {
-        BeatFault::Mask => put_mask(out, beat, walk.w),
-        BeatFault::HeadChanged => put_change(out, beat, walk),
-        _ => {
+        SideFault::Beat(BeatFault::Mask) => put_mask(out, beat, channel.w),
+        SideFault::Beat(BeatFault::HeadChanged) => put_change(
+            out,
+            beat,
+            &walk.first_of(beat.letter),
+        ),
+        SideFault::Beat(fault) => {
             let (sentence, pieces) = field_fault(beat, fault);
             out.say(sentence, &pieces);
         }
+        SideFault::SourceBusy => put_busy(out, walk, beat),
+        SideFault::NoRequest => put_no_request(out, walk, beat),
+        SideFault::SizeMismatch => put_mismatch(out, walk, beat),
     }
 }

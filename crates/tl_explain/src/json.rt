@@ -1,11 +1,11 @@
 //! Output as JSON Lines: an object for the outcome of each line of a trace, and one for the whole
 //! trace.
 use crate::beat_outcome::BeatOutcome;
-use crate::channel_position::ChannelPosition;
-use crate::line_report::{LETTERS, LineReport, line_in};
-use crate::page_model::Links;
+use crate::faults::put_fault as put_fault_sentence;
+use crate::links::Links;
 use crate::picture::{Cell, Picture};
-use crate::trace_position::LineResult;
+use crate::record::{BeatRecord, LineRecord};
+use crate::walk::{Position, Walk};
 use tl_msg::{SideFault, Verdict};
 use tl_remarks::Piece::{Address, Byte, Letter, Name, Number, Text};
 use tl_remarks::{BeatFields, Piece, Remark, TextBuf, put_sentence_of};
@@ -67,23 +67,22 @@ fn put_fields(out: &mut TextBuf, beat: &BeatFields) {
 
 /// Writes the line of an accepted beat's message, the number of the beat in that message, and how
 /// many bytes of the next far beat are staged.
-fn put_accepted(out: &mut TextBuf, walk: &ChannelPosition) {
-    let brought = &walk.brought;
+fn put_accepted(out: &mut TextBuf, record: &LineRecord) {
     out.say(
         ",\"fate\":\"accepted\",\"message_line\":#,\"beat\":#,\"beats\":#",
         &[
-            Number(walk.first_line),
-            Number(brought.place()),
-            Number(brought.beats as u64),
+            Number(record.message),
+            Number(record.index),
+            Number(record.beats),
         ],
     );
-    if brought.staged > 0 {
+    if record.staged > 0 {
         out.say(
             ",\"staged\":{\"far\":#,\"bytes\":#,\"of\":#}",
             &[
-                Number(brought.to as u64),
-                Number(brought.staged as u64),
-                Number(brought.whole as u64),
+                Number(record.far),
+                Number(record.staged as u64),
+                Number(record.far_bytes as u64),
             ],
         );
     }
@@ -120,10 +119,21 @@ fn put_cell(out: &mut TextBuf, cell: Cell) {
     }
 }
 
-/// Writes the contents of a beat's lanes, lane 0 first, if the beat has a mask or data and `home`
-/// is known.
-fn put_lanes(out: &mut TextBuf, beat: &BeatFields, lanes: &[u8], home: Option<u64>) {
-    let Some(picture) = home.and_then(|home| Picture::of(beat, lanes, home)) else {
+/// Writes the contents of a beat's lanes, lane 0 first, if the beat has a mask or data and the lanes
+/// of its bytes are known. If its message carries data, writes before them which of its bytes the
+/// beat has: the index of the first byte, its lane, and the number of bytes.
+fn put_lanes(out: &mut TextBuf, beat: &BeatRecord, lanes: &[u8]) {
+    if beat.fields.carries_data() & (beat.message != 0) {
+        out.say(
+            ",\"first_byte\":#,\"first_lane\":#,\"bytes\":#",
+            &[
+                Number(beat.first_byte as u64),
+                Number(beat.first_lane as u64),
+                Number(beat.bytes as u64),
+            ],
+        );
+    }
+    let Some(picture) = Picture::of(&beat.fields, lanes, beat.home) else {
         return;
     };
     out.put_text(",\"lanes\":[");
@@ -134,41 +144,26 @@ fn put_lanes(out: &mut TextBuf, beat: &BeatFields, lanes: &[u8], home: Option<u6
     out.put_text("\"]");
 }
 
-/// Writes which bytes of its message a beat has, if it carries data: the index of the first byte,
-/// its lane, and the number of bytes.
-fn put_bytes(out: &mut TextBuf, beat: &BeatFields, width: usize, home: u64, first_byte: usize) {
-    if !beat.carries_data() {
-        return;
-    }
-    let lane = (home as usize).wrapping_add(first_byte).checked_rem(width);
-    let length = 1usize.wrapping_shl(beat.size as u32);
-    out.say(
-        ",\"first_byte\":#,\"first_lane\":#,\"bytes\":#",
-        &[
-            Number(first_byte as u64),
-            Number(lane.unwrap_or(0) as u64),
-            Number(length.min(width) as u64),
-        ],
-    );
-}
-
 /// Writes the verdict of a channel.
-fn put_verdict(out: &mut TextBuf, walk: &ChannelPosition) {
-    match walk.verdict {
+fn put_verdict(out: &mut TextBuf, walk: &Walk, channel: &Position) {
+    match channel.verdict {
         Verdict::Done { near, far } => out.say(
             "{\"verdict\":\"done\",\"near\":#,\"far\":#}",
             &[Number(near), Number(far)],
         ),
-        Verdict::Cut { near, far } => out.say(
-            "{\"verdict\":\"cut\",\"near\":#,\"far\":#,\"message_line\":#,\"beat\":#,\"beats\":#}",
-            &[
-                Number(near),
-                Number(far),
-                Number(walk.first_line),
-                Number(walk.index as u64),
-                Number(walk.beats as u64),
-            ],
-        ),
+        Verdict::Cut { near, far } => {
+            let first = walk.first_of(channel.letter);
+            out.say(
+                "{\"verdict\":\"cut\",\"near\":#,\"far\":#,\"message_line\":#,\"beat\":#,\"beats\":#}",
+                &[
+                    Number(near),
+                    Number(far),
+                    Number(first.line),
+                    Number(channel.accepted),
+                    Number(first.beats),
+                ],
+            );
+        }
         Verdict::Refused { at, fault } => put_stopped(out, "refused", at, fault),
         Verdict::Waiting { at, fault } => put_stopped(out, "waiting", at, fault),
     }
@@ -185,116 +180,116 @@ fn put_stopped(out: &mut TextBuf, verdict: &'static str, near: u64, fault: SideF
     out.put_text("}}");
 }
 
-impl LineReport {
-    /// Writes the status of the line's beat, which was not accepted, and the fault that is the
-    /// reason.
-    fn put_record_fault(&mut self, beat: &BeatFields, fate: &'static str, fault: SideFault) {
-        self.page.say(",\"fate\":\"#\"", &[Text(fate)]);
-        put_fault(&mut self.page, fault.number(), fault.name());
-        self.page.put_text(",\"said\":\"");
-        self.course.put_fault_sentence(&mut self.page, beat, fault);
-        self.page.put_text("\"}");
-    }
+/// Writes the status of a beat that was not accepted, and the fault that is the reason.
+fn put_held(
+    out: &mut TextBuf,
+    walk: &Walk,
+    beat: &BeatFields,
+    fate: &'static str,
+    fault: SideFault,
+) {
+    out.say(",\"fate\":\"#\"", &[Text(fate)]);
+    put_fault(out, fault.number(), fault.name());
+    out.put_text(",\"said\":\"");
+    put_fault_sentence(out, walk, beat, fault);
+    out.put_text("\"}");
+}
 
-    /// Writes the outcome of the line's beat.
-    fn put_record_fate(&mut self, beat: &BeatFields, came: &LineResult) {
-        match came.fate {
-            BeatOutcome::Accepted => put_accepted(&mut self.page, &self.course.walk),
-            BeatOutcome::Refused(fault) => self.put_record_fault(beat, "refused", fault),
-            BeatOutcome::Waiting(fault) => self.put_record_fault(beat, "waiting", fault),
-            BeatOutcome::NotOffered => {
-                let stop = self.course.stop_of(beat.letter).unwrap_or_default();
-                let line = Number(stop.line);
-                self.page
-                    .say(",\"fate\":\"not offered\",\"since_line\":#", &[line]);
-            }
+/// Writes what happened to a line's beat.
+fn put_fate(out: &mut TextBuf, walk: &Walk, record: &LineRecord) {
+    match record.fate {
+        BeatOutcome::Accepted => {
+            put_accepted(out, record);
+            put_ties(out, record.links);
         }
-    }
-
-    /// Writes the time of the line, if it is known.
-    fn put_record_time(&mut self) {
-        if !self.times.now().is_empty() {
-            self.page.put_text(",\"time\":\"");
-            self.page.put_bytes(self.times.now());
-            self.page.put_text("\"");
-        }
-    }
-
-    /// Begins the object of the line. Writes everything except the far beats and the remarks.
-    pub fn begin_record(&mut self, beat: &BeatFields, lanes: &[u8], came: &LineResult) {
-        let accepted = matches!(came.fate, BeatOutcome::Accepted);
-        self.page.say("{\"line\":#", &[Number(self.course.line)]);
-        self.put_record_time();
-        put_fields(&mut self.page, beat);
-        self.put_record_fate(beat, came);
-        let home = self.course.near_home(beat, accepted);
-        if accepted {
-            let ties = self.ties_of_message();
-            put_ties(&mut self.page, ties);
-            let first_byte = self.course.walk.brought.first_byte;
-            put_bytes(
-                &mut self.page,
-                beat,
-                lanes.len(),
-                home.unwrap_or(0),
-                first_byte,
+        BeatOutcome::Refused(fault) => put_held(out, walk, &record.beat, "refused", fault),
+        BeatOutcome::Waiting(fault) => put_held(out, walk, &record.beat, "waiting", fault),
+        BeatOutcome::NotOffered => {
+            let line = walk.channel_of(record.beat.letter).stop;
+            out.say(
+                ",\"fate\":\"not offered\",\"since_line\":#",
+                &[Number(line)],
             );
         }
-        put_lanes(&mut self.page, beat, lanes, home);
-        self.page.put_text(",\"far\":[");
     }
+}
 
-    /// Adds far beat `number`, from 0, of those that the last near beat completed. Each of their
-    /// lines has `length` bytes.
-    pub fn add_far(&mut self, number: usize, length: usize, beat: &BeatFields, lanes: &[u8]) {
-        let walk = &self.course.walk;
-        let (home, first_byte) = (walk.home, walk.far_byte(number));
-        let count = walk.brought.from.saturating_add(number);
-        self.page.put_text(if number == 0 { "" } else { "," });
-        self.page
-            .say("{\"number\":#,\"text\":", &[Number(count as u64)]);
-        let text = line_in(&self.lines, number, length);
-        put_string(&mut self.page, text.trim_ascii_end());
-        self.page.say(",\"corrupt\":#", &[truth(beat.corrupt)]);
-        put_bytes(&mut self.page, beat, lanes.len(), home, first_byte);
-        put_lanes(&mut self.page, beat, lanes, Some(home));
-        self.page.put_text("}");
+/// Begins the object of a line: writes everything before the lanes of its beat.
+pub fn begin_object(out: &mut TextBuf, walk: &Walk, record: &LineRecord) {
+    out.say("{\"line\":#", &[Number(record.line)]);
+    let time = walk.times.at(record.time);
+    if !time.is_empty() {
+        out.put_text(",\"time\":\"");
+        out.put_bytes(time);
+        out.put_text("\"");
     }
+    put_fields(out, &record.beat);
+    put_fate(out, walk, record);
+}
 
-    /// Adds a remark. `is_first` is true for the first remark on the line.
-    pub fn add_remark(&mut self, remark: &Remark, is_first: bool) {
-        self.page.put_text(if is_first { "" } else { "," });
-        let (rule, partner) = (remark.rule, remark.partner.line);
-        self.page.say(
-            "{\"number\":#,\"name\":\"#\",\"partner\":#,\"said\":\"",
-            &[
-                Number(rule.number() as u64),
-                Text(rule.name()),
-                Number(partner),
-            ],
-        );
-        put_sentence_of(&mut self.page, remark, self.version);
-        self.page.put_text("\"}");
+/// Writes the lanes of the near beat of a line, or a far beat, which has this text.
+pub fn put_json_beat(
+    out: &mut TextBuf,
+    record: &LineRecord,
+    beat: &BeatRecord,
+    lanes: &[u8],
+    text: &[u8],
+) {
+    if !beat.is_far {
+        put_lanes(out, beat, lanes);
+        return out.put_text(",\"far\":[");
     }
+    out.put_text(if beat.number == record.far { "" } else { "," });
+    out.say("{\"number\":#,\"text\":", &[Number(beat.number)]);
+    put_string(out, text.trim_ascii_end());
+    out.say(",\"corrupt\":#", &[truth(beat.fields.corrupt)]);
+    put_lanes(out, beat, lanes);
+    out.put_text("}");
+}
 
-    /// Writes the object of the whole trace.
-    pub fn put_summary(&mut self) {
-        let lines = (self.lines_to_tell() as u64).saturating_add(1);
-        self.page.say(
-            "{\"summary\":{\"version\":#,\"client\":#,\"manager\":#,\"lines\":#,\"remarks\":#",
-            &[
-                Number(self.version as u64),
-                Number(self.course.client as u64),
-                Number(self.course.manager as u64),
-                Number(lines),
-                Number(self.remarks.len() as u64),
-            ],
-        );
-        for letter in LETTERS {
-            self.course.select_channel(*letter);
-            self.page.say(",\"#\":", &[Letter(*letter)]);
-            put_verdict(&mut self.page, &self.course.walk);
-        }
-        self.page.put_text("}}\n");
+/// Writes a remark.
+fn put_remark(out: &mut TextBuf, remark: &Remark, version: u8) {
+    let rule = remark.rule;
+    out.say(
+        "{\"number\":#,\"name\":\"#\",\"partner\":#,\"said\":\"",
+        &[
+            Number(rule.number() as u64),
+            Text(rule.name()),
+            Number(remark.partner.line),
+        ],
+    );
+    put_sentence_of(out, remark, version);
+    out.put_text("\"}");
+}
+
+/// Writes the remarks on a line, and ends its object.
+pub fn put_json_remarks(out: &mut TextBuf, walk: &Walk, record: &LineRecord) {
+    out.put_text("],\"remarks\":[");
+    let mut before = "";
+    for remark in walk.remarks_at(record) {
+        out.put_text(before);
+        put_remark(out, remark, walk.version);
+        before = ",";
     }
+    out.put_text("]}\n");
+}
+
+/// Writes the object of the whole trace.
+pub fn put_summary(out: &mut TextBuf, walk: &Walk) {
+    let (client, manager) = (walk.channels[0].w, walk.channels[0].v);
+    out.say(
+        "{\"summary\":{\"version\":#,\"client\":#,\"manager\":#,\"lines\":#,\"remarks\":#",
+        &[
+            Number(walk.version as u64),
+            Number(client as u64),
+            Number(manager as u64),
+            Number((walk.lines() as u64).saturating_add(1)),
+            Number(walk.remarks.len() as u64),
+        ],
+    );
+    for channel in &walk.channels {
+        out.say(",\"#\":", &[Letter(channel.letter)]);
+        put_verdict(out, walk, channel);
+    }
+    out.put_text("}}\n");
 }

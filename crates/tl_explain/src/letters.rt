@@ -1,12 +1,11 @@
 //! The lines of a trace by their letters.
 ghost use Rattle.tl_lanes.specs.Lanes.{IsWidth};
 
-use crate::line_report::place;
+use crate::walk::place;
 use arrayvec::ArrayVec;
-use std::alloc::Global;
+use std::alloc::{AllocError, Global};
 use tl_answer::at_width;
 use tl_msg::{ChA, ChB, ChC, ChD, ChE};
-use tl_remarks::TextBuf;
 use tl_trace::{Header, LONGEST_LINE, line_end, line_of};
 
 /// Returns the line with this letter of a beat of zeros, on `W` lanes, in a trace of this version,
@@ -38,8 +37,9 @@ fn length_of(letter: u8, header: &Header) -> usize {
     form_of(letter, header).len().max(1)
 }
 
-/// Returns the first letters of the lines of a trace with this header, from line 2 on.
-pub fn letters_of(alloc: Global, text: &[u8], header: &Header) -> TextBuf {
+/// Returns the first letters of the lines of a trace with this header, from line 2 on. Errors:
+/// `AllocError` if the allocator fails.
+pub fn letters_of(alloc: Global, text: &[u8], header: &Header) -> Result<Vec<u8>, AllocError> {
     let lengths = [
         length_of(b'A', header),
         length_of(b'B', header),
@@ -47,15 +47,15 @@ pub fn letters_of(alloc: Global, text: &[u8], header: &Header) -> TextBuf {
         length_of(b'D', header),
         length_of(b'E', header),
     ];
-    let mut letters = TextBuf::new(alloc, false);
+    let mut letters = Vec::new(alloc);
     let mut at = line_end(text, 0).saturating_add(1);
     for _ in 0..text.len() {
         let Some(letter) = text.get(at) else {
             break;
         };
-        letters.put_bytes(&[*letter]);
+        letters.push(*letter)?;
         let length = lengths.get(place(*letter));
         at = at.saturating_add(length.copied().unwrap_or(1));
     }
-    letters
+    Ok(letters)
 }

@@ -1,16 +1,14 @@
-//! Sentences on the outcome of each line of a trace: the beats that were accepted and their far
-//! beats, the beat that was held back and the reason, and the beats that were not offered. Also the
-//! fault of a text that is not a valid trace.
+//! The record of each line of a trace, with the outcome of its beat: the beats that were accepted
+//! and their far beats, the beat that was held back and the reason, and the beats that were not
+//! offered. Also its printers, in sentences and as JSON, and the fault of a text that is not a valid
+//! trace.
 #![tactic(auto)]
 
-mod alike;
 mod beat_outcome;
 mod blocks;
 mod channel;
-mod channel_position;
-mod count;
 mod display_options;
-mod drawing;
+mod entry;
 mod explain;
 mod faults;
 mod held;
@@ -18,27 +16,30 @@ mod json;
 mod lane_list;
 mod letters;
 mod likeness;
-mod line_report;
+mod links;
 mod meanings;
-mod overview;
 mod page_model;
 mod picture;
 mod places;
-mod requests;
+mod record;
 mod sentences;
-mod shown;
+mod story;
 mod times;
-mod trace_position;
 mod unreadable;
-mod words;
+mod walk;
 
+pub use beat_outcome::BeatOutcome;
 pub use display_options::{DisplayOptions, LineFilter};
-pub use drawing::{Drawing, Drawn};
+pub use entry::Entry;
 pub use explain::{explain_to, records_to};
-pub use line_report::BeatStatus;
+pub use links::Links;
 pub use meanings::{FAULTS, meaning};
-pub use page_model::{Links, PageModel, page_model_of};
+pub use page_model::{Drawn, PageModel, page_model_of};
 pub use picture::{Cell, Picture, ROW};
-pub use shown::Item;
+pub use record::{BeatRecord, LineRecord};
+pub use sentences::{
+    put_cuts, put_fate, put_fields, put_name, put_place, put_remarks, put_sentence,
+};
 pub use times::{TimesFault, TimesKind, check_times};
 pub use unreadable::{fault_record, show_fault};
+pub use walk::{LETTERS, Position, Walk};

@@ -1,6 +1,6 @@
 //! Other forms that a line of the wrong length has.
-use crate::line_report::LETTERS;
 use crate::places::{put_blank_end, put_expected};
+use crate::walk::LETTERS;
 use std::alloc::Global;
 use tl_lanes::WIDEST_POWER;
 use tl_remarks::Piece::{Letter, Number, Text};

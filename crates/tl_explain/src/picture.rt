@@ -1,5 +1,6 @@
 //! Pictures of lanes.
 use crate::lane_list::{has_lane, lanes_of};
+use crate::record::BeatRecord;
 use tl_lanes::{Mask, WIDEST};
 use tl_remarks::Piece::{Byte, Text};
 use tl_remarks::{BeatFields, Piece, TextBuf};
@@ -41,13 +42,13 @@ pub struct Picture<'a> {
 
 impl<'a> Picture<'a> {
     /// Returns the picture of a beat with these lanes, if it has a mask or data. `home` is the
-    /// address that determines the lanes of the message's bytes.
-    pub fn of(beat: &BeatFields, lanes: &'a [u8], home: u64) -> Option<Picture<'a>> {
+    /// address that determines the lanes of the message's bytes, if it is known.
+    pub fn of(beat: &BeatFields, lanes: &'a [u8], home: Option<u64>) -> Option<Picture<'a>> {
         let (is_masked, has_data) = (beat.is_masked(), beat.carries_data());
         if !is_masked && !has_data {
             return None;
         }
-        let active = lanes_of(home, beat.size, lanes.len())?;
+        let active = lanes_of(home?, beat.size, lanes.len())?;
         Some(Picture {
             lanes,
             active,
@@ -134,10 +135,10 @@ impl<'a> Picture<'a> {
     }
 }
 
-/// Writes the picture of a beat with this name, of four letters, and these bytes on its lanes, if
-/// it has a mask or data. `home` is the address that determines the lanes of the message's bytes.
-pub fn put_picture(out: &mut TextBuf, name: &str, beat: &BeatFields, lanes: &[u8], home: u64) {
-    if let Some(picture) = Picture::of(beat, lanes, home) {
-        picture.put(out, name);
+/// Writes the picture of a beat with these bytes on its lanes, if it has a mask or data and the lanes
+/// of its bytes are known.
+pub fn put_picture(out: &mut TextBuf, beat: &BeatRecord, lanes: &[u8]) {
+    if let Some(picture) = Picture::of(&beat.fields, lanes, beat.home) {
+        picture.put(out, if beat.is_far { "far " } else { "near" });
     }
 }

@@ -2,8 +2,8 @@
 //! a line for each beat, in the order of the trace.
 ghost use Rattle.std.specs.Prelude.{◌≤◌, length};
 
-use std::alloc::Global;
-use tl_remarks::TextBuf;
+use crate::record::Span;
+use std::alloc::{AllocError, Global};
 use tl_trace::line_end;
 
 /// The largest number of digits of a time before its decimal point, and after it.
@@ -144,33 +144,35 @@ pub fn check_times(text: &[u8], beats: usize) -> Result<(), TimesFault> {
 #[derive(Drop)]
 pub struct Times {
     text: Vec<u8>,
-    /// The offset at which the time of the last line begins, and the one at which it ends.
-    from: usize,
-    to: usize,
+    now: Span,
 }
 
 impl Times {
     /// Returns the times in a text that `check_times` accepts, at the position before the first
-    /// beat. An empty text has no times. Records in the page if the allocator fails.
-    pub fn new(alloc: Global, text: &[u8], page: &mut TextBuf) -> Times {
+    /// beat. An empty text has no times. Errors: `AllocError` if the allocator fails.
+    pub fn new(alloc: Global, text: &[u8]) -> Result<Times, AllocError> {
         let mut times = Times {
             text: Vec::new(alloc),
-            from: 0,
-            to: 0,
+            now: Span::default(),
         };
-        page.out_of_memory |= times.text.extend_from_slice(text).is_err();
-        times
+        times.text.extend_from_slice(text)?;
+        Ok(times)
     }
 
-    /// Advances to the next beat.
-    pub fn advance(&mut self) {
-        let at = self.to.saturating_add((self.to > 0) as usize);
-        self.from = at.min(self.text.len());
-        self.to = line_end(&self.text, self.from);
+    /// Advances to the next beat. Returns the position of its time, which is empty if it is not
+    /// known.
+    pub fn advance(&mut self) -> Span {
+        let at = self.now.to.saturating_add((self.now.to > 0) as usize);
+        let from = at.min(self.text.len());
+        self.now = Span {
+            from,
+            to: line_end(&self.text, from),
+        };
+        self.now
     }
 
-    /// Returns the time of the last beat; empty if it is not known.
-    pub fn now(&self) -> &[u8] {
-        self.text.get(self.from..self.to).unwrap_or(&[])
+    /// Returns the time at this position.
+    pub fn at(&self, time: Span) -> &[u8] {
+        self.text.get(time.from..time.to).unwrap_or(&[])
     }
 }

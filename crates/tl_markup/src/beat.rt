@@ -1,6 +1,6 @@
 //! A beat with its lanes.
 use crate::text::{ascii, put_escaped};
-use tl_explain::{Cell, Drawing, Drawn, Picture, ROW};
+use tl_explain::{BeatRecord, Cell, Drawn, PageModel, Picture, ROW};
 use tl_remarks::Piece::{Byte, Number, Text};
 use tl_remarks::TextBuf;
 
@@ -30,18 +30,16 @@ fn put_cells(out: &mut TextBuf, picture: &Picture<'_>) {
     }
 }
 
-/// Writes which bytes of its message a beat has on `width` lanes: the index of the first byte, its
-/// lane, and the number of bytes.
-fn put_bytes(out: &mut TextBuf, drawn: &Drawn, width: usize) {
-    let first = (drawn.home.unwrap_or(0) as usize).wrapping_add(drawn.first_byte);
-    let length = 1usize.wrapping_shl(drawn.beat.size as u32);
+/// Writes which bytes of its message a beat has: the index of the first byte, its lane, and the
+/// number of bytes.
+fn put_bytes(out: &mut TextBuf, beat: &BeatRecord) {
     out.say(
         " data-message=\"#\" data-byte=\"#\" data-lane=\"#\" data-count=\"#\"",
         &[
-            Number(drawn.message),
-            Number(drawn.first_byte as u64),
-            Number(first.checked_rem(width).unwrap_or(0) as u64),
-            Number(length.min(width) as u64),
+            Number(beat.message),
+            Number(beat.first_byte as u64),
+            Number(beat.first_lane as u64),
+            Number(beat.bytes as u64),
         ],
     );
 }
@@ -61,33 +59,32 @@ fn put_row_style(out: &mut TextBuf, width: usize) {
 }
 
 /// Writes the lanes of a beat, if it has any to show.
-fn put_lanes(out: &mut TextBuf, drawing: &Drawing, drawn: &Drawn) {
-    let Some(picture) = drawing.picture(drawn) else {
+fn put_lanes(out: &mut TextBuf, scene: &PageModel, drawn: &Drawn) {
+    let Some(picture) = scene.picture(drawn) else {
         return;
     };
-    let width = picture.lanes.len();
     out.put_text("<table");
-    if drawn.message != 0 {
-        put_bytes(out, drawn, width);
+    if drawn.beat.message != 0 {
+        put_bytes(out, &drawn.beat);
     }
-    put_row_style(out, width);
+    put_row_style(out, picture.lanes.len());
     put_cells(out, &picture);
     out.put_text("</tr></tbody></table>");
 }
 
 /// Writes a beat: its line, and its lanes if it has any to show.
-pub fn put_beat(out: &mut TextBuf, drawing: &Drawing, drawn: &Drawn) {
-    let side = Text(if drawn.is_far { "far" } else { "near" });
+pub fn put_beat(out: &mut TextBuf, scene: &PageModel, drawn: &Drawn) {
+    let side = Text(if drawn.beat.is_far { "far" } else { "near" });
     out.say(
         "<figure class=\"#\"><figcaption><span>#</span> <code>",
         &[side, side],
     );
-    put_escaped(out, ascii(drawing.line(drawn)));
+    put_escaped(out, ascii(scene.text(drawn)));
     out.put_text("</code>");
-    if drawn.beat.corrupt {
+    if drawn.beat.fields.corrupt {
         out.put_text(" <em>corrupt</em>");
     }
     out.put_text("</figcaption>");
-    put_lanes(out, drawing, drawn);
+    put_lanes(out, scene, drawn);
     out.put_text("</figure>");
 }

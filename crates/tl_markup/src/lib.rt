@@ -2,9 +2,10 @@
 #![tactic(auto)]
 
 mod beat;
+mod line;
+mod overview;
 mod page;
 mod row;
-mod sentence;
 mod style;
 mod summary;
 mod text;

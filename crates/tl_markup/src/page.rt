@@ -1,11 +1,10 @@
 //! Whole pages for a browser.
 use crate::row::put_rows;
-use crate::sentence::put_paragraphs;
 use crate::style::{BEGINNING, END, FOLD, LEGEND, SCRIPT, STYLE};
 use crate::summary::{put_answer, put_columns, put_heads, put_problems};
 use crate::text::{ascii, put_escaped};
 use std::alloc::{AllocError, Global};
-use tl_explain::PageModel;
+use tl_explain::{PageModel, put_cuts};
 use tl_remarks::TextBuf;
 
 /// Returns a page up to its contents.
@@ -26,7 +25,7 @@ fn put_scene(out: &mut TextBuf, scene: &PageModel) {
     out.put_text("<div class=\"row\">");
     put_rows(out, scene);
     out.put_text("</div>");
-    put_paragraphs(out, scene, "<p class=\"cut\">", scene.cuts());
+    put_cuts(out, &scene.walk, "<p class=\"cut\">", "</p>");
     out.put_bytes(LEGEND);
     out.put_bytes(SCRIPT);
     out.put_bytes(END);
@@ -35,6 +34,7 @@ fn put_scene(out: &mut TextBuf, scene: &PageModel) {
 /// Returns the page of a trace. Errors: `AllocError` if the allocator fails.
 pub fn markup_of(alloc: Global, scene: PageModel) -> Result<Vec<u8>, AllocError> {
     let mut out = begun(alloc);
+    out.shown = scene.shown(alloc)?;
     put_scene(&mut out, &scene);
     drop(scene);
     out.into_text()

@@ -1,57 +1,20 @@
 //! The lines of a trace. Successive lines of different channels are side by side.
-use crate::beat::put_beat;
-use crate::sentence::{put_link, put_paragraphs, put_sentence};
-use crate::text::{ascii, halves, put_escaped};
-use tl_explain::{BeatStatus, Item, PageModel};
+use crate::line::{put_body, put_heading};
+use tl_explain::{BeatOutcome, Entry, PageModel};
 use tl_remarks::Piece::{Letter, Number, Text};
 use tl_remarks::TextBuf;
 
 /// The number of colours for exchanges.
 const HUES: u64 = 12;
 
-/// Returns the class of a line whose beat has this status.
-fn fares_class(fares: BeatStatus) -> &'static str {
-    match fares {
-        BeatStatus::Accepted => "accepted",
-        BeatStatus::Refused => "refused",
-        BeatStatus::Waits => "waits",
-        BeatStatus::NotOffered => "not-offered",
+/// Returns the class of a line whose beat had this outcome.
+fn class_of(fate: BeatOutcome) -> &'static str {
+    match fate {
+        BeatOutcome::Accepted => "accepted",
+        BeatOutcome::Refused(_) => "refused",
+        BeatOutcome::Waiting(_) => "waits",
+        BeatOutcome::NotOffered => "not-offered",
     }
-}
-
-/// Returns the sentence on the lines of an item.
-fn sentence_of<'a>(scene: &'a PageModel, item: &Item) -> &'a str {
-    ascii(scene.sentence(item)).trim_ascii()
-}
-
-/// Writes the heading of a line, from its sentence: its beat, the line, and the beat's fields. The
-/// heading of a message is that of its first line, with the last line `to`, which is otherwise 0.
-/// Returns the rest of the sentence. The parts of a sentence are separated by `: ` and `, `.
-fn put_heading<'a>(out: &mut TextBuf, scene: &PageModel, sentence: &'a str, to: u64) -> &'a str {
-    let (line, said) = halves(sentence, ": ");
-    let (beat, came) = halves(said, ": ");
-    let (name, fields) = halves(beat, ", ");
-    out.put_text("<h3>");
-    put_escaped(out, name);
-    out.put_text(" <small>");
-    put_sentence(out, scene, line);
-    if to != 0 {
-        out.say(" to #", &[Number(to)]);
-    }
-    out.put_text("</small></h3> <span class=\"fields\">");
-    put_escaped(out, fields);
-    out.put_text("</span>");
-    came
-}
-
-/// Writes the line in which the response to a message begins, if there is one.
-fn put_answered(out: &mut TextBuf, scene: &PageModel, item: &Item) {
-    let ties = scene.ties(item.line);
-    if scene.ties(ties.answered_in).is_shown {
-        out.put_text(", answered in ");
-        put_link(out, ties.answered_in);
-    }
-    out.put_text("</p>");
 }
 
 /// Writes the exchange of a message, and its colour, into the tag of the message.
@@ -64,123 +27,120 @@ fn put_exchange(out: &mut TextBuf, exchange: u64) {
     }
 }
 
-/// Begins the article of a line.
-fn begin_article(out: &mut TextBuf, line: u64) {
-    out.say("<article class=\"beat\" id=\"line-#\">", &[Number(line)]);
-}
-
 /// Writes a line with its beats. A message from line `first` to line `last` is folded to the
 /// heading of its first line.
-fn put_line(out: &mut TextBuf, scene: &PageModel, item: &Item, first: u64, last: u64) {
-    let sentence = sentence_of(scene, item);
-    let came = if item.line == first {
-        out.put_text("<summary>");
+fn put_line(out: &mut TextBuf, scene: &PageModel, entry: &Entry, first: u64, last: u64) {
+    let line = entry.record.line;
+    if line == first {
         let to = if last == first { 0 } else { last };
-        let came = put_heading(out, scene, sentence, to);
+        out.put_text("<summary>");
+        put_heading(out, scene, entry, to);
         out.put_text("</summary>");
-        begin_article(out, item.line);
-        came
-    } else {
-        begin_article(out, item.line);
-        put_heading(out, scene, sentence, 0)
-    };
-    out.put_text("<p class=\"came\">");
-    put_sentence(out, scene, came);
-    put_answered(out, scene, item);
-    for beat in scene.drawing.beats_at(item.drawn) {
-        put_beat(out, &scene.drawing, beat);
     }
-    put_paragraphs(out, scene, "<p class=\"remark\">", scene.remarks(item));
+    out.say("<article class=\"beat\" id=\"line-#\">", &[Number(line)]);
+    if line != first {
+        put_heading(out, scene, entry, 0);
+    }
+    put_body(out, scene, entry);
     out.put_text("</article>");
 }
 
-/// Returns these items up to the last one of the message of the first item. Items of other channels
-/// can be among them.
-fn up_to_last<'a>(items: &'a [Item], first: &Item) -> &'a [Item] {
+/// Returns whether a line is of the message of this line.
+fn is_of(entry: &Entry, first: &Entry) -> bool {
+    entry.record.message == first.record.message
+}
+
+/// Returns these entries up to the last one of the message of the first entry. Entries of other
+/// channels can be among them.
+fn up_to_last<'a>(entries: &'a [Entry], first: &Entry) -> &'a [Entry] {
     let mut count = 1usize;
-    for at in 1..items.len() {
-        let item = items[at];
-        if (item.message == first.message) & (first.message != 0) {
+    for at in 1..entries.len() {
+        let entry = &entries[at];
+        if is_of(entry, first) & (first.record.message != 0) {
             count = at.saturating_add(1);
-        } else if item.letter == first.letter {
+        } else if entry.record.beat.letter == first.record.beat.letter {
             break;
         }
     }
-    items.get(..count).unwrap_or(&[])
+    entries.get(..count).unwrap_or(&[])
 }
 
-/// Returns whether a line has a fault or a remark, or its beat was not offered.
-fn is_problem(scene: &PageModel, item: &Item) -> bool {
-    item.fares != BeatStatus::Accepted || !scene.remarks(item).is_empty()
-}
-
-/// Writes the message that begins with the first of these items. It is open if one of its lines has
-/// a problem.
-fn put_message(out: &mut TextBuf, scene: &PageModel, items: &[Item], first: &Item) {
-    let items = up_to_last(items, first);
-    let fate = Text(fares_class(first.fares));
+/// Writes the message that begins with the first of these entries. It is open if one of its lines
+/// has a fault or a remark, or its beat was not offered.
+fn put_message(out: &mut TextBuf, scene: &PageModel, entries: &[Entry], first: &Entry) {
+    let entries = up_to_last(entries, first);
+    let class = Text(class_of(first.record.fate));
     out.say(
         "<details class=\"message # #\"",
-        &[fate, Letter(first.letter)],
+        &[class, Letter(first.record.beat.letter)],
     );
-    put_exchange(out, scene.exchange(first.message));
-    let (mut is_open, mut last) = (false, first.line);
-    for item in items {
-        is_open |= (item.message == first.message) & is_problem(scene, item);
-        last = item.line;
+    put_exchange(out, scene.exchange(first.record.message));
+    let (mut is_open, mut last) = (false, first.record.line);
+    for entry in entries {
+        is_open |= is_of(entry, first) & entry.record.is_problem();
+        last = entry.record.line;
     }
     out.put_text(if is_open { " open>" } else { ">" });
-    for item in items {
-        if item.message == first.message {
-            put_line(out, scene, item, first.line, last);
+    for entry in entries {
+        if is_of(entry, first) {
+            put_line(out, scene, entry, first.record.line, last);
         }
     }
     out.put_text("</details>");
 }
 
-/// Writes lines whose beats were not offered.
-fn put_run(out: &mut TextBuf, scene: &PageModel, item: &Item) {
-    out.say("<p class=\"run\" id=\"line-#\">", &[Number(item.line)]);
-    put_sentence(out, scene, sentence_of(scene, item));
+/// Writes several lines whose beats were not offered.
+fn put_several(out: &mut TextBuf, scene: &PageModel, entry: &Entry) {
+    let line = Number(entry.record.line);
+    out.say("<p class=\"run\" id=\"line-#\">", &[line]);
+    entry.put(out, &scene.walk);
     out.put_text("</p>");
 }
 
-/// Returns whether an item is not of the last message of its channel. Records its message, for each
+/// Returns whether an entry is not of the last message of its channel. Records its message, for each
 /// channel.
-fn begins(messages: &mut [u64; 5], item: &Item) -> bool {
-    let Some(last) = messages.get_mut(item.letter.wrapping_sub(b'A') as usize) else {
+fn begins(messages: &mut [u64; 5], entry: &Entry) -> bool {
+    let (letter, message) = (entry.record.beat.letter, entry.record.message);
+    let Some(last) = messages.get_mut(letter.wrapping_sub(b'A') as usize) else {
         return true;
     };
-    let is_other = (item.message == 0) | (item.message != *last);
-    *last = item.message;
+    let is_other = (message == 0) | (message != *last);
+    *last = message;
     is_other
 }
 
-/// Writes the message that begins with the first of these items, or the lines of that item if their
-/// beats were not offered. Returns the letter after which the row continues, which was `last`
+/// Writes the message that begins with the first of these entries, or the lines of that entry if
+/// their beats were not offered. Returns the letter after which the row continues, which was `last`
 /// before: a row continues while each message is of a channel after that of the message before.
-fn put_item(out: &mut TextBuf, scene: &PageModel, items: &[Item], item: &Item, last: u8) -> u8 {
-    let is_run = item.line != item.last;
-    if is_run | (item.letter <= last) {
+fn put_entry(
+    out: &mut TextBuf,
+    scene: &PageModel,
+    entries: &[Entry],
+    entry: &Entry,
+    last: u8,
+) -> u8 {
+    let is_several = entry.count > 1;
+    if is_several | (entry.record.beat.letter <= last) {
         out.put_text("</div><div class=\"row\">");
     }
-    if is_run {
-        put_run(out, scene, item);
+    if is_several {
+        put_several(out, scene, entry);
         return b'E';
     }
-    put_message(out, scene, items, item);
-    item.letter
+    put_message(out, scene, entries, entry);
+    entry.record.beat.letter
 }
 
 /// Writes all lines, in the order of their messages.
 pub fn put_rows(out: &mut TextBuf, scene: &PageModel) {
     let mut last = 0;
     let mut messages = [0u64; 5];
-    for at in 0..scene.items.len() {
-        let item = scene.items[at];
-        if begins(&mut messages, &item) {
-            let items = scene.items.get(at..).unwrap_or(&[]);
-            last = put_item(out, scene, items, &item, last);
+    let entries = scene.entries();
+    for at in 0..entries.len() {
+        let entry = entries[at];
+        if begins(&mut messages, &entry) {
+            let rest = entries.get(at..).unwrap_or(&[]);
+            last = put_entry(out, scene, rest, &entry, last);
         }
     }
 }

@@ -12,9 +12,3 @@ pub fn put_escaped(out: &mut TextBuf, text: &str) {
 pub fn ascii(text: &[u8]) -> &str {
     std::str::from_utf8(text).unwrap_or("")
 }
-
-/// Returns the parts of a text before and after the first of these marks. If there is none, all of
-/// the text is before it.
-pub fn halves<'a>(text: &'a str, mark: &str) -> (&'a str, &'a str) {
-    text.split_once(mark).unwrap_or((text, ""))
-}

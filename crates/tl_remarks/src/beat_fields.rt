@@ -1,7 +1,7 @@
 //! The fields of a beat of any channel, for remarks and sentences.
 ghost use Rattle.std.specs.Prelude.{◌≤◌};
 
-use tl_lanes::{MAX_SIZE, Mask};
+use tl_lanes::{MAX_SIZE, Mask, beats, is_width};
 use tl_msg::{
     Beat, ChA, ChB, ChC, ChD, ChE, HeadA, HeadB, HeadC, HeadD, HeadE, Kind, SinkId, SourceId,
 };
@@ -124,10 +124,9 @@ impl BeatFields {
     pub fn beats(&self, w: usize) -> usize
         ensures { 1 ≤ result }
     {
-        if self.size > MAX_SIZE || !self.carries_data() {
+        if self.size > MAX_SIZE || !is_width(w) {
             return 1;
         }
-        let length = 1usize << self.size;
-        (length / length.min(w).max(1)).max(1)
+        beats(self.carries_data(), self.size, w).max(1)
     }
 }

@@ -1,6 +1,6 @@
 //! The sentences of remarks.
 use crate::remark::{Message, Remark, Rule};
-use crate::text_buf::Piece::{self, Coloured, Id, Name, Number, Text};
+use crate::text_buf::Piece::{self, Id, Line, Name, Text};
 use crate::text_buf::{Colour, TextBuf};
 use tl_msg::Kind;
 
@@ -13,19 +13,19 @@ const REPORTS: &[&str] = &["TtoB", "TtoN", "BtoN", "TtoT", "BtoB", "NtoN"];
 
 /// The sentence of each rule, in the order of [`Rule`].
 const SENTENCES: &[&str; 9] = &[
-    "it is no response to #, in line # (TileLink 1.8: #)",
-    "it grants #, but #, in line #, asks for # (TileLink 1.8: Grant)",
-    "it reports #, but #, in line #, leaves # (TileLink 1.8: ProbeAck)",
+    "it is no response to #, in # (TileLink 1.8: #)",
+    "it grants #, but #, in #, asks for # (TileLink 1.8: Grant)",
+    "it reports #, but #, in #, leaves # (TileLink 1.8: ProbeAck)",
     "no # # answers it (TileLink 1.8: #)",
     "there is no # # for it (TileLink 1.8: #)",
     "a ReleaseAck cannot be denied (TileLink 1.8: #)",
     "data that are denied have to be corrupt (TileLink 1.8: #)",
     "it gives no data, and so it asks for NtoT or BtoT, and not for NtoB (TileLink 1.8: #)",
-    "# # is still in use by #, in line # (TileLink 1.8: #)",
+    "# # is still in use by #, in # (TileLink 1.8: #)",
 ];
 
 /// The sentence on a message that has no response before its partner, which has the same id.
-const NOT_BEFORE: &str = "no # # answers it before line # uses the # again (TileLink 1.8: #)";
+const NOT_BEFORE: &str = "no # # answers it before # uses the # again (TileLink 1.8: #)";
 
 /// Returns the word for a param; `?` if there is none.
 fn word(words: &[&'static str], param: u8) -> Piece<'static> {
@@ -57,6 +57,7 @@ fn asked_by(message: &Message) -> &'static str {
         None => "Grant of sink",
         Some(Kind::ReleaseAck) => "Release of source",
         Some(Kind::ProbeAck | Kind::ProbeAckData) => "probe of this address of source",
+        _ if message.letter == b'D' => "request of source",
         _ => "request of this address of source",
     }
 }
@@ -79,7 +80,7 @@ fn id_name(message: &Message) -> Piece<'static> {
 /// sentence does not have are arbitrary. (A remark on one message has that message as its partner.)
 fn pieces_of(remark: &Remark, version: u8) -> [Piece<'static>; 5] {
     let (message, partner) = (&remark.message, &remark.partner);
-    let (asked, line) = (name(partner), Number(partner.line));
+    let (asked, line) = (name(partner), Line(partner.line));
     let id = Id(message.id, version);
     match remark.rule {
         Rule::OtherResponse => [asked, line, asked, asked, asked],
@@ -112,9 +113,9 @@ pub fn put_sentence_of(out: &mut TextBuf, remark: &Remark, version: u8) {
     out.say(sentence, &pieces_of(remark, version));
 }
 
-/// Writes a remark as a line. The `version` of the trace determines the number of digits of an id.
+/// Writes a remark. The `version` of the trace determines the number of digits of an id.
 pub fn put_remark(out: &mut TextBuf, remark: &Remark, version: u8) {
-    out.say("    #: ", &[Coloured(Colour::Yellow, "remark")]);
+    out.put_coloured(Colour::Yellow, "remark");
+    out.put_text(": ");
     put_sentence_of(out, remark, version);
-    out.put_text("\n");
 }

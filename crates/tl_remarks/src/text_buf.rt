@@ -21,6 +21,8 @@ pub enum Piece<'a> {
     Coloured(Colour, &'a str),
     Letter(u8),
     Number(u64),
+    /// `line ` and the number of a line, which is a link on a page that shows the line.
+    Line(u64),
     /// The two digits of a byte.
     Byte(u8),
     Address(u64),
@@ -34,7 +36,7 @@ pub enum Piece<'a> {
     Opcode(u8),
 }
 
-use Piece::{Address, Byte, Coloured, Id, Length, Letter, Name, Number, Opcode, Text};
+use Piece::{Address, Byte, Coloured, Id, Length, Letter, Line, Name, Number, Opcode, Text};
 
 /// The hexadecimal digits, and the largest number of them in a number.
 const DIGITS: &[u8; 16] = b"0123456789abcdef";
@@ -77,6 +79,8 @@ pub struct TextBuf {
     /// The text that was written, without the parts that were removed.
     pub text: Vec<u8>,
     has_colours: bool,
+    /// For a page: whether it shows each line of a trace, from line 2 on. Empty for other texts.
+    pub shown: Vec<bool>,
     pub out_of_memory: bool,
 }
 
@@ -86,6 +90,7 @@ impl TextBuf {
         TextBuf {
             text: Vec::new(alloc),
             has_colours,
+            shown: Vec::new(alloc),
             out_of_memory: false,
         }
     }
@@ -130,6 +135,25 @@ impl TextBuf {
             self.put_bytes(b" ");
         }
         self.put_bytes(digits);
+    }
+
+    /// Returns whether this is a page that shows this line.
+    pub fn is_shown(&self, line: u64) -> bool {
+        let shown = self.shown.get((line as usize).wrapping_sub(2));
+        shown.copied().unwrap_or(false)
+    }
+
+    /// Writes `line ` and the number of a line; as a link if the page shows the line.
+    pub fn put_line(&mut self, line: u64) {
+        if self.is_shown(line) {
+            self.put_text("<a href=\"#line-");
+            self.put_number(line);
+            self.put_text("\">line ");
+            self.put_number(line);
+            return self.put_text("</a>");
+        }
+        self.put_text("line ");
+        self.put_number(line);
     }
 
     /// Writes a number in hexadecimal, with at least `least` digits.
@@ -203,6 +227,7 @@ impl TextBuf {
             Coloured(colour, word) => self.put_coloured(colour, word),
             Letter(letter) => self.put_bytes(&[letter]),
             Number(number) => self.put_number(number),
+            Line(line) => self.put_line(line),
             Byte(byte) => self.put_hex(byte as u64, 2),
             Address(address) => self.put_address(address),
             Id(id, version) => self.put_id(id, version),
@@ -233,11 +258,6 @@ impl TextBuf {
     /// Returns the number of bytes.
     pub fn len(&self) -> usize {
         self.text.len()
-    }
-
-    /// Returns the text from offset `from` on.
-    pub fn end_from(&self, from: usize) -> &[u8] {
-        self.text.get(from..).unwrap_or(&[])
     }
 
     /// Shortens the text to its first `length` bytes.

@@ -1,0 +1,315 @@
+//! The walk over the lines of a trace, which makes the record of each line.
+use crate::beat_outcome::{BeatOutcome, fate_at};
+use crate::held::{HeldPair, line_of};
+use crate::links::{Links, index_of, links_at, links_of};
+use crate::record::{LineRecord, Span, bytes_of};
+use crate::times::Times;
+use std::alloc::{AllocError, Global};
+use tl_msg::{SourceId, Verdict};
+use tl_remarks::Piece::{Line, Text};
+use tl_remarks::{BeatFields, Exchange, Message, Noted, Remark, TextBuf, accepted};
+use tl_trace::Header;
+
+/// The letters of the channels.
+pub const LETTERS: &[u8; 5] = b"ABCDE";
+
+/// Returns the index of the channel with this letter among all five.
+pub fn place(letter: u8) -> usize {
+    letter.wrapping_sub(b'A') as usize
+}
+
+/// A channel, and the position in its beats.
+#[derive(Clone, Copy)]
+pub struct Position {
+    pub letter: u8,
+    pub verdict: Verdict,
+    /// The line of the first beat that it does not accept; 0 if it accepts all.
+    pub stop: u64,
+    /// The width, in bytes, of the bus of the near beats, and of that of the far beats.
+    pub w: usize,
+    pub v: usize,
+    /// The numbers of near beats, of far beats, and of messages of which a beat was accepted.
+    pub near: usize,
+    pub far: u64,
+    pub messages: u64,
+    /// For the last message: the bytes in a near beat and in a far beat, the number of its beats, and
+    /// the number of those that were accepted.
+    near_bytes: usize,
+    far_bytes: usize,
+    beats: u64,
+    pub accepted: u64,
+}
+
+impl Position {
+    /// Returns the position before the first beat of the channel with this letter and this verdict,
+    /// from a bus of `w` bytes to one of `v`. The letters are those of the lines from line 2 on.
+    fn new(letters: &[u8], letter: u8, verdict: &Verdict, w: usize, v: usize) -> Position {
+        let stop = match verdict {
+            Verdict::Refused { .. } | Verdict::Waiting { .. } => {
+                line_of(letters, letter, accepted(verdict))
+            }
+            Verdict::Done { .. } | Verdict::Cut { .. } => 0,
+        };
+        Position {
+            letter,
+            verdict: *verdict,
+            stop,
+            w,
+            v,
+            near: 0,
+            far: 0,
+            messages: 0,
+            near_bytes: 1,
+            far_bytes: 1,
+            beats: 1,
+            accepted: 0,
+        }
+    }
+
+    /// Records how a beat was accepted that is beat `index` of its message and completed `count` far
+    /// beats.
+    fn accept(&mut self, record: &mut LineRecord, index: u32, count: usize) {
+        if index == 0 {
+            self.messages = self.messages.saturating_add(1);
+            self.near_bytes = bytes_of(&record.beat, self.w);
+            self.far_bytes = bytes_of(&record.beat, self.v);
+            self.beats = record.beat.beats(self.w) as u64;
+        }
+        record.index = index as u64;
+        record.beats = self.beats;
+        record.first_byte = (index as usize).saturating_mul(self.near_bytes);
+        record.far = self.far;
+        record.far_count = count as u64;
+        let end = record.first_byte.saturating_add(self.near_bytes);
+        record.staged = end % self.far_bytes.max(1);
+        record.far_bytes = self.far_bytes;
+        self.accepted = record.index.saturating_add(1);
+        self.far = self.far.saturating_add(record.far_count);
+    }
+
+    /// Writes the line of the first beat that the channel did not accept, and what happened to it.
+    pub fn put_stop(&self, out: &mut TextBuf) {
+        let how = match self.verdict {
+            Verdict::Waiting { .. } => "waits",
+            _ => "was refused",
+        };
+        out.say("# #", &[Line(self.stop), Text(how)]);
+    }
+}
+
+/// The facts about all lines of a trace, and the position in them.
+#[derive(Drop)]
+pub struct Walk {
+    /// The version of the trace, and the first letter of each line from line 2 on.
+    pub version: u8,
+    letters: Vec<u8>,
+    pub times: Times,
+    /// The remarks in the order of lines, and the number of those up to the current line.
+    pub remarks: Vec<Remark>,
+    remarks_passed: usize,
+    /// The messages that belong together, for each line from line 2 on, and the number of exchanges
+    /// up to the current line.
+    pub links: Vec<Links>,
+    begun: u64,
+    /// The exchanges as the bridge matches them, and the beats for which others wait.
+    exchanges: Vec<Exchange>,
+    pub held: HeldPair,
+    /// The positions in the channels, from A to E, and that in the channel of the current line.
+    pub channels: [Position; 5],
+    pub channel: Position,
+    /// The record of the first beat of the last message of each channel, from A to E.
+    firsts: [LineRecord; 5],
+    /// The number of the current line.
+    line: u64,
+}
+
+impl Walk {
+    /// Returns the walk at the position before line 2 of a text with this header. Its lines have
+    /// these letters, its channels these verdicts, and its messages these remarks and exchanges.
+    /// Errors: `AllocError` if the allocator fails.
+    #[inline(never)]
+    pub fn new(
+        alloc: Global,
+        header: &Header,
+        verdicts: &[Verdict; 5],
+        letters: Vec<u8>,
+        noted: Noted,
+        held: HeldPair,
+        in_order: bool,
+        times: &[u8],
+    ) -> Result<Walk, AllocError> {
+        let [on_a, on_b, on_c, on_d, on_e] = verdicts;
+        let (c, m) = (header.client, header.manager);
+        let channels = [
+            Position::new(&letters, b'A', on_a, c, m),
+            Position::new(&letters, b'B', on_b, m, c),
+            Position::new(&letters, b'C', on_c, c, m),
+            Position::new(&letters, b'D', on_d, m, c),
+            Position::new(&letters, b'E', on_e, c, 1),
+        ];
+        if noted.out_of_memory {
+            return Err(AllocError);
+        }
+        let links = links_of(alloc, letters.len(), &noted, in_order)?;
+        let times = Times::new(alloc, times)?;
+        Ok(Walk {
+            version: header.version,
+            times,
+            remarks: noted.remarks,
+            remarks_passed: 0,
+            links,
+            begun: 0,
+            exchanges: noted.exchanges,
+            held,
+            channel: channels[0],
+            channels,
+            firsts: [LineRecord::default(); 5],
+            line: 1,
+            letters,
+        })
+    }
+
+    /// Returns the number of lines from line 2 on.
+    pub fn lines(&self) -> usize {
+        self.letters.len()
+    }
+
+    /// Returns the remarks on a line.
+    pub fn remarks_at(&self, record: &LineRecord) -> &[Remark] {
+        let Span { from, to } = record.remarks;
+        self.remarks.get(from..to).unwrap_or(&[])
+    }
+
+    /// Returns the channel with this letter.
+    pub fn channel_of(&self, letter: u8) -> Position {
+        self.channels
+            .get(place(letter))
+            .copied()
+            .unwrap_or(self.channel)
+    }
+
+    /// Returns the record of the first beat of the last message of the channel with this letter.
+    pub fn first_of(&self, letter: u8) -> LineRecord {
+        self.firsts.get(place(letter)).copied().unwrap_or_default()
+    }
+
+    /// Begins the line at this index, counted from line 2. Returns its letter.
+    #[inline(never)]
+    pub fn begin_line(&mut self, at: usize) -> u8 {
+        let letter = self.letters.get(at).copied().unwrap_or(b'E');
+        self.line = self.line.saturating_add(1);
+        self.channel = self.channel_of(letter);
+        letter
+    }
+
+    /// Returns whether the next remark is on the current line.
+    fn has_remark(&self) -> bool {
+        match self.remarks.get(self.remarks_passed) {
+            Some(remark) => remark.message.line == self.line,
+            None => false,
+        }
+    }
+
+    /// Advances past the remarks on the current line. Returns their position.
+    fn pass_remarks(&mut self) -> Span {
+        let from = self.remarks_passed;
+        for _ in from..self.remarks.len() {
+            if !self.has_remark() {
+                break;
+            }
+            self.remarks_passed = self.remarks_passed.saturating_add(1);
+        }
+        Span {
+            from,
+            to: self.remarks_passed,
+        }
+    }
+
+    /// Returns the record of the current line, whose beat has these fields. The record of an accepted
+    /// beat is not complete.
+    pub fn record_of(&mut self, beat: &BeatFields) -> LineRecord {
+        let line = self.line;
+        let links = links_at(&self.links, line);
+        let fate = fate_at(self.channel.near as u64, &self.channel.verdict);
+        let home = match (beat.letter, fate) {
+            (b'D', BeatOutcome::Accepted) => Some(links.home),
+            (b'D', _) => None,
+            _ => Some(beat.address),
+        };
+        let time = self.times.advance();
+        let remarks = self.pass_remarks();
+        LineRecord {
+            line,
+            time,
+            beat: *beat,
+            fate,
+            remarks,
+            home,
+            links,
+            ..LineRecord::default()
+        }
+    }
+
+    /// Records that a message begins in the line of this record. Numbers the exchange that it begins.
+    fn begin_message(&mut self, record: &LineRecord) {
+        if let Some(first) = self.firsts.get_mut(place(record.beat.letter)) {
+            *first = *record;
+        }
+        if record.links.asked_in != 0 {
+            return;
+        }
+        let number = self.begun.saturating_add(1);
+        self.begun = number;
+        if let Some(links) = self.links.get_mut(index_of(record.line)) {
+            links.exchange = number;
+        }
+    }
+
+    /// Completes the record of an accepted beat, which is beat `index` of its message and completed
+    /// `count` far beats.
+    pub fn accept(&mut self, record: &mut LineRecord, index: u32, count: usize) {
+        self.channel.accept(record, index, count);
+        if index == 0 {
+            record.message = record.line;
+            self.begin_message(record);
+        } else if let Some(first) = self.firsts.get(place(record.beat.letter)) {
+            record.message = first.line;
+            record.home = first.home;
+            record.links = first.links;
+        }
+    }
+
+    /// Advances past the current line.
+    pub fn end_line(&mut self) {
+        self.channel.near = self.channel.near.saturating_add(1);
+        let letter = self.channel.letter;
+        if let Some(channel) = self.channels.get_mut(place(letter)) {
+            *channel = self.channel;
+        }
+    }
+
+    /// Returns the first outstanding request of A, of this source if one is given.
+    pub fn open_request(&self, source: Option<SourceId>) -> Option<Message> {
+        let (mut first, mut line) = (None, u64::MAX);
+        for exchange in &self.exchanges {
+            let ask = exchange.ask;
+            let is_asked_for = (ask.letter == b'A') & (source.unwrap_or(ask.id) == ask.id);
+            if exchange.is_open() & is_asked_for & (ask.line < line) {
+                (first, line) = (Some(ask), ask.line);
+            }
+        }
+        first
+    }
+
+    /// Returns the last request of A of this source.
+    pub fn last_request(&self, source: SourceId) -> Option<Message> {
+        let (mut last, mut line) = (None, 0);
+        for exchange in &self.exchanges {
+            let ask = exchange.ask;
+            if (ask.letter == b'A') & (ask.id == source) & (ask.line > line) {
+                (last, line) = (Some(ask), ask.line);
+            }
+        }
+        last
+    }
+}
