@@ -159,6 +159,24 @@ class Names(Case):
         status, out, said = self.run_tool(wave.text(), "--client-pattern", "top.IN{CHANNEL}CH{FIELD}", "--manager-pattern", "top.OUT{CHANNEL}CH{FIELD}")
         self.assertEqual((status, out), (0, NEAR), said)
 
+    def test_other_names_of_fields(self):
+        """addr is the address, and error is denied, in each convention, also in capitals."""
+        for style, prefix in (("plain", ""), ("rocket", "auto_"), ("spinal", "io_")):
+            names = {"client": f"{prefix}in", "manager": f"{prefix}out"}
+            text = self.denied(style).replace("address", "addr").replace("denied", "error")
+            for made in (text, text.replace("addr", "ADDR").replace("error", "Error")):
+                with self.subTest(style=style, capitals="ADDR" in made):
+                    out, far, said = self.trace(made, **names)
+                    self.assertEqual((out[1], far[1], out[2]), (NEAR[1], FAR[1], NEAR[2].replace(" 00 0 ", " 00 1 ")))
+
+    def denied(self, style):
+        """The same, with a response that is denied on both links."""
+        wave = simple(style)
+        at = next(i for i, line in enumerate(wave.body) if line == "#15")
+        codes = [wave.codes[side, "d", "denied"][0] for side in ("in", "out")]
+        wave.body[at + 1:at + 1] = [f"1{code}" for code in codes]
+        return wave.text()
+
     def test_renamed_field(self):
         wave = simple("odd")
         text = wave.text().replace("INACHOPCODE", "INACHOP").replace("INDCHOPCODE", "INDCHOP")
@@ -184,6 +202,15 @@ class Names(Case):
             at = lines.index("$upscope $end")
             text = "\n".join(lines[:at] + [f"$scope interface {side} $end", *own, "$upscope $end"] + lines[at:]) + "\n"
         self.assertEqual(self.trace(text)[:2], (NEAR, FAR))
+
+    def test_names_with_dots(self):
+        """A dump with one scope, whose names have the others: the clock of a link is in any of those above it."""
+        wave = simple()
+        wave.vars = [re.sub(r" ((?:in|out)_\S+)", r" part.deep.\1", line).replace(" clock ", " part.clock ").replace(" reset ", " part.reset ") for line in wave.vars]
+        wave.add("other.clock", 1)
+        self.assertEqual(self.trace(wave, client="top.part.deep.in", manager="top.part.deep.out")[:2], (NEAR, FAR))
+        _, out, _ = self.run_tool(wave.text())
+        self.assertEqual([line.split()[7:9] for line in out[1:3]], [["top.part.clock", "top.part.reset"]] * 2)
 
     def test_packed_structs(self):
         self.assertEqual([sum(bits for _, bits in links.layout_of(text)) for text in (links.H2D, links.D2H)], [109, 66])
@@ -338,6 +365,73 @@ class Sampling(Case):
         said = self.trace(wave.text().replace("#25\n", f"#25\n1{wave.codes['reset'][0]}\n"))[2]
         self.assertIn("reset comes again at time 30", said)
 
+    def test_reset_amid_a_burst(self):
+        """A burst of A or D is cut by a reset: the next request is a new one, and its response is on its lanes."""
+        get = dict(opcode=4, size=2, source=7, address=0x1004)
+        for letter, first in (("a", dict(opcode=0, size=4, source=7, address=0x1000)), ("d", dict(opcode=1, size=4, source=7))):
+            wave = Wave()
+            wave.begin()
+            for time, channel, fields in ((5, letter, first), (45, "a", get), (65, "d", dict(opcode=1, size=2, source=7, data=0xDDCCBBAA << 32 | 0x99))):
+                wave.time(time, reset=0)
+                wave.beat("in", channel, **fields)
+                wave.time(time + 5, clock=1)
+                wave.beat("in", channel, valid=0)
+                wave.time(time + 10, clock=0, reset=int(time == 5))
+                wave.time(time + 15, clock=1)
+                wave.time(time + 18, clock=0)
+            with self.subTest(letter):
+                status, _, said = self.run_tool(wave.text(), "--client", "in", "--manager", "out", "--beats", str(self.folder / "all"))
+                lines = (self.folder / "all.client.beats").read_text().splitlines()
+                self.assertEqual((status, len(lines), lines[-1]), (0, 3, "D 1 0 2 07 00 0 ddccbbaa00000000 0"), said)
+
+    def lanes_of(self, *cycles):
+        """The data of the beats of D, if each of these cycles has a request, a response or both on the client's link; or "reset", or a gap of the dump.
+
+        A request is an address, and a response an opcode, plus 16 if it has 16 bytes. All have one source, and the others have a byte."""
+        wave, time = Wave(), 5
+        wave.begin()
+        for words in cycles:
+            wave.time(time, reset=int(words == "reset"))
+            for word in words if isinstance(words, tuple) else ():
+                if word >= 0x1000:
+                    wave.beat("in", "a", opcode=4, size=0, source=7, address=word, mask=1 << word % 8)
+                else:
+                    wave.beat("in", "d", opcode=word % 16, size=word // 16 * 4, source=7, data=0x0807060504030201)
+            if words == "gap":
+                wave.body += ["$dumpoff", "$end", f"#{time + 1}", "$dumpon", "$end"]
+                wave.change("clock", 0)
+            wave.time(time + 5, clock=1)
+            for channel in "ad":
+                wave.beat("in", channel, valid=0)
+            wave.time(time + 10, clock=0)
+            time += 20
+        status, _, said = self.run_tool(wave.text(), "--client", "in", "--manager", "out", "--beats", str(self.folder / "all"))
+        self.assertEqual(status, 0, said)
+        return [int(line.split()[7], 16) for line in (self.folder / "all.client.beats").read_text().splitlines() if line[0] == "D" and line[2] != "6"]
+
+    def test_what_a_response_answers(self):
+        """No ReleaseAck answers a request, and none waits after a reset or a gap: a response is on the lanes of its own request."""
+        answer, release_ack, burst, first, second, whole = 1, 6, 17, 8 << 56, 2 << 8, 0x0807060504030201
+        for cycles, lanes in ((((0x1007,), (0x2001, answer), (answer,)), [first, second]), (((0x1007,), (release_ack,), (0x2001, answer), (answer,)), [first, second]),
+                              (((0x1007,), "reset", (0x2001, answer), (0x1007, answer)), [second, first]), (((0x1007,), "gap", (0x2001, answer), (0x1007, answer)), [second, first]),
+                              (((0x1007, answer), (0x2001, answer)), [first, second]), (((0x1007,), (answer,), (0x2001, answer)), [first, second]),
+                              (((0x1000,), (burst,), (0x2001, burst), (0x1007, answer), (answer,)), [whole, whole, second, first])):
+            with self.subTest(cycles=cycles):
+                self.assertEqual(self.lanes_of(*cycles), lanes)
+
+    def test_a_clock_that_is_unknown(self):
+        """A clock rises if it becomes 1, also from an unknown level, and not if it becomes unknown."""
+        for levels, count in (("1", 1), ("x", 0), ("z", 0), ("x0", 0), ("1x", 1), ("1x1", 2), ("x1", 1), ("10", 1), ("1x0", 1)):
+            wave = Wave()
+            wave.begin()
+            wave.time(5)
+            wave.beat("in", "a", opcode=4, size=0, source=7, address=0x1000, mask=1)
+            for at, level in enumerate(levels):
+                wave.time(10 + 5 * at, clock=level)
+            with self.subTest(levels=levels):
+                status, out, said = self.run_tool(wave.text())
+                self.assertEqual((status, out[1].split()[-4:-2]), (0, ["A", str(count)]), said)
+
     def test_two_clocks(self):
         wave = Wave(two_clocks=True)
         wave.begin()
@@ -381,6 +475,8 @@ class Sampling(Case):
         wave.vars = [line.replace(" clock ", " fast_clk ") for line in wave.vars]
         wave.add("slow_clk", 1)
         self.refused(wave.text(), "more than one clock is there (top.fast_clk, top.slow_clk)", "--client", "in", "--manager", "out", status=2)
+        status, out, _ = self.run_tool(wave.text())
+        self.assertEqual((status, [line.split()[7] for line in out[1:3]]), (0, ["?", "?"]), out)
 
     def test_clock_that_never_rises(self):
         wave = Wave()
@@ -427,6 +523,14 @@ class Sampling(Case):
                 self.assertEqual(out, lines)
                 self.assertEqual("ends at time" in said, bool(end), said)
                 self.assertIn(end, said)
+
+    def test_from_and_to_of_a_list(self):
+        """The list counts the beats of this time, both ends included."""
+        for words, counts in (((), "A 1 D 1"), (("--from", "10"), "A 1 D 1"), (("--from", "11"), "A 0 D 1"), (("--from", "21"), "A 0 D 0"), (("--to", "20"), "A 1 D 1"),
+                              (("--to", "19"), "A 1 D 0"), (("--to", "9"), "A 0 D 0"), (("--from", "11", "--to", "19"), "A 0 D 0")):
+            with self.subTest(words):
+                status, out, said = self.run_tool(simple().text(), *words)
+                self.assertEqual((status, [line.split()[-4:] for line in out[1:3]]), (0, [counts.split()] * 2), said)
 
     def test_response_in_the_cycle_of_its_request(self):
         wave = Wave()
@@ -528,6 +632,16 @@ class Forms(Case):
         text = wave.text().replace(f"$var wire 32 {code} out_d_data [31:0] $end", "$var wire 16 {l out_d_data [15:0] $end\n$var wire 16 {h out_d_data[31:16] $end")
         text = text.replace(f"b{0xDDCCBBAA:b} {code}\n", f"b{0xDDCC:b} {{h\nb{0xBBAA:b} {{l\n")
         self.check(text)
+
+    def test_parts_that_are_no_vector(self):
+        """Variables of one name are a vector if their ranges follow each other. With a gap, an overlap or another number of bits, the first one counts."""
+        for ranges, bits in ((((31, 16), (15, 0)), 32), (((15, 0), (31, 16)), 32), (((31, 17), (15, 0)), 15), (((31, 15), (15, 0)), 17), (((31, 16), (14, 0)), 16),
+                             (((7, 0), (15, 8), (31, 16)), 32), (((7, 0), (16, 9), (31, 17)), 8)):
+            parts = [vcd.Variable(("top",), "data", high - low + 1, high, low, b"!", "wire") for high, low in ranges]
+            with self.subTest(ranges=ranges):
+                self.assertEqual(links.joined(parts)[("top",), "data"].bits, bits)
+        parts = [vcd.Variable(("top",), "data", 8, high, low, b"!", "wire") for high, low in ((31, 16), (15, 0))]
+        self.assertEqual(links.joined(parts)[("top",), "data"].bits, 8)
 
     def test_short_vectors(self):
         """A vector is extended by 0, or by x where that is its first bit."""
@@ -673,6 +787,23 @@ HOSTILE = {
 }
 
 
+class Failing(io.RawIOBase):
+    """A file whose reads fail after its last byte."""
+
+    def __init__(self, text):
+        self.left = text
+
+    def readable(self):
+        return True
+
+    def readinto(self, buffer):
+        if not self.left:
+            raise OSError(5, "Input/output error")
+        count = min(len(buffer), len(self.left))
+        buffer[:count], self.left = self.left[:count], self.left[count:]
+        return count
+
+
 class Malformed(Case):
     def test_hostile(self):
         self.assertGreaterEqual(len(HOSTILE), 25)
@@ -696,6 +827,9 @@ class Malformed(Case):
         wave = simple()
         code = wave.codes["in", "a", "data"][0]
         self.refused(wave.text().replace(f"$var wire 64 {code} in_a_data [63:0]", f"$var wire 24 {code} in_a_data [23:0]"), "its data signals have", "--client", "in", "--manager", "out", status=2)
+        for width in (3, 5, 12, 256):
+            with self.subTest(width):
+                self.refused(simple(client=width).text().replace("x" * 64, "x"), f"{width} bytes is not a width of a link", "--client", "in", "--manager", "out", status=2)
 
     def test_no_file(self):
         status = None
@@ -709,6 +843,13 @@ class Malformed(Case):
         said = io.StringIO()
         with contextlib.redirect_stderr(said):
             self.assertEqual(command.main([str(self.folder)]), 4)
+
+    def test_a_read_that_fails(self):
+        """A read fails after some bytes, in the header or among the changes: the message names the dump."""
+        text = simple().text().encode()
+        for good in (10, len(text) - 50):
+            with self.subTest(good=good), mock.patch.object(command, "open_wave", return_value=(io.BufferedReader(Failing(text[:good])), None, 0)):
+                self.assertEqual(self.refused(text, "", "--client", "in", "--manager", "out", status=4).splitlines()[-1], f"tlbridge-trace: {self.folder / 'dump.vcd'}: Input/output error")
 
     def test_damaged_gzip(self):
         self.refused(gzip.compress(simple().text().encode())[:200], "ended", "--client", "in", "--manager", "out")

@@ -23,7 +23,7 @@ from typing import Iterator, List, Optional, Tuple
 from .beats import FIELDS
 from .flow import FROM_CLIENT, WIDTHS
 from .judge import Judge, Places, program_of
-from .run import Ended, Failure, Part, Row, Run, shown
+from .run import Ended, Failure, Part, Row, Run, one_line, shown, status_of
 
 PROGRAM = "tlbridge-compare"
 DIGITS = {"opcode": 1, "param": 1, "size": 1, "address": 16, "denied": 1, "corrupt": 1}
@@ -183,7 +183,7 @@ def compare(words: argparse.Namespace) -> int:
 
 
 def note(text: str) -> None:
-    print(f"{PROGRAM}: {text}", file=sys.stderr)
+    print(f"{PROGRAM}: {one_line(text)}", file=sys.stderr)
 
 
 def a_width(text: str) -> int:
@@ -205,17 +205,4 @@ def command_line() -> argparse.ArgumentParser:
 
 
 def main(arguments: Optional[List[str]] = None) -> int:
-    try:
-        return compare(command_line().parse_args(arguments))
-    except Failure as failure:
-        sys.stdout.flush()
-        note(str(failure))
-        return failure.status
-    except BrokenPipeError:
-        sys.stderr.close()
-        return 4
-    except OSError as error:
-        note(f"{error.filename or 'a temporary file'}: {error.strerror}")
-        return 4
-    except KeyboardInterrupt:
-        return 130
+    return status_of(lambda: compare(command_line().parse_args(arguments)), note)

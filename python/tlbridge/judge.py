@@ -89,7 +89,7 @@ def _no_wrapper(path: Path) -> Optional[str]:
     if program is None:
         raise Failure(f"{path} is not built yet: run {path} --version, which proves and builds it, or name the unverified model with "
                       f"--program {path.with_name('tlbridge-model')}", 2)
-    return str(program if program != path.resolve() else path)
+    return str(program if program != path.resolve() else path.absolute())  # (a name without a folder would be searched in PATH)
 
 
 class Fault(Exception):

@@ -5,10 +5,12 @@ gap of the record end a part also while beats are under way. Beats are kept in t
 """
 from __future__ import annotations
 
+import io
 import os
 import shutil
+import sys
 import tempfile
-from typing import IO, Callable, Dict, Iterator, List, Optional, Tuple
+from typing import IO, Callable, Dict, Iterator, List, Optional, TextIO, Tuple, cast
 
 from .beats import CHANNELS
 from .flow import FROM_CLIENT, LinkFlow
@@ -31,6 +33,58 @@ def shown(word: object, most: int = 40) -> str:
     text = word.decode("latin-1") if isinstance(word, bytes) else str(word)
     text = text if len(text) <= most else text[:most] + ".."
     return "".join(letter if " " <= letter <= "~" else f"\\x{ord(letter):02x}" for letter in text)
+
+
+def one_line(text: str) -> str:
+    """Returns a note with its control characters in printable form: the name of a file may have any."""
+    return "".join(letter if letter.isprintable() else f"\\x{ord(letter):02x}" for letter in text)
+
+
+class Output(io.TextIOBase):
+    """Standard output. If it cannot be written, that is a Failure, and the rest of the output is dropped. Nobody reads it: a BrokenPipeError."""
+
+    def __init__(self, stream: TextIO):
+        self._stream = stream
+
+    def write(self, text: str) -> int:
+        try:
+            return self._stream.write(text)
+        except OSError as error:
+            raise self._dropped(error) from error
+
+    def flush(self) -> None:
+        try:
+            self._stream.flush()
+        except OSError as error:
+            raise self._dropped(error) from error
+
+    def _dropped(self, error: OSError) -> Exception:
+        self._stream = open(os.devnull, "w", encoding="utf-8")
+        return error if isinstance(error, BrokenPipeError) else Failure(f"standard output: {error.strerror}", 4)
+
+
+def status_of(command: Callable[[], int], note: Callable[[str], None]) -> int:
+    """Runs a command, and returns its exit status. Each failure has one note."""
+    if sys.stderr is None:  # Python has None for a closed stream, and `print` takes standard output then
+        sys.stderr = open(os.devnull, "w", encoding="utf-8")
+    try:
+        if sys.stdout is None:
+            raise Failure("standard output is closed", 4)
+        sys.stdout = cast(TextIO, Output(sys.stdout))
+        try:
+            return command()
+        finally:
+            sys.stdout.flush()
+    except Failure as failure:
+        note(str(failure))
+        return failure.status
+    except BrokenPipeError:
+        return 4
+    except OSError as error:
+        note(f"{error.filename or 'a temporary file'}: {error.strerror}")
+        return 4
+    except KeyboardInterrupt:
+        return 130
 
 
 class Ended(Exception):

@@ -1,12 +1,12 @@
 """Runs the tests of this folder and of python/tests over the library that TLBRIDGE_LIBRARY names; the last line counts them."""
-import os
 import sys
 import unittest
 from pathlib import Path
 
 HERE = Path(__file__).resolve().parent
 ROOT = HERE.parent.parent
-sys.path[:0] = [str(ROOT / "python"), str(HERE), str(ROOT / "tests" / "cases.d")]
+sys.path[:0] = [str(ROOT / "python"), str(HERE), str(ROOT / "tests" / "cases.d"), str(ROOT / "tests")]
+from limited import outcome  # noqa: E402
 
 
 def each(suite):
@@ -29,9 +29,8 @@ def main(words):
         needs_traces = ".Traces." in test.id()
         if (has_traces or not needs_traces) and (not words or any(word in test.id() for word in words)):
             chosen.addTest(test)
-    result = unittest.TextTestRunner(verbosity=0, failfast="TESTS_FAILFAST" in os.environ).run(chosen)
-    failed = len({test.id().partition(" ")[0] for test, _ in [*result.failures, *result.errors]})
-    print(f"{result.testsRun - failed} passed, {failed} failed")
+    passed, failed = outcome(chosen)
+    print(f"{passed} passed, {failed} failed")
     return failed > 0
 
 

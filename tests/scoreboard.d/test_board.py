@@ -302,6 +302,10 @@ class AtItsEnd(unittest.TestCase):
         begin = "from tlbridge import Beat, Scoreboard; board = Scoreboard(8, 4); "
         for program, error in ((begin + "board.beat('client', 'E', 1, Beat(sink=1))", said),
                                (begin + "board.beat('client', 'E', 1, Beat(sink=1)); del board", said),
+                               (begin + "[board.beat(link, 'E', 1, Beat(sink=at)) for at in range(3) for link in ('client', 'manager')]; "
+                                "[board.beat(link, 'E', 2, Beat(sink=at)) for at in (7, 8) for link in ('client', 'manager')]; "
+                                "board.beat('client', 'E', 3, Beat(sink=1)); board.beat('manager', 'E', 3, Beat(sink=2)); "
+                                "board.beat('client', 'E', 4, Beat(sink=3)); board.beat('manager', 'E', 4, Beat(sink=4))", said.replace("0 differences in 1", "2 differences in 14")),
                                (begin + "board.beat('client', 'E', 1, Beat(sink=1)); board.end()", ""), (begin, "")):
             with self.subTest(program=program):
                 ran = self.run_apart(program)

@@ -51,6 +51,22 @@ class Order(unittest.TestCase):
                 wrong = [*at_once[:at], flipped(at_once[at], "data", 0), *at_once[at + 1:]]
                 self.assertEqual(judged(wrong), (1, [reported(at_once[at], wrong[at])]))
 
+    def test_a_burst_that_waits_goes_on_as_a_whole(self):
+        """A burst uses the source of a request whose response is the last beat. No far beat of the burst comes: each is missing, and no near beat waits."""
+        made = Exchange(8, 4)
+        made.ask(4, 2, 1, source=5)
+        first, made.events = made.events, []
+        made.send("A", made.head("A", 0, 6, source=5))
+        near, far = near_and_far(made.events, "A")
+        for place in (2, 3):  # the burst begins before the response on the manager's link, or after it
+            events = numbered([*first[:place], *near, *first[place:]])
+            begin = next(event for event in events if event.number == 1 and event.channel == "A")
+            with self.subTest(place=place):
+                self.assertEqual(judged(events), (2, [
+                    f"time {begin.time}: near A beat 1: source 0005: {fault_said(8)}",
+                    f"time {events[-1].time}: far A beat 1: {head_said(far[0])}: expected but missing; {len(far) - 1} more are missing",
+                    f"time {begin.time}: outstanding: near A beat 1, source 0005, has no response"]))
+
     def test_a_source_that_waits_for_its_response(self):
         (a, a2), (far_a, far_a2), (d, d2), (far_d, far_d2) = self.parts(2)
         order = numbered([a, far_a, d, far_a2, a2, d2, far_d2, far_d])
@@ -140,6 +156,16 @@ class Sources(unittest.TestCase):
         self.assertEqual(board.lines[0], f"time 10: near D beat 0: source 1234: {fault_said(9)}")
         board.end()
 
+    def test_far_beats_in_the_cycle_of_a_fault(self):
+        """A far beat of another source, in the cycle of a request or a response that comes too early on its link, hides nothing, whichever comes first."""
+        opened = [self.get(10), self.get(20, source=0x5678, number=1), self.get(30, link=MANAGER), self.data(40)]
+        busy = [self.get(50, 2, source=0x5678), self.data(50, link=CLIENT)]
+        early = [self.data(50, 1, source=0x9999), self.get(50, 1, link=MANAGER, source=0x5678)]
+        for pair, said in ((busy, f"time 50: near A beat 2: source 5678: {fault_said(8)}"), (early, f"time 50: near D beat 1: source 9999: {fault_said(9)}")):
+            for at_once in (pair, pair[::-1]):
+                with self.subTest(said=said, far_first=at_once[0].is_far):
+                    self.assertEqual([line for line in judged([*opened, *at_once])[1] if ": source " in line and "outstanding" not in line], [said])
+
     def test_both_ends_of_the_sources(self):
         for source in (0, 0xFF, 0x100, 0x7FFF, 0x8000, 0xFFFF):
             events = [self.get(10, source=source), self.get(20, link=MANAGER, source=source), self.data(30, source=source), self.data(40, link=CLIENT, source=source),
@@ -167,6 +193,8 @@ class Sources(unittest.TestCase):
                         f"time 60: near D beat 0: source 1234: {fault_said(9)}",
                         f"time 60: near D beat 0: {head_said(self.data(60))}: waits: {fault_said(9)}"])
                     self.assertEqual(judged([*before, self.get(60), self.get(70, link=MANAGER)])[1][-1], "time 60: outstanding: near A beat 0, source 1234, has no response")
+                    wrong = with_value(self.data(60), "param", 3)
+                    self.assertIn(refused_said(wrong, 2, ", param 3"), judged([*before, wrong])[1])
 
     def test_the_lanes_of_a_response(self):
         """They are those of its request, whatever other channels have the same source."""
@@ -476,6 +504,26 @@ class Faults(unittest.TestCase):
             with self.subTest(channel=channel, names=names):
                 lines = [line for line in judged(wrong)[1] if "outstanding" not in line and "NoRequest" not in line]
                 self.assertEqual(lines, [refused_said(wrong[at], 7)])
+
+    def test_the_last_beat_slips_to_the_next_message(self):
+        """The last beat of a burst has the head of the message after it, on both links or on the near one: only this beat is refused."""
+        for channel, opcode, name in (("B", 2, "address"), ("B", 2, "source"), ("C", 7, "address"), ("C", 7, "param")):
+            made = Exchange(8, 4)
+            head = {**made.head(channel, opcode, 6), "param": 0}
+            next_head = self.changed(head, [name])
+            made.send(channel, head)
+            at = of(made.events, channel, far=False)[-1]
+            far = traffic.far_of(made.events, at)[-1 if channel == "B" else -2:]  # those with bytes of the last near beat
+            made.send(channel, next_head)
+            for slipped in ((at,), (at, *far)):
+                events = [replace(event, head=next_head) if i in slipped else event for i, event in enumerate(made.events)]
+                with self.subTest(channel=channel, name=name, far_beats=len(slipped) - 1):
+                    near_first = numbered([*(event for event in events if not event.is_far), *(event for event in events if event.is_far)])
+                    for order in (events, near_first):
+                        said = [refused_said(next(event for event in order if (event.is_far, event.number) == (False, events[at].number)), 7)]
+                        self.assertEqual(judged(order), (1, said))
+                        wrong = flipped(order[-1], "data", 0)
+                        self.assertEqual(judged([*order[:-1], wrong]), (2, [*said, reported(order[-1], wrong)]))
 
     def test_a_burst_that_is_cut(self):
         """Another message begins in a burst, with two other fields (on A, also another source): its far beats are judged."""

@@ -11,14 +11,14 @@ LINK is a name from the list, or its end after a dot. DUMP may be `-` for a VCD 
 from __future__ import annotations
 
 import argparse
-import os
+import contextlib
 import sys
-from typing import IO, Callable, Dict, List, Optional, Sequence, Set, Tuple
+from typing import IO, Callable, Dict, Iterator, List, Optional, Sequence, Set, Tuple
 
 from ..beats import CHANNELS, FIELDS
 from ..flow import FROM_CLIENT, WIDTHS
 from ..judge import Judge, Places, program_of
-from ..run import MOST_BYTES, Ended, Failure, Part, Row, Run
+from ..run import LINKS, MOST_BYTES, Ended, Failure, Part, Row, Run, one_line, status_of
 from .links import Layout, Link, Signals, adopt_clock, by_pattern, choose, find_clocks, find_links, is_wanted, layout_of, names_of_pattern
 from .page import Notes, Pages, tlexplain_of, too_long
 from .sampling import Count, Sampler, Watch
@@ -36,7 +36,7 @@ exit status:
 
 
 def note(text: str) -> None:
-    print(f"{PROGRAM}: {text}", file=sys.stderr)
+    print(f"{PROGRAM}: {one_line(text)}", file=sys.stderr)
 
 
 def nothing(text: str) -> None:
@@ -307,26 +307,41 @@ class WavePlaces(Places):
         return int(row.place)
 
 
+@contextlib.contextmanager
+def writing(path: str) -> Iterator[None]:
+    """A failed write of this file is a Failure with its name."""
+    try:
+        yield
+    except OSError as error:
+        raise Failure(f"{path}: {error.strerror}", 4) from error
+
+
 class MonitorRun(Run):
     """A run that also writes all beats as tl_trace_monitor does."""
 
     files: List[Tuple[IO[str], IO[str]]] = []
+    stem = ""
 
     def beat(self, link: int, line: str, time: Optional[int], place: str) -> None:
         if self.files:
             beats, times = self.files[link]
-            beats.write(line + "\n")
-            times.write(f"{time}\n")
+            with writing(f"{self.stem}.{LINKS[link]}.beats"):
+                beats.write(line + "\n")
+                times.write(f"{time}\n")
         super().beat(link, line, time, place)
 
     def open_files(self, stem: str) -> None:
-        self.files = [(open(f"{stem}.{side}.beats", "w", encoding="ascii"), open(f"{stem}.{side}.beats.times", "w", encoding="ascii"))
-                      for side in ("client", "manager")]
+        self.stem = stem
+        for side in LINKS:
+            path = f"{stem}.{side}.beats"
+            with writing(path):
+                self.files = [*self.files, (open(path, "w", encoding="ascii"), open(f"{path}.times", "w", encoding="ascii"))]
 
     def close(self) -> None:
-        for pair in self.files:
+        for pair, side in zip(self.files, LINKS):
             for file in pair:
-                file.close()
+                with writing(f"{self.stem}.{side}.beats"):
+                    file.close()
         super().close()
 
 
@@ -344,7 +359,7 @@ class Outputs:
             self._tell(part, end)
         for path, write in ((words.trace, part.write_trace), (words.times, part.write_times), (words.far, part.write_far)):
             if path:
-                with open(path + end, "w", encoding="ascii") as out:
+                with writing(path + end), open(path + end, "w", encoding="ascii") as out:
                     write(out)
         if self.is_trace_shown and part.number == 1:
             part.write_trace(sys.stdout)
@@ -429,8 +444,8 @@ def write_pages(pages: Pages, source: str, unit: str, notes: Sequence[str], is_q
             note(text)
 
 
-def main(arguments: Optional[Sequence[str]] = None) -> int:
-    words = command_line().parse_args(arguments)
+def lists_or_writes(words: argparse.Namespace) -> int:
+    """Lists the links of a dump, or writes or judges its beats. Returns the exit status."""
     reader = None
     try:
         sides, renamed = sides_of(words), renamed_of(words)
@@ -444,18 +459,10 @@ def main(arguments: Optional[Sequence[str]] = None) -> int:
         if sides:
             return trace(words, sides, reader, links, signals, renamed)
         return list_links(words, reader, links, signals)
-    except BrokenPipeError:
-        os.dup2(os.open(os.devnull, os.O_WRONLY), 1)
-        return 4
-    except KeyboardInterrupt:
-        return 130
-    except Failure as failure:
-        sys.stdout.flush()
-        note(str(failure))
-        return failure.status
-    except OSError as error:
-        note(f"{error.filename or words.dump}: {error.strerror}")
-        return 4
     finally:
         if reader is not None:
             reader.close()
+
+
+def main(arguments: Optional[Sequence[str]] = None) -> int:
+    return status_of(lambda: lists_or_writes(command_line().parse_args(arguments)), note)

@@ -63,6 +63,8 @@ def open_wave(path: str) -> Tuple[IO[bytes], Feeder, int]:
 
     Returns the stream, the process that feeds it, and its size in bytes, if that is known.
     """
+    if path == "-" and sys.stdin is None:
+        raise Failure("standard input is closed", 4)
     if path == "-":
         return sys.stdin.buffer, None, 0
     try:
