@@ -2,8 +2,9 @@
 ghost use Rattle.std.specs.Prelude.{ℕ, List};
 ghost use Rattle.tl_offer.specs.declared.offered.Offered.{Offered};
 ghost use Rattle.tl_offer.specs.Widths.{AreWidths};
-ghost use Rattle.tl_offer.specs.Offering.{OffersNext, on_bridge_a, on_bridge_b, on_bridge_c, on_bridge_d, on_bridge_e};
-ghost use Rattle.tl_offer.specs.Offering.{on_side_a, on_side_b, on_side_c, on_side_d, on_side_e};
+ghost use Rattle.tl_offer.specs.Offering.{OffersNext};
+ghost use Rattle.tl_sides.specs.Bridges.{bridge_sends_a, bridge_sends_b, bridge_sends_c, bridge_sends_d, bridge_sends_e};
+ghost use Rattle.tl_sides.specs.Sides.{side_sends_a, side_sends_b, side_sends_c, side_sends_d, side_sends_e};
 
 use crate::offered::Offered;
 use tl_msg::{BeatOf, HeadA, HeadB, HeadC, HeadD, HeadE};
@@ -44,7 +45,7 @@ pub trait Offers<B> {
 impl<const C: usize, const M: usize> Offers<BeatOf<HeadA, C>> for SyncBridge<C, M> {
     ghost CanOffer = { AreWidths C M };
 
-    ghost Becomes = { OffersNext on_bridge_a };
+    ghost Becomes = { OffersNext bridge_sends_a };
 
     fn offer_next(&mut self, beats: &[BeatOf<HeadA, C>], at: usize) -> Offered {
         next_offer!(self, beats, at, ready_a, offer_a, close_a)
@@ -54,7 +55,7 @@ impl<const C: usize, const M: usize> Offers<BeatOf<HeadA, C>> for SyncBridge<C, 
 impl<const C: usize, const M: usize> Offers<BeatOf<HeadB, M>> for SyncBridge<C, M> {
     ghost CanOffer = { AreWidths C M };
 
-    ghost Becomes = { OffersNext on_bridge_b };
+    ghost Becomes = { OffersNext bridge_sends_b };
 
     fn offer_next(&mut self, beats: &[BeatOf<HeadB, M>], at: usize) -> Offered {
         next_offer!(self, beats, at, ready_b, offer_b, close_b)
@@ -64,7 +65,7 @@ impl<const C: usize, const M: usize> Offers<BeatOf<HeadB, M>> for SyncBridge<C, 
 impl<const C: usize, const M: usize> Offers<BeatOf<HeadC, C>> for SyncBridge<C, M> {
     ghost CanOffer = { AreWidths C M };
 
-    ghost Becomes = { OffersNext on_bridge_c };
+    ghost Becomes = { OffersNext bridge_sends_c };
 
     fn offer_next(&mut self, beats: &[BeatOf<HeadC, C>], at: usize) -> Offered {
         next_offer!(self, beats, at, ready_c, offer_c, close_c)
@@ -74,7 +75,7 @@ impl<const C: usize, const M: usize> Offers<BeatOf<HeadC, C>> for SyncBridge<C, 
 impl<const C: usize, const M: usize> Offers<BeatOf<HeadD, M>> for SyncBridge<C, M> {
     ghost CanOffer = { AreWidths C M };
 
-    ghost Becomes = { OffersNext on_bridge_d };
+    ghost Becomes = { OffersNext bridge_sends_d };
 
     fn offer_next(&mut self, beats: &[BeatOf<HeadD, M>], at: usize) -> Offered {
         next_offer!(self, beats, at, ready_d, offer_d, close_d)
@@ -84,7 +85,7 @@ impl<const C: usize, const M: usize> Offers<BeatOf<HeadD, M>> for SyncBridge<C, 
 impl<const C: usize, const M: usize> Offers<BeatOf<HeadE, C>> for SyncBridge<C, M> {
     ghost CanOffer = { AreWidths C M };
 
-    ghost Becomes = { OffersNext on_bridge_e };
+    ghost Becomes = { OffersNext bridge_sends_e };
 
     fn offer_next(&mut self, beats: &[BeatOf<HeadE, C>], at: usize) -> Offered {
         next_offer!(self, beats, at, ready_e, offer_e, close_e)
@@ -94,7 +95,7 @@ impl<const C: usize, const M: usize> Offers<BeatOf<HeadE, C>> for SyncBridge<C, 
 impl<const C: usize, const M: usize> Offers<BeatOf<HeadA, C>> for ClientSide<C, M> {
     ghost CanOffer = { AreWidths C M };
 
-    ghost Becomes = { OffersNext on_side_a };
+    ghost Becomes = { OffersNext side_sends_a };
 
     fn offer_next(&mut self, beats: &[BeatOf<HeadA, C>], at: usize) -> Offered {
         next_offer!(self, beats, at, ready_a, offer_a, close_a)
@@ -104,7 +105,7 @@ impl<const C: usize, const M: usize> Offers<BeatOf<HeadA, C>> for ClientSide<C, 
 impl<const C: usize, const M: usize> Offers<BeatOf<HeadC, C>> for ClientSide<C, M> {
     ghost CanOffer = { AreWidths C M };
 
-    ghost Becomes = { OffersNext on_side_c };
+    ghost Becomes = { OffersNext side_sends_c };
 
     fn offer_next(&mut self, beats: &[BeatOf<HeadC, C>], at: usize) -> Offered {
         next_offer!(self, beats, at, ready_c, offer_c, close_c)
@@ -114,7 +115,7 @@ impl<const C: usize, const M: usize> Offers<BeatOf<HeadC, C>> for ClientSide<C, 
 impl<const C: usize, const M: usize> Offers<BeatOf<HeadE, C>> for ClientSide<C, M> {
     ghost CanOffer = { AreWidths C M };
 
-    ghost Becomes = { OffersNext on_side_e };
+    ghost Becomes = { OffersNext side_sends_e };
 
     fn offer_next(&mut self, beats: &[BeatOf<HeadE, C>], at: usize) -> Offered {
         next_offer!(self, beats, at, ready_e, offer_e, close_e)
@@ -124,7 +125,7 @@ impl<const C: usize, const M: usize> Offers<BeatOf<HeadE, C>> for ClientSide<C, 
 impl<const C: usize, const M: usize> Offers<BeatOf<HeadB, M>> for ManagerSide<C, M> {
     ghost CanOffer = { AreWidths C M };
 
-    ghost Becomes = { OffersNext on_side_b };
+    ghost Becomes = { OffersNext side_sends_b };
 
     fn offer_next(&mut self, beats: &[BeatOf<HeadB, M>], at: usize) -> Offered {
         next_offer!(self, beats, at, ready_b, offer_b, close_b)
@@ -134,7 +135,7 @@ impl<const C: usize, const M: usize> Offers<BeatOf<HeadB, M>> for ManagerSide<C,
 impl<const C: usize, const M: usize> Offers<BeatOf<HeadD, M>> for ManagerSide<C, M> {
     ghost CanOffer = { AreWidths C M };
 
-    ghost Becomes = { OffersNext on_side_d };
+    ghost Becomes = { OffersNext side_sends_d };
 
     fn offer_next(&mut self, beats: &[BeatOf<HeadD, M>], at: usize) -> Offered {
         next_offer!(self, beats, at, ready_d, offer_d, close_d)

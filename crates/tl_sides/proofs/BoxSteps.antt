@@ -1,13 +1,13 @@
 -- The properties that an offer, a close and a take keep for the box that they are made to.
-use Rattle.std.proofs.Common.{◌≡◌, ◌↔◌, ◌++◌, ◌∷◌, [], ℕ, true, List, Option, Some, Result, Ok, Err, take, drop, refl, sym, subst, ap, ◌∙◌}
+use Rattle.std.proofs.Common.{◌≡◌, ◌↔◌, ◌++◌, ◌∷◌, [], ℕ, true, false, List, Option, Some, Result, Ok, Err, length, take, drop, sym, subst, ap, ◌∙◌, append-nil}
 use Rattle.std.specs.Prelude.{IfOk, IfErr, IfSome, IsOk, OnOk, OnErr, slice_get}
-use Rattle.tl_sides.proofs.Words.{Rules, rules_a, rules_b, rules_c, rules_d, rules_e, HeadA, HeadB, HeadC, HeadD, HeadE, BeatOf, left, IsPlaceOf}
-use Rattle.tl_sides.proofs.Words.{fault_after, homes_with, rest_of, Place, left-zero, Outgoing, HasSent, HasTaken, as_sent, Event, Ask, Answer, asked}
-use Rattle.tl_sides.proofs.Words.{answered, manager_home, manager_homes, answered_answer, BeatFault, EndFault, IsLawfulBeat}
-use Rattle.tl_settle.specs.Books.{IsChecked}
-use Rattle.tl_sides.proofs.BridgeSteps.{homes_given, home_given}
-use Rattle.tl_sides.specs.Calls.{ClosesChannel, TakesBeat}
-use Rattle.tl_sides.specs.Ports.{inbox_takes, outbox_sends}
+use Rattle.tl_sides.proofs.Words.{Rules, rules_d, HeadD, BeatOf, left, IsPlaceOf, fault_after, homes_with, rest_of, due, Place, left-zero}
+use Rattle.tl_sides.proofs.Words.{Outgoing, HasSent, HasTaken, IsOpen, as_sent, World, offered, shut, drop-append_seam, Event, answered, manager_home}
+use Rattle.tl_sides.proofs.Words.{BeatFault, SideFault, EndFault, IsLawfulBeat}
+use Rattle.tl_settle.specs.Books.{Admits, Deciding, IsChecked}
+use Rattle.tl_sides.proofs.BridgeSteps.{home_given}
+use Rattle.tl_sides.specs.Calls.{OffersBeat, ClosesChannel, TakesBeat}
+use Rattle.tl_sides.specs.Ports.{BookedAway, SentBooked, SentBy, booked_sends, inbox_takes, outbox_sends}
 
 -- the result of an outbox's check holds for the beats that it accepted
 pub checked_in : {K H : Type 0} (r : Rules H) {w v : ℕ} (o : Outgoing H v) (bs : List (BeatOf H w)) (homes : List ℕ) (sent : List (BeatOf H v))
@@ -26,18 +26,85 @@ pub between_of : {H : Type 0} (r : Rules H) {w v : ℕ} (o : Outgoing H v) (bs :
     HasSent r o bs homes sent → (left r w bs ≡ 0) ↔ (rest_of r w bs ≡ [])
 between_of r {w} o bs homes sent h = let (ms, rest, handed) = h.converter.handed in left-zero r w handed
 
+-- an outbox that sent what a crossing shows is closed as it is
+pub still_open : {H : Type 0} {r : Rules H} {w v : ℕ} {o : Outgoing H v} {x : World H w v} → SentBy r o x → x.closed ≡ false → o.closed ≡ false
+still_open h open_still = sym (ap (λ z. z.closed) h.is) ∙ open_still
+
+-- an open outbox accepts a beat
+pub sent_offered : {H : Type 0} (r : Rules H) {w v : ℕ} (o o' : Outgoing H v) (x : World H w v) (b : BeatOf H w) (home : ℕ) → IsOpen o →
+    o'.closed ≡ false → SentBy r o x → HasSent r o' (x.accepted ++ b ∷ []) (homes_with r x.accepted x.homes b home) x.taken →
+    SentBy r o' (offered r b home x)
+sent_offered r {w} {v} o o' x b home ready still h h' =
+    let before : due r w v x.accepted x.homes ≡ x.taken = sym h.sent.beats ∙ ap (λ t. x.taken ++ t) ready.0 ∙ append-nil x.taken in
+    let staged : o'.stage ≡ drop (length (due r w v x.accepted x.homes)) (due r w v (x.accepted ++ b ∷ []) (homes_with r x.accepted x.homes b home)) =
+    sym (drop-append_seam (due r w v x.accepted x.homes) o'.stage) ∙
+    ap (λ t. drop (length (due r w v x.accepted x.homes)) t) (ap (λ t. t ++ o'.stage) before ∙ h'.beats) in record {
+      sent = h';
+      is = λ i. record {
+        room = x.room;
+        accepted = x.accepted ++ b ∷ [];
+        homes = homes_with r x.accepted x.homes b home;
+        stage = sym staged i;
+        ring = ap (λ z. z.ring) h.is i;
+        inbox = ap (λ z. z.inbox) h.is i;
+        taken = x.taken;
+        closed = (ap (λ z. z.closed) h.is ∙ ready.1 ∙ sym still) i;
+      };
+    }
+
 -- a beat of D is accepted with the home that the book returned, which is the history's if one is read
-pub answered_with : {C M : ℕ} (es : List (Event M)) (o o' : Outgoing HeadD C) (sent : List (BeatOf HeadD C)) (b : BeatOf HeadD M) (home : ℕ) →
-    HasSent rules_d o (answered es) (manager_homes es) sent → (left rules_d M (answered es) ≡ 0 → home ≡ manager_home es b.head) →
-    HasSent rules_d o' (answered es ++ b ∷ []) (homes_with rules_d (answered es) (manager_homes es) b home) sent →
-    HasSent rules_d o' (answered (es ++ Answer b ∷ [])) (manager_homes (es ++ Answer b ∷ [])) sent
-answered_with {C} {M} es o o' sent b home h right h' =
-    let between = between_of rules_d o (answered es) (manager_homes es) sent h in
-    let same = ap (λ y. y.homes) (home_given (as_sent {w = M} 1 o (answered es) (manager_homes es) sent) b home (manager_home es b.head)
-    between right) in
-    let given = homes_given es b (answered es) (manager_homes es) between refl refl in
-    subst (λ q. HasSent rules_d o' q (manager_homes (es ++ Answer b ∷ [])) sent) (sym (answered_answer es b))
-    (subst (λ q. HasSent rules_d o' (answered es ++ b ∷ []) q sent) (same ∙ sym given) h')
+pub responds : {C M : ℕ} (es : List (Event M)) (o o' : Outgoing HeadD C) (x : World HeadD M C) (b : BeatOf HeadD M) (home : ℕ) → IsOpen o →
+    o'.closed ≡ false → SentBy rules_d o x → answered es ≡ x.accepted → (left rules_d M (answered es) ≡ 0 → home ≡ manager_home es b.head) →
+    HasSent rules_d o' (x.accepted ++ b ∷ []) (homes_with rules_d x.accepted x.homes b home) x.taken →
+    SentBy rules_d o' (offered rules_d b (manager_home es b.head) x)
+responds {M = M} es o o' x b home ready still h accepted right h' = subst (λ y. SentBy rules_d o' y)
+    (home_given x b home (manager_home es b.head) (between_of rules_d o x.accepted x.homes x.taken h.sent)
+    (λ e. right (ap (λ bs. left rules_d M bs) accepted ∙ e))) (sent_offered rules_d o o' x b home ready still h h')
+
+-- a book decides on a beat, which the outbox checked
+module _ {Book K H : Type 0} {w v : ℕ} (k : Deciding Book H w) (AreHomes : List (Event w) → List ℕ → Type 0) (home : List (Event w) → BeatOf H w → ℕ)
+    (o : Outgoing H v) (s : Book) (b : BeatOf H w) (checked : Result (Place K H) BeatFault) (place : IfOk checked (IsPlaceOf k.rules w o.converter.burst b))
+    (stops : (bs : List (BeatOf H w)) (homes : List ℕ) (sent : List (BeatOf H v)) → HasSent k.rules o bs homes sent →
+    IfErr checked (λ fault. fault_after k.rules bs b ≡ Some fault)) where
+  pub booked_checked : (x : BookedAway H w v) → SentBooked k AreHomes (record { box = o; book = s }) x →
+      IsChecked k.rules (k.accepted x.history) b checked
+  booked_checked x h = subst (λ bs. IsChecked k.rules bs b checked) (sym h.accepted)
+      (checked_in k.rules o x.crossing.accepted x.crossing.homes x.crossing.taken b checked h.box.sent place
+      (stops x.crossing.accepted x.crossing.homes x.crossing.taken h.box.sent))
+
+  pub book_refuses : {T : Type 0} (s' : Book) (fault : SideFault) → Admits {T = T} k checked s (Err fault) s' →
+      OffersBeat (booked_sends k AreHomes home) b (record { box = o; book = s }) (Err fault) (record { box = o; book = s' })
+  book_refuses s' fault said = record {
+    admitted = λ x h. said.admitted x.history b h.book (booked_checked x h);
+    accepted = λ x h. tt;
+    fault = λ x h. said.fault x.history b h.book (booked_checked x h);
+    refused = ap (λ book. record { box = o; book = book }) said.refused;
+    rest = tt;
+  }
+
+  pub book_accepts : {T : Type 0} (s' : Book) (given : T) (o' : Outgoing H v) → Admits k checked s (Ok given) s' →
+      ((es : List (Event w)) → k.accepted (es ++ k.event b ∷ []) ≡ k.accepted es ++ b ∷ []) →
+      ((x : BookedAway H w v) → SentBooked k AreHomes (record { box = o; book = s }) x → SentBy k.rules o' (offered k.rules b (home x.history b) x.crossing)) →
+      ((x : BookedAway H w v) → SentBooked k AreHomes (record { box = o; book = s }) x →
+      AreHomes (x.history ++ k.event b ∷ []) (homes_with k.rules x.crossing.accepted x.crossing.homes b (home x.history b))) →
+      OffersBeat (booked_sends k AreHomes home) b (record { box = o; book = s }) (Ok tt) (record { box = o'; book = s' })
+  book_accepts s' given o' said grows sends homes = record {
+    admitted = λ x h. said.admitted x.history b h.book (booked_checked x h);
+    accepted = λ x h. record {
+      box = sends x h;
+      accepted = grows x.history ∙ ap (λ bs. bs ++ b ∷ []) h.accepted;
+      homes = homes x h;
+      book = said.noted x.history b h.book (booked_checked x h);
+    };
+    fault = λ x h. tt;
+    refused = tt;
+    rest = tt;
+  }
+
+-- two properties of a success show a third
+both_ok : {T E P Q R : Type 0} (answer : Result T E) → (P → Q → R) → OnOk answer P → OnOk answer Q → OnOk answer R
+both_ok (Ok _) f p q = f p q
+both_ok (Err _) f p q = tt
 
 -- the contract of an outbox's close, and that of an inbox's take, in the words of a channel
 pub closes_outbox : {H : Type 0} (r : Rules H) (w : ℕ) {v : ℕ} (o o' : Outgoing H v) (answer : Result (Unit {0}) EndFault) → record {
@@ -48,8 +115,9 @@ pub closes_outbox : {H : Type 0} (r : Rules H) (w : ℕ) {v : ℕ} (o o' : Outgo
   refused : OnErr answer (o' ≡ o);
 } → ClosesChannel (outbox_sends r {w = w}) o answer o'
 closes_outbox r w o o' answer said = record {
-  between = λ x h. said.between x.accepted x.homes x.sent h;
-  stands = λ x h. said.stands x.accepted x.homes x.sent h;
+  between = λ x h. said.between x.accepted x.homes x.taken h.sent;
+  stands = λ x h. both_ok answer (λ sent closed. record { sent = sent; is = ap shut h.is ∙ ap (λ q. as_sent x.room q x.accepted x.homes x.taken) (sym closed) })
+      (said.stands x.accepted x.homes x.taken h.sent) said.closed;
   closed = said.closed;
   again = said.again;
   refused = said.refused;

@@ -2,10 +2,10 @@
 use Rattle.std.proofs.Common.{◌≡◌, ◌≤◌, ◌-◌, ◌++◌, ◌∷◌, [], ℕ, true, List, Option, Result, length, map, take, drop, min, refl, sym, subst, ap, ◌∙◌}
 use Rattle.std.proofs.Common.{arith}
 use Rattle.tl_sides.proofs.Words.{Buffer, buffer, Rules, partial_not_c, partial_not_d, rules_a, rules_b, rules_c, rules_d, rules_e, HeadA, HeadB}
-use Rattle.tl_sides.proofs.Words.{HeadC, HeadD, HeadE, BeatOf, homes_with, Outgoing, HasSent, IsOpen, World, offered, pushed, popped, took}
+use Rattle.tl_sides.proofs.Words.{HeadC, HeadD, HeadE, BeatOf, Outgoing, IsOpen, as_sent, World, offered, pushed, popped, took}
 use Rattle.tl_sides.proofs.Words.{inbox_room, STAGE_CAPACITY, stands_new, stands_offered, stands_pushed, stands_popped, stands_took, stands_emptied}
-use Rattle.tl_sides.proofs.Words.{stands_shut, Event, Ask, Answer, asked, answered, manager_home, manager_homes, asked_ask, asked_answer}
-use Rattle.tl_sides.proofs.Words.{answered_ask, answered_answer, SideFault, EndFault}
+use Rattle.tl_sides.proofs.Words.{stands_shut, Ask, Answer, manager_home, asked_answer}
+use Rattle.tl_sides.proofs.Words.{answered_ask, SideFault, EndFault}
 use Rattle.tl_settle.specs.Books.{Client, Manager, KnowsClient, KnowsManager}
 use Rattle.tl_sides.specs.Bridges.{Bridge, Past, StandsFor, nothing_yet}
 use Rattle.tl_sides.specs.Bridges.{bridge_sends_a, bridge_sends_b, bridge_sends_c, bridge_sends_d, bridge_sends_e, bridge_takes_a, bridge_takes_b}
@@ -13,7 +13,7 @@ use Rattle.tl_sides.specs.Bridges.{bridge_takes_c, bridge_takes_d, bridge_takes_
 use Rattle.tl_sides.specs.Bridges.{pump_count, fetch_count}
 use Rattle.tl_sides.specs.ChannelCalls as calls
 use Rattle.tl_sides.proofs.Passing.{is_pumped, is_fetched}
-use Rattle.tl_sides.proofs.BridgeSteps.{Moves, with_a, with_b, with_c, with_d, with_e, client_goes_on, manager_goes_on, homes_given, asked_answers}
+use Rattle.tl_sides.proofs.BridgeSteps.{Moves, with_a, with_b, with_c, with_d, with_e, client_goes_on, manager_goes_on, asked_answers}
 use Rattle.tl_sides.proofs.BridgeSteps.{answered_asks, homes_asks}
 use Rattle.tl_convert.proofs.Extends.{extends-refl}
 use Rattle.tl_settle.proofs.Obeys.{obeys_none, obeys_ask, obeys_answer}
@@ -22,11 +22,11 @@ use Rattle.tl_sides.proofs.Draining.{answered-all, asked-all}
 use Rattle.tl_sides.specs.ChannelCalls.{after_take_all}
 use Rattle.tl_sides.specs.Calls.{OffersBeat, ClosesChannel, TakesBeat}
 use Rattle.tl_sides.proofs.Lifting.{offer_lifted, close_lifted, take_lifted}
-use Rattle.tl_sides.specs.Ports.{ClientNow, ClientIsNew, ManagerNow, ManagerIsNew, Away, Hither, Booked, outbox_sends, inbox_takes}
+use Rattle.tl_sides.specs.Ports.{ClientNow, ClientIsNew, ManagerNow, ManagerIsNew, Hither, Booked, outbox_sends, inbox_takes}
 use Rattle.tl_sides.specs.Ports.{sends_requests, sends_responses, takes_requests, takes_responses}
 use Rattle.tl_sides.specs.Joining.{pipe_of, bridge_of}
 use Rattle.tl_sides.specs.declared.sync_bridge.SyncBridge.TheInside.{Inside}
-use Rattle.tl_sides.proofs.BoxSteps.{between_of}
+use Rattle.tl_sides.proofs.BoxSteps.{still_open}
 
 -- on every channel only rules with masks have a beat whose mask may be partial
 pub masked_a : (h : HeadA) → rules_a.partial h ≡ true → rules_a.masked ≡ true
@@ -48,8 +48,8 @@ masked_e h e = e
 abbrev pub sent_of : {H : Type 0} {w v : ℕ} → World H w v → List (BeatOf H v)
 sent_of x = x.taken ++ x.inbox ++ x.ring
 
-abbrev pub away_of : {H : Type 0} {w v : ℕ} → World H w v → Away H w v
-away_of x = record { accepted = x.accepted; homes = x.homes; sent = sent_of x }
+abbrev pub away_of : {H : Type 0} {w v : ℕ} → Outgoing H v → World H w v → World H w v
+away_of o x = as_sent x.room o x.accepted x.homes (sent_of x)
 
 abbrev pub hither_of : {H : Type 0} {w v : ℕ} → World H w v → Hither H v
 hither_of x = record { received = x.taken ++ x.inbox; taken = x.taken }
@@ -126,61 +126,48 @@ module _ {A : Type 0} {C M : ℕ} (q : Inside C M A) where
   pub bridge_offers_a : (s : Booked (Outgoing HeadA M) Client) (y : BeatOf HeadA C) (r : Result (Unit {0}) SideFault) → IsOpen q.client.a →
       OffersBeat sends_requests y (record { box = q.client.a; book = q.client.book }) r s → OffersBeat bridge_sends_a y (as_bridge q) r (with_request s)
   bridge_offers_a s y r ready = offer_lifted sends_requests bridge_sends_a with_request
-      (λ x. record { history = x.client; homes = x.a.homes; sent = sent_of x.a }) (record { box = q.client.a; book = q.client.book }) s
-      (λ x h. (subst (λ z. HasSent rules_a q.client.a z x.a.homes (sent_of x.a)) (sym h.client_asked) h.a.outbox, h.client)) y r
-      (λ x. refl) (λ k. refl)
-      (λ x h fine k stands.
-      let more : List (BeatOf HeadA C) = x.a.accepted ++ y ∷ [] in
-      let same : asked (x.client ++ Ask y ∷ []) ≡ more = asked_ask x.client y ∙ ap (λ z. z ++ y ∷ []) h.client_asked in
-      let sent = subst (λ z. HasSent rules_a s.box more (homes_with rules_a z x.a.homes y 0) (sent_of x.a)) h.client_asked
-      (subst (λ z. HasSent rules_a s.box z (homes_with rules_a (asked x.client) x.a.homes y 0) (sent_of x.a)) same stands.0) in
-      client_goes_on (as_bridge q) x h (pipe_of s.box q.a q.manager.a) (pipe_of q.manager.d q.d q.client.d) s.book
+      (λ x. record { history = x.client; crossing = away_of q.client.a x.a }) (record { box = q.client.a; book = q.client.book }) s
+      (λ x h. record { box = record { sent = h.a.outbox; is = refl }; accepted = h.client_asked; homes = tt; book = h.client }) y r
+      (λ x. refl) refl
+      (λ x h fine stands. client_goes_on (as_bridge q) x h (pipe_of s.box q.a q.manager.a) (pipe_of q.manager.d q.d q.client.d) s.book
       (x.client ++ Ask y ∷ []) (offered rules_a y 0 x.a) x.d
-      (stands_offered rules_a masked_a (pipe_of q.client.a q.a q.manager.a) x.a y 0 s.box ready.0 ready.1 k sent h.a) h.d same
-      (answered_ask x.client y ∙ h.client_answered) stands.1 (obeys_ask x.client y h.client_obeys fine) refl (refl, refl))
+      (stands_offered rules_a masked_a (pipe_of q.client.a q.a q.manager.a) x.a y 0 s.box ready.0 ready.1 (still_open stands.box ready.1)
+      stands.box.sent h.a) h.d stands.accepted (answered_ask x.client y ∙ h.client_answered) stands.book
+      (obeys_ask x.client y h.client_obeys fine) refl (refl, refl))
 
   pub bridge_offers_b : (o : Outgoing HeadB C) (y : BeatOf HeadB M) (r : Result (Unit {0}) SideFault) → IsOpen q.manager.b →
       OffersBeat (outbox_sends rules_b) y q.manager.b r o → OffersBeat bridge_sends_b y (as_bridge q) r (with_outbox_b o)
-  bridge_offers_b o y r ready = offer_lifted (outbox_sends rules_b) bridge_sends_b with_outbox_b (λ x. away_of x.b) q.manager.b o (λ x h. h.b.outbox) y r
-      (λ x. refl) (λ k. refl)
-      (λ x h fine k stands. with_b (as_bridge q) x h (pipe_of o q.b q.client.b) (offered rules_b y 0 x.b)
-      (stands_offered rules_b masked_b (pipe_of q.manager.b q.b q.client.b) x.b y 0 o ready.0 ready.1 k stands h.b))
+  bridge_offers_b o y r ready = offer_lifted (outbox_sends rules_b) bridge_sends_b with_outbox_b (λ x. away_of q.manager.b x.b) q.manager.b o
+      (λ x h. record { sent = h.b.outbox; is = refl }) y r (λ x. refl) refl
+      (λ x h fine stands. with_b (as_bridge q) x h (pipe_of o q.b q.client.b) (offered rules_b y 0 x.b)
+      (stands_offered rules_b masked_b (pipe_of q.manager.b q.b q.client.b) x.b y 0 o ready.0 ready.1 (still_open stands ready.1) stands.sent h.b))
 
   pub bridge_offers_c : (o : Outgoing HeadC M) (y : BeatOf HeadC C) (r : Result (Unit {0}) SideFault) → IsOpen q.client.c →
       OffersBeat (outbox_sends rules_c) y q.client.c r o → OffersBeat bridge_sends_c y (as_bridge q) r (with_outbox_c o)
-  bridge_offers_c o y r ready = offer_lifted (outbox_sends rules_c) bridge_sends_c with_outbox_c (λ x. away_of x.c) q.client.c o (λ x h. h.c.outbox) y r
-      (λ x. refl) (λ k. refl)
-      (λ x h fine k stands. with_c (as_bridge q) x h (pipe_of o q.c q.manager.c) (offered rules_c y 0 x.c)
-      (stands_offered rules_c masked_c (pipe_of q.client.c q.c q.manager.c) x.c y 0 o ready.0 ready.1 k stands h.c))
+  bridge_offers_c o y r ready = offer_lifted (outbox_sends rules_c) bridge_sends_c with_outbox_c (λ x. away_of q.client.c x.c) q.client.c o
+      (λ x h. record { sent = h.c.outbox; is = refl }) y r (λ x. refl) refl
+      (λ x h fine stands. with_c (as_bridge q) x h (pipe_of o q.c q.manager.c) (offered rules_c y 0 x.c)
+      (stands_offered rules_c masked_c (pipe_of q.client.c q.c q.manager.c) x.c y 0 o ready.0 ready.1 (still_open stands ready.1) stands.sent h.c))
 
   pub bridge_offers_d : (s : Booked (Outgoing HeadD C) Manager) (y : BeatOf HeadD M) (r : Result (Unit {0}) SideFault) → IsOpen q.manager.d →
       OffersBeat sends_responses y (record { box = q.manager.d; book = q.manager.book }) r s → OffersBeat bridge_sends_d y (as_bridge q) r (with_response s)
   bridge_offers_d s y r ready = offer_lifted sends_responses bridge_sends_d with_response
-      (λ x. record { history = x.manager; sent = sent_of x.d }) (record { box = q.manager.d; book = q.manager.book }) s
-      (λ x h. (
-        subst (λ z. HasSent rules_d q.manager.d z (manager_homes x.manager) (sent_of x.d)) (sym h.manager_answered)
-            (subst (λ z. HasSent rules_d q.manager.d x.d.accepted z (sent_of x.d)) (sym h.homes) h.d.outbox),
-        h.manager,
-      )) y r (λ x. refl) (λ k. refl)
-      (λ x h fine k stands.
-      let more : List (Event M) = x.manager ++ Answer y ∷ [] in
-      let home : ℕ = manager_home x.manager y.head in
-      let between = between_of rules_d q.manager.d x.d.accepted x.d.homes (sent_of x.d) h.d.outbox in
-      let same : answered more ≡ x.d.accepted ++ y ∷ [] = answered_answer x.manager y ∙ ap (λ z. z ++ y ∷ []) h.manager_answered in
-      let homes = homes_given x.manager y x.d.accepted x.d.homes between h.manager_answered h.homes in
-      let sent = subst (λ z. HasSent rules_d s.box (x.d.accepted ++ y ∷ []) z (sent_of x.d)) homes
-      (subst (λ z. HasSent rules_d s.box z (manager_homes more) (sent_of x.d)) same stands.0) in
-      manager_goes_on (as_bridge q) x h (pipe_of q.client.a q.a q.manager.a) (pipe_of s.box q.d q.client.d) s.book more x.a
+      (λ x. record { history = x.manager; crossing = away_of q.manager.d x.d }) (record { box = q.manager.d; book = q.manager.book }) s
+      (λ x h. record { box = record { sent = h.d.outbox; is = refl }; accepted = h.manager_answered; homes = h.homes; book = h.manager }) y r
+      (λ x. refl) refl
+      (λ x h fine stands. let home : ℕ = manager_home x.manager y.head in
+      manager_goes_on (as_bridge q) x h (pipe_of q.client.a q.a q.manager.a) (pipe_of s.box q.d q.client.d) s.book (x.manager ++ Answer y ∷ []) x.a
       (offered rules_d y home x.d) h.a
-      (stands_offered rules_d masked_d (pipe_of q.manager.d q.d q.client.d) x.d y home s.box ready.0 ready.1 k sent h.d)
-      (asked_answer x.manager y ∙ h.manager_asked) same homes stands.1 (obeys_answer x.manager y h.manager_obeys fine) refl refl)
+      (stands_offered rules_d masked_d (pipe_of q.manager.d q.d q.client.d) x.d y home s.box ready.0 ready.1 (still_open stands.box ready.1)
+      stands.box.sent h.d) (asked_answer x.manager y ∙ h.manager_asked) stands.accepted stands.homes stands.book
+      (obeys_answer x.manager y h.manager_obeys fine) refl refl)
 
   pub bridge_offers_e : (o : Outgoing HeadE M) (y : BeatOf HeadE C) (r : Result (Unit {0}) SideFault) → IsOpen q.client.e →
       OffersBeat (outbox_sends rules_e) y q.client.e r o → OffersBeat bridge_sends_e y (as_bridge q) r (with_outbox_e o)
-  bridge_offers_e o y r ready = offer_lifted (outbox_sends rules_e) bridge_sends_e with_outbox_e (λ x. away_of x.e) q.client.e o (λ x h. h.e.outbox) y r
-      (λ x. refl) (λ k. refl)
-      (λ x h fine k stands. with_e (as_bridge q) x h (pipe_of o q.e q.manager.e) (offered rules_e y 0 x.e)
-      (stands_offered rules_e masked_e (pipe_of q.client.e q.e q.manager.e) x.e y 0 o ready.0 ready.1 k stands h.e))
+  bridge_offers_e o y r ready = offer_lifted (outbox_sends rules_e) bridge_sends_e with_outbox_e (λ x. away_of q.client.e x.e) q.client.e o
+      (λ x h. record { sent = h.e.outbox; is = refl }) y r (λ x. refl) refl
+      (λ x h fine stands. with_e (as_bridge q) x h (pipe_of o q.e q.manager.e) (offered rules_e y 0 x.e)
+      (stands_offered rules_e masked_e (pipe_of q.client.e q.e q.manager.e) x.e y 0 o ready.0 ready.1 (still_open stands ready.1) stands.sent h.e))
 
   -- so is a take
   pub bridge_taken_a : (s : Booked (List (BeatOf HeadA M)) Manager) (r : Option (BeatOf HeadA M)) →
@@ -238,36 +225,36 @@ module _ {A : Type 0} {C M : ℕ} (q : Inside C M A) where
   -- and a close
   pub bridge_closes_a : (o : Outgoing HeadA M) (r : Result (Unit {0}) EndFault) → ClosesChannel (outbox_sends rules_a {w = C}) q.client.a r o →
       ClosesChannel bridge_sends_a (as_bridge q) r (with_outbox_a o)
-  bridge_closes_a o r = close_lifted (outbox_sends rules_a) bridge_sends_a with_outbox_a (λ x. away_of x.a) q.client.a o (λ x h. h.a.outbox) r
-      refl (λ x h. refl) refl refl
+  bridge_closes_a o r = close_lifted (outbox_sends rules_a) bridge_sends_a with_outbox_a (λ x. away_of q.client.a x.a) q.client.a o
+      (λ x h. record { sent = h.a.outbox; is = refl }) r refl (λ x h. refl) refl refl
       (λ x h over. with_a (as_bridge q) x h (pipe_of (record q.client.a { closed = true }) q.a q.manager.a) (record x.a { closed = true })
       (stands_shut rules_a masked_a (pipe_of q.client.a q.a q.manager.a) x.a over h.a) (refl, refl))
 
   pub bridge_closes_b : (o : Outgoing HeadB C) (r : Result (Unit {0}) EndFault) → ClosesChannel (outbox_sends rules_b {w = M}) q.manager.b r o →
       ClosesChannel bridge_sends_b (as_bridge q) r (with_outbox_b o)
-  bridge_closes_b o r = close_lifted (outbox_sends rules_b) bridge_sends_b with_outbox_b (λ x. away_of x.b) q.manager.b o (λ x h. h.b.outbox) r
-      refl (λ x h. refl) refl refl
+  bridge_closes_b o r = close_lifted (outbox_sends rules_b) bridge_sends_b with_outbox_b (λ x. away_of q.manager.b x.b) q.manager.b o
+      (λ x h. record { sent = h.b.outbox; is = refl }) r refl (λ x h. refl) refl refl
       (λ x h over. with_b (as_bridge q) x h (pipe_of (record q.manager.b { closed = true }) q.b q.client.b) (record x.b { closed = true })
       (stands_shut rules_b masked_b (pipe_of q.manager.b q.b q.client.b) x.b over h.b))
 
   pub bridge_closes_c : (o : Outgoing HeadC M) (r : Result (Unit {0}) EndFault) → ClosesChannel (outbox_sends rules_c {w = C}) q.client.c r o →
       ClosesChannel bridge_sends_c (as_bridge q) r (with_outbox_c o)
-  bridge_closes_c o r = close_lifted (outbox_sends rules_c) bridge_sends_c with_outbox_c (λ x. away_of x.c) q.client.c o (λ x h. h.c.outbox) r
-      refl (λ x h. refl) refl refl
+  bridge_closes_c o r = close_lifted (outbox_sends rules_c) bridge_sends_c with_outbox_c (λ x. away_of q.client.c x.c) q.client.c o
+      (λ x h. record { sent = h.c.outbox; is = refl }) r refl (λ x h. refl) refl refl
       (λ x h over. with_c (as_bridge q) x h (pipe_of (record q.client.c { closed = true }) q.c q.manager.c) (record x.c { closed = true })
       (stands_shut rules_c masked_c (pipe_of q.client.c q.c q.manager.c) x.c over h.c))
 
   pub bridge_closes_d : (o : Outgoing HeadD C) (r : Result (Unit {0}) EndFault) → ClosesChannel (outbox_sends rules_d {w = M}) q.manager.d r o →
       ClosesChannel bridge_sends_d (as_bridge q) r (with_outbox_d o)
-  bridge_closes_d o r = close_lifted (outbox_sends rules_d) bridge_sends_d with_outbox_d (λ x. away_of x.d) q.manager.d o (λ x h. h.d.outbox) r
-      refl (λ x h. refl) refl refl
+  bridge_closes_d o r = close_lifted (outbox_sends rules_d) bridge_sends_d with_outbox_d (λ x. away_of q.manager.d x.d) q.manager.d o
+      (λ x h. record { sent = h.d.outbox; is = refl }) r refl (λ x h. refl) refl refl
       (λ x h over. with_d (as_bridge q) x h (pipe_of (record q.manager.d { closed = true }) q.d q.client.d) (record x.d { closed = true })
       (stands_shut rules_d masked_d (pipe_of q.manager.d q.d q.client.d) x.d over h.d) (refl, refl, refl))
 
   pub bridge_closes_e : (o : Outgoing HeadE M) (r : Result (Unit {0}) EndFault) → ClosesChannel (outbox_sends rules_e {w = C}) q.client.e r o →
       ClosesChannel bridge_sends_e (as_bridge q) r (with_outbox_e o)
-  bridge_closes_e o r = close_lifted (outbox_sends rules_e) bridge_sends_e with_outbox_e (λ x. away_of x.e) q.client.e o (λ x h. h.e.outbox) r
-      refl (λ x h. refl) refl refl
+  bridge_closes_e o r = close_lifted (outbox_sends rules_e) bridge_sends_e with_outbox_e (λ x. away_of q.client.e x.e) q.client.e o
+      (λ x h. record { sent = h.e.outbox; is = refl }) r refl (λ x h. refl) refl refl
       (λ x h over. with_e (as_bridge q) x h (pipe_of (record q.client.e { closed = true }) q.e q.manager.e) (record x.e { closed = true })
       (stands_shut rules_e masked_e (pipe_of q.client.e q.e q.manager.e) x.e over h.e))
 

@@ -1,12 +1,12 @@
 -- Each call of a side is one of an outbox, an inbox or its book, or moves beats between these and its halves of rings.
-use Rattle.std.proofs.Common.{◌≡◌, ◌≤◌, ◌+◌, ◌*◌, ◌-◌, ℕ, List, Option, Result, [], ◌∷◌, ◌++◌, length, map, take, drop, min, refl, sym, ap, subst}
+use Rattle.std.proofs.Common.{◌≡◌, ◌≤◌, ◌+◌, ◌*◌, ◌-◌, ℕ, List, Option, Result, [], ◌++◌, length, map, take, drop, min, refl, sym, ap, subst}
 use Rattle.std.proofs.Common.{◌∙◌, arith, append-nil, length-append}
 use Rattle.std.proofs.lemmas.List.{length-drop}
 use Rattle.tl_sides.proofs.Words.{Rules, rules_a, rules_b, rules_c, rules_d, rules_e, ChA, ChB, ChC, ChD, ChE, HeadA, HeadB, HeadC, HeadD, HeadE}
-use Rattle.tl_sides.proofs.Words.{BeatOf, Outgoing, homes_with, HasSent, IsOpen, World, inbox_room, Sending, Taking, sending_of, taking_of, Sends, Takes}
+use Rattle.tl_sides.proofs.Words.{BeatOf, Outgoing, IsOpen, World, inbox_room, Sending, Taking, sending_of, taking_of, Sends, Takes}
 use Rattle.tl_sides.proofs.Words.{Pushed, Fetched, Met, Meets, passed, received, known_free, known_items, STAGE_CAPACITY, Standing, sends_offered, sends_shut}
-use Rattle.tl_sides.proofs.Words.{meets_of, cut_moves, Event, Ask, Answer, asked, answered, manager_home, manager_homes, asked_ask, asked_answer}
-use Rattle.tl_sides.proofs.Words.{answered_ask, answered_answer, SideFault, EndFault}
+use Rattle.tl_sides.proofs.Words.{meets_of, cut_moves, Ask, Answer, asked, answered, manager_home, asked_answer}
+use Rattle.tl_sides.proofs.Words.{answered_ask, SideFault, EndFault}
 use Rattle.tl_sides.specs.Calls.{OffersBeat, ClosesChannel, TakesBeat}
 use Rattle.tl_settle.proofs.Obeys.{requests_ask, requests_answers, responses_answer, responses_asks}
 use Rattle.tl_sides.proofs.Lifting.{offer_lifted, close_lifted, take_lifted}
@@ -21,10 +21,10 @@ use Rattle.tl_sides.specs.Sides.{side_sends_a, side_sends_b, side_sends_c, side_
 use Rattle.tl_sides.specs.Sides.{side_takes_d, side_takes_e}
 use Rattle.tl_sides.specs.declared.client_side.ClientSide.TheInside as client
 use Rattle.tl_sides.specs.declared.manager_side.ManagerSide.TheInside as manager
-use Rattle.tl_sides.proofs.BridgeSteps.{asked_answers, answered_asks, homes_asks, homes_given}
-use Rattle.tl_sides.proofs.Bridging.{masked_a, masked_b, masked_c, masked_d, masked_e, sent_of, away_of}
+use Rattle.tl_sides.proofs.BridgeSteps.{asked_answers, answered_asks, homes_asks}
+use Rattle.tl_sides.proofs.Bridging.{masked_a, masked_b, masked_c, masked_d, masked_e, away_of}
 use Rattle.tl_sides.proofs.Draining.{answered-all, asked-all}
-use Rattle.tl_sides.proofs.BoxSteps.{between_of}
+use Rattle.tl_sides.proofs.BoxSteps.{still_open}
 
 -- a side is its port and its halves of the rings
 abbrev pub client_side_of : {A : Type 0} {C M : ℕ} → client.Inside C M A → ClientState A C M
@@ -74,33 +74,28 @@ module _ {A : Type 0} {C M : ℕ} (q : client.Inside C M A) where
   pub side_offers_a : (s : Booked (Outgoing HeadA M) Client) (y : BeatOf HeadA C) (r : Result (Unit {0}) SideFault) → IsOpen q.port.a →
       OffersBeat sends_requests y (record { box = q.port.a; book = q.port.book }) r s → OffersBeat side_sends_a y (client_side_of q) r (request_sent s)
   side_offers_a s y r ready = offer_lifted sends_requests side_sends_a request_sent
-      (λ x. record { history = x.history; homes = x.a.homes; sent = sent_of x.a }) (record { box = q.port.a; book = q.port.book }) s
-      (λ x h. (subst (λ z. HasSent rules_a q.port.a z x.a.homes (sent_of x.a)) (sym h.accepted) h.a.pipe.outbox, h.book)) y r
-      (λ x. refl) (λ k. (refl, refl))
-      (λ x h fine k stands.
-      let more : List (BeatOf HeadA C) = x.a.accepted ++ y ∷ [] in
-      let same : asked (x.history ++ Ask y ∷ []) ≡ more = asked_ask x.history y ∙ ap (λ z. z ++ y ∷ []) h.accepted in
-      let sent = subst (λ z. HasSent rules_a s.box more (homes_with rules_a z x.a.homes y 0) (sent_of x.a)) h.accepted
-      (subst (λ z. HasSent rules_a s.box z (homes_with rules_a (asked x.history) x.a.homes y 0) (sent_of x.a)) same stands.0) in
-      (record {
-        a = sends_offered rules_a masked_a (sending_of q.port.a q.a) x.a y 0 s.box ready.0 ready.1 k sent h.a;
+      (λ x. record { history = x.history; crossing = away_of q.port.a x.a }) (record { box = q.port.a; book = q.port.book }) s
+      (λ x h. record { box = record { sent = h.a.pipe.outbox; is = refl }; accepted = h.accepted; homes = tt; book = h.book }) y r
+      (λ x. refl) (refl, refl)
+      (λ x h fine stands. (record {
+        a = sends_offered rules_a masked_a (sending_of q.port.a q.a) x.a y 0 s.box ready.0 ready.1 (still_open stands.box ready.1) stands.box.sent h.a;
         b = h.b;
         c = h.c;
         d = subst (λ z. Takes (taking_of q.port.d q.d.half) z) (sym (answered_ask x.history y)) h.d;
         e = h.e;
-        accepted = same;
+        accepted = stands.accepted;
         requests = requests_ask x.history y h.requests fine;
-        book = stands.1;
+        book = stands.book;
       }))
 
   pub side_offers_c : (o : Outgoing HeadC M) (y : BeatOf HeadC C) (r : Result (Unit {0}) SideFault) → IsOpen q.port.c →
       OffersBeat (outbox_sends rules_c) y q.port.c r o → OffersBeat side_sends_c y (client_side_of q) r (outbox_c o)
-  side_offers_c o y r ready = offer_lifted (outbox_sends rules_c) side_sends_c outbox_c (λ x. away_of x.c) q.port.c o (λ x h. h.c.pipe.outbox) y r
-      (λ x. refl) (λ k. (refl, refl))
-      (λ x h fine k stands. (record {
+  side_offers_c o y r ready = offer_lifted (outbox_sends rules_c) side_sends_c outbox_c (λ x. away_of q.port.c x.c) q.port.c o
+      (λ x h. record { sent = h.c.pipe.outbox; is = refl }) y r (λ x. refl) (refl, refl)
+      (λ x h fine stands. (record {
         a = h.a;
         b = h.b;
-        c = sends_offered rules_c masked_c (sending_of q.port.c q.c) x.c y 0 o ready.0 ready.1 k stands h.c;
+        c = sends_offered rules_c masked_c (sending_of q.port.c q.c) x.c y 0 o ready.0 ready.1 (still_open stands ready.1) stands.sent h.c;
         d = h.d;
         e = h.e;
         accepted = h.accepted;
@@ -110,14 +105,14 @@ module _ {A : Type 0} {C M : ℕ} (q : client.Inside C M A) where
 
   pub side_offers_e : (o : Outgoing HeadE M) (y : BeatOf HeadE C) (r : Result (Unit {0}) SideFault) → IsOpen q.port.e →
       OffersBeat (outbox_sends rules_e) y q.port.e r o → OffersBeat side_sends_e y (client_side_of q) r (outbox_e o)
-  side_offers_e o y r ready = offer_lifted (outbox_sends rules_e) side_sends_e outbox_e (λ x. away_of x.e) q.port.e o (λ x h. h.e.pipe.outbox) y r
-      (λ x. refl) (λ k. (refl, refl))
-      (λ x h fine k stands. (record {
+  side_offers_e o y r ready = offer_lifted (outbox_sends rules_e) side_sends_e outbox_e (λ x. away_of q.port.e x.e) q.port.e o
+      (λ x h. record { sent = h.e.pipe.outbox; is = refl }) y r (λ x. refl) (refl, refl)
+      (λ x h fine stands. (record {
         a = h.a;
         b = h.b;
         c = h.c;
         d = h.d;
-        e = sends_offered rules_e masked_e (sending_of q.port.e q.e) x.e y 0 o ready.0 ready.1 k stands h.e;
+        e = sends_offered rules_e masked_e (sending_of q.port.e q.e) x.e y 0 o ready.0 ready.1 (still_open stands ready.1) stands.sent h.e;
         accepted = h.accepted;
         requests = h.requests;
         book = h.book;
@@ -161,8 +156,8 @@ module _ {A : Type 0} {C M : ℕ} (q : client.Inside C M A) where
   -- and a close
   pub side_closes_a : (o : Outgoing HeadA M) (r : Result (Unit {0}) EndFault) → ClosesChannel (outbox_sends rules_a {w = C}) q.port.a r o →
       ClosesChannel side_sends_a (client_side_of q) r (outbox_a o)
-  side_closes_a o r = close_lifted (outbox_sends rules_a) side_sends_a outbox_a (λ x. away_of x.a) q.port.a o (λ x h. h.a.pipe.outbox) r
-      refl (λ x h. refl) refl refl
+  side_closes_a o r = close_lifted (outbox_sends rules_a) side_sends_a outbox_a (λ x. away_of q.port.a x.a) q.port.a o
+      (λ x h. record { sent = h.a.pipe.outbox; is = refl }) r refl (λ x h. refl) refl refl
       (λ x h over. (record {
         a = sends_shut rules_a masked_a (sending_of q.port.a q.a) x.a over h.a;
         b = h.b;
@@ -176,8 +171,8 @@ module _ {A : Type 0} {C M : ℕ} (q : client.Inside C M A) where
 
   pub side_closes_c : (o : Outgoing HeadC M) (r : Result (Unit {0}) EndFault) → ClosesChannel (outbox_sends rules_c {w = C}) q.port.c r o →
       ClosesChannel side_sends_c (client_side_of q) r (outbox_c o)
-  side_closes_c o r = close_lifted (outbox_sends rules_c) side_sends_c outbox_c (λ x. away_of x.c) q.port.c o (λ x h. h.c.pipe.outbox) r
-      refl (λ x h. refl) refl refl
+  side_closes_c o r = close_lifted (outbox_sends rules_c) side_sends_c outbox_c (λ x. away_of q.port.c x.c) q.port.c o
+      (λ x h. record { sent = h.c.pipe.outbox; is = refl }) r refl (λ x h. refl) refl refl
       (λ x h over. (record {
         a = h.a;
         b = h.b;
@@ -191,8 +186,8 @@ module _ {A : Type 0} {C M : ℕ} (q : client.Inside C M A) where
 
   pub side_closes_e : (o : Outgoing HeadE M) (r : Result (Unit {0}) EndFault) → ClosesChannel (outbox_sends rules_e {w = C}) q.port.e r o →
       ClosesChannel side_sends_e (client_side_of q) r (outbox_e o)
-  side_closes_e o r = close_lifted (outbox_sends rules_e) side_sends_e outbox_e (λ x. away_of x.e) q.port.e o (λ x h. h.e.pipe.outbox) r
-      refl (λ x h. refl) refl refl
+  side_closes_e o r = close_lifted (outbox_sends rules_e) side_sends_e outbox_e (λ x. away_of q.port.e x.e) q.port.e o
+      (λ x h. record { sent = h.e.pipe.outbox; is = refl }) r refl (λ x h. refl) refl refl
       (λ x h over. (record {
         a = h.a;
         b = h.b;
@@ -246,11 +241,11 @@ module _ {A : Type 0} {C M : ℕ} (q : manager.Inside C M A) where
   -- an offer to an outbox is one to the side
   pub side_offers_b : (o : Outgoing HeadB C) (y : BeatOf HeadB M) (r : Result (Unit {0}) SideFault) → IsOpen q.port.b →
       OffersBeat (outbox_sends rules_b) y q.port.b r o → OffersBeat side_sends_b y (manager_side_of q) r (outbox_b o)
-  side_offers_b o y r ready = offer_lifted (outbox_sends rules_b) side_sends_b outbox_b (λ x. away_of x.b) q.port.b o (λ x h. h.b.pipe.outbox) y r
-      (λ x. refl) (λ k. (refl, refl))
-      (λ x h fine k stands. (record {
+  side_offers_b o y r ready = offer_lifted (outbox_sends rules_b) side_sends_b outbox_b (λ x. away_of q.port.b x.b) q.port.b o
+      (λ x h. record { sent = h.b.pipe.outbox; is = refl }) y r (λ x. refl) (refl, refl)
+      (λ x h fine stands. (record {
         a = h.a;
-        b = sends_offered rules_b masked_b (sending_of q.port.b q.b) x.b y 0 o ready.0 ready.1 k stands h.b;
+        b = sends_offered rules_b masked_b (sending_of q.port.b q.b) x.b y 0 o ready.0 ready.1 (still_open stands ready.1) stands.sent h.b;
         c = h.c;
         d = h.d;
         e = h.e;
@@ -263,30 +258,20 @@ module _ {A : Type 0} {C M : ℕ} (q : manager.Inside C M A) where
   pub side_offers_d : (s : Booked (Outgoing HeadD C) Manager) (y : BeatOf HeadD M) (r : Result (Unit {0}) SideFault) → IsOpen q.port.d →
       OffersBeat sends_responses y (record { box = q.port.d; book = q.port.book }) r s → OffersBeat side_sends_d y (manager_side_of q) r (response_sent s)
   side_offers_d s y r ready = offer_lifted sends_responses side_sends_d response_sent
-      (λ x. record { history = x.history; sent = sent_of x.d }) (record { box = q.port.d; book = q.port.book }) s
-      (λ x h. (
-        subst (λ z. HasSent rules_d q.port.d z (manager_homes x.history) (sent_of x.d)) (sym h.accepted)
-            (subst (λ z. HasSent rules_d q.port.d x.d.accepted z (sent_of x.d)) (sym h.homes) h.d.pipe.outbox),
-        h.book,
-      )) y r (λ x. refl) (λ k. (refl, refl))
-      (λ x h fine k stands.
-      let more : List (Event M) = x.history ++ Answer y ∷ [] in
-      let home : ℕ = manager_home x.history y.head in
-      let between = between_of rules_d q.port.d x.d.accepted x.d.homes (sent_of x.d) h.d.pipe.outbox in
-      let same : answered more ≡ x.d.accepted ++ y ∷ [] = answered_answer x.history y ∙ ap (λ z. z ++ y ∷ []) h.accepted in
-      let homes = homes_given x.history y x.d.accepted x.d.homes between h.accepted h.homes in
-      let sent = subst (λ z. HasSent rules_d s.box (x.d.accepted ++ y ∷ []) z (sent_of x.d)) homes
-      (subst (λ z. HasSent rules_d s.box z (manager_homes more) (sent_of x.d)) same stands.0) in
-      (record {
+      (λ x. record { history = x.history; crossing = away_of q.port.d x.d }) (record { box = q.port.d; book = q.port.book }) s
+      (λ x h. record { box = record { sent = h.d.pipe.outbox; is = refl }; accepted = h.accepted; homes = h.homes; book = h.book }) y r
+      (λ x. refl) (refl, refl)
+      (λ x h fine stands. (record {
         a = subst (λ z. Takes (taking_of q.port.a q.a.half) z) (sym (asked_answer x.history y)) h.a;
         b = h.b;
         c = h.c;
-        d = sends_offered rules_d masked_d (sending_of q.port.d q.d) x.d y home s.box ready.0 ready.1 k sent h.d;
+        d = sends_offered rules_d masked_d (sending_of q.port.d q.d) x.d y (manager_home x.history y.head) s.box ready.0 ready.1
+            (still_open stands.box ready.1) stands.box.sent h.d;
         e = h.e;
-        accepted = same;
-        homes = homes;
+        accepted = stands.accepted;
+        homes = stands.homes;
         responses = responses_answer x.history y h.responses fine;
-        book = stands.1;
+        book = stands.book;
       }))
 
   -- so is a take
@@ -345,8 +330,8 @@ module _ {A : Type 0} {C M : ℕ} (q : manager.Inside C M A) where
   -- and a close
   pub side_closes_b : (o : Outgoing HeadB C) (r : Result (Unit {0}) EndFault) → ClosesChannel (outbox_sends rules_b {w = M}) q.port.b r o →
       ClosesChannel side_sends_b (manager_side_of q) r (outbox_b o)
-  side_closes_b o r = close_lifted (outbox_sends rules_b) side_sends_b outbox_b (λ x. away_of x.b) q.port.b o (λ x h. h.b.pipe.outbox) r
-      refl (λ x h. refl) refl refl
+  side_closes_b o r = close_lifted (outbox_sends rules_b) side_sends_b outbox_b (λ x. away_of q.port.b x.b) q.port.b o
+      (λ x h. record { sent = h.b.pipe.outbox; is = refl }) r refl (λ x h. refl) refl refl
       (λ x h over. (record {
         a = h.a;
         b = sends_shut rules_b masked_b (sending_of q.port.b q.b) x.b over h.b;
@@ -361,8 +346,8 @@ module _ {A : Type 0} {C M : ℕ} (q : manager.Inside C M A) where
 
   pub side_closes_d : (o : Outgoing HeadD C) (r : Result (Unit {0}) EndFault) → ClosesChannel (outbox_sends rules_d {w = M}) q.port.d r o →
       ClosesChannel side_sends_d (manager_side_of q) r (outbox_d o)
-  side_closes_d o r = close_lifted (outbox_sends rules_d) side_sends_d outbox_d (λ x. away_of x.d) q.port.d o (λ x h. h.d.pipe.outbox) r
-      refl (λ x h. refl) refl refl
+  side_closes_d o r = close_lifted (outbox_sends rules_d) side_sends_d outbox_d (λ x. away_of q.port.d x.d) q.port.d o
+      (λ x h. record { sent = h.d.pipe.outbox; is = refl }) r refl (λ x h. refl) refl refl
       (λ x h over. (record {
         a = h.a;
         b = h.b;

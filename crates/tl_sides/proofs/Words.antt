@@ -32,11 +32,12 @@ pub use Rattle.tl_msg.specs.declared.head.HeadE.{HeadE}
 pub use Rattle.tl_ring.proofs.Answered.{on_err, on_ok}
 pub use Rattle.tl_ring.proofs.EndSteps.{meets_of, met_of, sends_new, sends_offered, sends_shut}
 pub use Rattle.tl_ring.proofs.FieldSizes.{beat_small}
+pub use Rattle.tl_ring.proofs.Names.{drop-append_seam}
 pub use Rattle.tl_ring.proofs.Moves.{cut_moves, want_of_memory}
 pub use Rattle.tl_ring.proofs.PipeSteps.{stands_emptied, stands_new, stands_offered, stands_popped, stands_pushed, stands_shut, stands_took}
 pub use Rattle.tl_ring.proofs.Same.{same_send, same_send_then, same_take_then, still_pair}
 pub use Rattle.tl_ring.specs.Boxes.{HasSent, HasTaken, IsOpen, Outgoing, as_sent}
-pub use Rattle.tl_ring.specs.Crossing.{World, inbox_room, offered, popped, pushed, took}
+pub use Rattle.tl_ring.specs.Crossing.{World, inbox_room, offered, popped, pushed, shut, took}
 pub use Rattle.tl_ring.specs.Ends.{Fetched, Meets, Met, Pushed, SameSend, SameTake, Sending, Sends, Takes, Taking, known_free, known_items, passed}
 pub use Rattle.tl_ring.specs.Ends.{received, seen_by, sending_of, taking_of}
 pub use Rattle.tl_ring.specs.Pipe.{Pipe}

@@ -1,14 +1,14 @@
 -- The logical view of the bridge of both sides in one thread: five crossings, and the history of A and D at each side.
 -- A, C and E cross from the client's side, at width C, to the manager's, at width M; B and D cross back (this project's
 -- choice).
-use Rattle.std.specs.Prelude.{◌≡◌, ◌-◌, ◌+◌, ◌++◌, ℕ, true, List, [], ◌∷◌, length, map, take, drop, min}
-use Rattle.tl_sides.specs.Words.{rules_a, rules_b, rules_c, rules_d, rules_e, HeadA, HeadB, HeadC, HeadD, HeadE, World, empty, offered, pushed}
+use Rattle.std.proofs.Common.{◌≡◌, ◌-◌, ◌+◌, ◌++◌, ℕ, true, List, [], length, map, take, drop, min, refl}
+use Rattle.tl_sides.specs.Words.{rules_a, rules_b, rules_c, rules_d, rules_e, HeadA, HeadB, HeadC, HeadD, HeadE, World, empty, pushed}
 use Rattle.tl_sides.specs.Words.{popped, took, inbox_room, Pipe, Standing, Event, Ask, Answer, asked, answered, client_answer, manager_answer}
 use Rattle.tl_sides.specs.Words.{manager_home, manager_homes}
 use Rattle.tl_ring.specs.Pipe as piping
 use Rattle.tl_settle.specs.Books.{Client, Manager, KnowsClient, KnowsManager}
 use Rattle.tl_settle.specs.Obeying.{ObeysRules}
-use Rattle.tl_sides.specs.Calls.{SendingChannel, TakingChannel, alone}
+use Rattle.tl_sides.specs.Calls.{SendingChannel, TakingChannel, alone, coupled}
 
 -- the current state of a bridge, without its history
 pub record Bridge (C M : ℕ) : Type 0 where
@@ -82,36 +82,32 @@ module _ {C M : ℕ} where
   -- The channels that a bridge sends from one of its sides. An accepted beat of A is a request in the client's history,
   -- and one of D a response in the manager's. The home of a message of D is the address of its request, outstanding at
   -- that moment, and 0 for ReleaseAck.
-  abbrev pub bridge_sends_a : SendingChannel (Bridge C M) (Past C M) HeadA C
-  bridge_sends_a = record (alone rules_a StandsFor (λ x. x.a) (λ y x. record x { a = y }) (λ s. s.a.closed)
+  abbrev pub bridge_sends_a : SendingChannel (Bridge C M) (Past C M) HeadA C M
+  bridge_sends_a = coupled rules_a StandsFor (λ x. x.a) (λ y x. record x { a = y }) (λ _. refl) (λ s. s.a.closed)
       (λ s. record s { a = record s.a { closed = true } })
-      (λ s s'. s' ≡ record s { a = s'.a; client = s'.client })) {
-        stops = λ x. client_answer x.client;
-        with_beat = λ b x. record x { client = x.client ++ Ask b ∷ []; a = offered rules_a b 0 x.a };
-      }
+      (λ s s'. s' ≡ record s { a = s'.a; client = s'.client }) (λ _. refl) (λ _. refl)
+      Ask (λ x. x.client) (λ es x. record x { client = es }) (λ _. refl) client_answer (λ _ _. 0)
 
-  abbrev pub bridge_sends_b : SendingChannel (Bridge C M) (Past C M) HeadB M
-  bridge_sends_b = alone rules_b StandsFor (λ x. x.b) (λ y x. record x { b = y }) (λ s. s.b.closed)
+  abbrev pub bridge_sends_b : SendingChannel (Bridge C M) (Past C M) HeadB M C
+  bridge_sends_b = alone rules_b StandsFor (λ x. x.b) (λ y x. record x { b = y }) (λ _. refl) (λ s. s.b.closed)
       (λ s. record s { b = record s.b { closed = true } })
-      (λ s s'. s' ≡ record s { b = s'.b })
+      (λ s s'. s' ≡ record s { b = s'.b }) (λ _. refl) (λ _. refl)
 
-  abbrev pub bridge_sends_c : SendingChannel (Bridge C M) (Past C M) HeadC C
-  bridge_sends_c = alone rules_c StandsFor (λ x. x.c) (λ y x. record x { c = y }) (λ s. s.c.closed)
+  abbrev pub bridge_sends_c : SendingChannel (Bridge C M) (Past C M) HeadC C M
+  bridge_sends_c = alone rules_c StandsFor (λ x. x.c) (λ y x. record x { c = y }) (λ _. refl) (λ s. s.c.closed)
       (λ s. record s { c = record s.c { closed = true } })
-      (λ s s'. s' ≡ record s { c = s'.c })
+      (λ s s'. s' ≡ record s { c = s'.c }) (λ _. refl) (λ _. refl)
 
-  abbrev pub bridge_sends_d : SendingChannel (Bridge C M) (Past C M) HeadD M
-  bridge_sends_d = record (alone rules_d StandsFor (λ x. x.d) (λ y x. record x { d = y }) (λ s. s.d.closed)
+  abbrev pub bridge_sends_d : SendingChannel (Bridge C M) (Past C M) HeadD M C
+  bridge_sends_d = coupled rules_d StandsFor (λ x. x.d) (λ y x. record x { d = y }) (λ _. refl) (λ s. s.d.closed)
       (λ s. record s { d = record s.d { closed = true } })
-      (λ s s'. s' ≡ record s { d = s'.d; manager = s'.manager })) {
-        stops = λ x. manager_answer x.manager;
-        with_beat = λ b x. record x { manager = x.manager ++ Answer b ∷ []; d = offered rules_d b (manager_home x.manager b.head) x.d };
-      }
+      (λ s s'. s' ≡ record s { d = s'.d; manager = s'.manager }) (λ _. refl) (λ _. refl)
+      Answer (λ x. x.manager) (λ es x. record x { manager = es }) (λ _. refl) manager_answer (λ es b. manager_home es b.head)
 
-  abbrev pub bridge_sends_e : SendingChannel (Bridge C M) (Past C M) HeadE C
-  bridge_sends_e = alone rules_e StandsFor (λ x. x.e) (λ y x. record x { e = y }) (λ s. s.e.closed)
+  abbrev pub bridge_sends_e : SendingChannel (Bridge C M) (Past C M) HeadE C M
+  bridge_sends_e = alone rules_e StandsFor (λ x. x.e) (λ y x. record x { e = y }) (λ _. refl) (λ s. s.e.closed)
       (λ s. record s { e = record s.e { closed = true } })
-      (λ s s'. s' ≡ record s { e = s'.e })
+      (λ s s'. s' ≡ record s { e = s'.e }) (λ _. refl) (λ _. refl)
 
   -- the channels that it takes at the other side: a beat taken of A is a request in the manager's history, and one of D
   -- a response in the client's

@@ -1,11 +1,10 @@
 -- The logical view of a side's outboxes, inboxes and book, without the rings that carry its beats, and the effect of a call
 -- on one of them.
-use Rattle.std.specs.Prelude.{◌≡◌, ◌++◌, ℕ, true, false, List, [], ◌∷◌, map, take, drop}
-use Rattle.tl_sides.specs.Words.{Rules, rules_a, rules_b, rules_c, rules_d, rules_e, HeadA, HeadB, HeadC, HeadD, HeadE, BeatOf, homes_with, Outgoing}
-use Rattle.tl_sides.specs.Words.{HasSent, HasTaken, Event, Ask, Answer, asked, answered, client_answer, manager_answer, manager_homes}
-use Rattle.tl_settle.specs.Books.{Client, Manager, KnowsClient, KnowsManager}
-use Rattle.tl_sides.specs.Calls.{SendingChannel, TakingChannel}
-use Rattle.tl_sides.specs.Crossings.{stops_alone}
+use Rattle.std.proofs.Common.{◌≡◌, ◌++◌, ℕ, true, List, [], map, take, drop, refl}
+use Rattle.tl_sides.specs.Words.{Rules, rules_a, rules_b, rules_c, rules_d, rules_e, HeadA, HeadB, HeadC, HeadD, HeadE, BeatOf, Outgoing, World}
+use Rattle.tl_sides.specs.Words.{HasSent, HasTaken, as_sent, Event, Ask, Answer, asked, answered, manager_home, manager_homes}
+use Rattle.tl_settle.specs.Books.{Client, Manager, KnowsClient, KnowsManager, Deciding, client_decides, manager_decides}
+use Rattle.tl_sides.specs.Calls.{SendingChannel, TakingChannel, alone, coupled}
 
 -- the current state of the client's side
 pub record ClientNow (C M : ℕ) : Type 0 where
@@ -37,11 +36,10 @@ pub record ManagerIsNew {C M : ℕ} (s : ManagerNow C M) : Type 0 where
   pub d : HasSent rules_d {w = M} s.d [] [] []
   pub book : KnowsManager {w = M} s.book []
 
--- the past of an outbox
-pub record Away (H : Type 0) (w v : ℕ) : Type 0 where
-  pub accepted : List (BeatOf H w)
-  pub homes : List ℕ
-  pub sent : List (BeatOf H v)
+-- An outbox represents a crossing, as if each beat were taken as soon as it was sent
+pub record SentBy {H : Type 0} (r : Rules H) {w v : ℕ} (o : Outgoing H v) (x : World H w v) : Type 0 where
+  pub sent : HasSent r o x.accepted x.homes x.taken
+  pub is : x ≡ as_sent x.room o x.accepted x.homes x.taken
 
 -- the past of an inbox
 pub record Hither (H : Type 0) (v : ℕ) : Type 0 where
@@ -49,19 +47,9 @@ pub record Hither (H : Type 0) (v : ℕ) : Type 0 where
   pub taken : List (BeatOf H v)
 
 -- a channel that depends on no other is its outbox, at one side, and its inbox at the other
-abbrev pub outbox_sends : {H : Type 0} (r : Rules H) {w v : ℕ} → SendingChannel (Outgoing H v) (Away H w v) H w
-outbox_sends r = record {
-  rules = r;
-  Stands = λ o x. HasSent r o x.accepted x.homes x.sent;
-  accepted = λ x. x.accepted;
-  stops = λ x. stops_alone r x.accepted;
-  with_beat = λ b x. record x { accepted = x.accepted ++ b ∷ []; homes = homes_with r x.accepted x.homes b 0 };
-  ended = λ x. x;
-  closed = λ o. o.closed;
-  as_closed = λ o. record o { closed = true };
-  -- an offer does not close the channel
-  Keeps = λ o o'. o'.closed ≡ false;
-}
+abbrev pub outbox_sends : {H : Type 0} (r : Rules H) {w v : ℕ} → SendingChannel (Outgoing H v) (World H w v) H w v
+outbox_sends r = alone r (SentBy r) (λ x. x) (λ y _. y) (λ _. refl) (λ o. o.closed) (λ o. record o { closed = true })
+    (λ _ _. Unit {0}) (λ _. tt) (λ _. tt)
 
 abbrev pub inbox_takes : {H : Type 0} (r : Rules H) {v : ℕ} → TakingChannel (List (BeatOf H v)) (Hither H v) H v
 inbox_takes r = record {
@@ -77,64 +65,50 @@ pub record Booked (Box Book : Type 0) : Type 0 where
   pub box : Box
   pub book : Book
 
--- the past of the outbox of A and the client's book: the history has the accepted beats
-pub record RequestsSent (C M : ℕ) : Type 0 where
-  pub history : List (Event C)
-  pub homes : List ℕ
-  pub sent : List (BeatOf HeadA M)
-
--- the past of the outbox of D and the manager's book: the history has the accepted beats, and determines the home of each
--- message
-pub record ResponsesSent (C M : ℕ) : Type 0 where
-  pub history : List (Event M)
-  pub sent : List (BeatOf HeadD C)
+-- the past of an outbox and a book
+pub record BookedAway (H : Type 0) (w v : ℕ) : Type 0 where
+  pub history : List (Event w)
+  pub crossing : World H w v
 
 -- the past of an inbox and a book: the history has the taken beats
 pub record BookedHither (H : Type 0) (v : ℕ) : Type 0 where
   pub history : List (Event v)
   pub received : List (BeatOf H v)
 
-module _ {C M : ℕ} where
-  abbrev pub sends_requests : SendingChannel (Booked (Outgoing HeadA M) Client) (RequestsSent C M) HeadA C
-  sends_requests = record {
-    rules = rules_a;
-    Stands = λ s x. HasSent rules_a s.box (asked x.history) x.homes x.sent × KnowsClient s.book x.history;
-    accepted = λ x. asked x.history;
-    stops = λ x. client_answer x.history;
-    with_beat = λ b x. record x { history = x.history ++ Ask b ∷ []; homes = homes_with rules_a (asked x.history) x.homes b 0 };
-    ended = λ x. x;
-    closed = λ s. s.box.closed;
-    as_closed = λ s. record s { box = record s.box { closed = true } };
-    Keeps = λ s s'. s'.box.closed ≡ false;
-  }
+module _ {Book H : Type 0} {w v : ℕ} (k : Deciding Book H w) (AreHomes : List (Event w) → List ℕ → Type 0) where
+  -- an outbox and a book represent a past: the history has the accepted beats, and their messages have these homes
+  pub record SentBooked (s : Booked (Outgoing H v) Book) (x : BookedAway H w v) : Type 0 where
+    pub box : SentBy k.rules s.box x.crossing
+    pub accepted : k.accepted x.history ≡ x.crossing.accepted
+    pub homes : AreHomes x.history x.crossing.homes
+    pub book : k.Knows s.book x.history
 
-  abbrev pub sends_responses : SendingChannel (Booked (Outgoing HeadD C) Manager) (ResponsesSent C M) HeadD M
-  sends_responses = record {
-    rules = rules_d;
-    Stands = λ s x. HasSent rules_d s.box (answered x.history) (manager_homes x.history) x.sent × KnowsManager s.book x.history;
-    accepted = λ x. answered x.history;
-    stops = λ x. manager_answer x.history;
-    with_beat = λ b x. record x { history = x.history ++ Answer b ∷ [] };
-    ended = λ x. x;
-    closed = λ s. s.box.closed;
-    as_closed = λ s. record s { box = record s.box { closed = true } };
-    Keeps = λ s s'. s'.box.closed ≡ false;
-  }
+  -- a channel on which the book decides
+  abbrev pub booked_sends : (home : List (Event w) → BeatOf H w → ℕ) → SendingChannel (Booked (Outgoing H v) Book) (BookedAway H w v) H w v
+  booked_sends home = coupled k.rules SentBooked (λ x. x.crossing) (λ y x. record x { crossing = y }) (λ _. refl) (λ s. s.box.closed)
+      (λ s. record s { box = record s.box { closed = true } }) (λ _ _. Unit {0}) (λ _. tt) (λ _. tt)
+      k.event (λ x. x.history) (λ es x. record x { history = es }) (λ _. refl) k.stops home
+
+-- the history determines the homes of D, and not those of A
+abbrev pub sends_requests : {C M : ℕ} → SendingChannel (Booked (Outgoing HeadA M) Client) (BookedAway HeadA C M) HeadA C M
+sends_requests = booked_sends client_decides (λ _ _. Unit {0}) (λ _ _. 0)
+
+abbrev pub sends_responses : {C M : ℕ} → SendingChannel (Booked (Outgoing HeadD C) Manager) (BookedAway HeadD M C) HeadD M C
+sends_responses = booked_sends manager_decides (λ es homes. manager_homes es ≡ homes) (λ es b. manager_home es b.head)
+
+-- a channel whose taken beats the book records
+abbrev pub booked_takes : {Book H : Type 0} {v : ℕ} (r : Rules H) (event : BeatOf H v → Event v) (taken : List (Event v) → List (BeatOf H v))
+    (Knows : Book → List (Event v) → Type 0) → TakingChannel (Booked (List (BeatOf H v)) Book) (BookedHither H v) H v
+booked_takes r event taken Knows = record {
+  rules = r;
+  Stands = λ s x. HasTaken s.box x.received (taken x.history) × Knows s.book x.history;
+  inbox = λ s. s.box;
+  after_take = λ s x. record x { history = x.history ++ map event (take 1 s.box) };
+  Keeps = λ s s'. s'.box ≡ drop 1 s.box;
+}
 
 abbrev pub takes_requests : {M : ℕ} → TakingChannel (Booked (List (BeatOf HeadA M)) Manager) (BookedHither HeadA M) HeadA M
-takes_requests = record {
-  rules = rules_a;
-  Stands = λ s x. HasTaken s.box x.received (asked x.history) × KnowsManager s.book x.history;
-  inbox = λ s. s.box;
-  after_take = λ s x. record x { history = x.history ++ map Ask (take 1 s.box) };
-  Keeps = λ s s'. s'.box ≡ drop 1 s.box;
-}
+takes_requests = booked_takes rules_a Ask asked KnowsManager
 
 abbrev pub takes_responses : {C : ℕ} → TakingChannel (Booked (List (BeatOf HeadD C)) Client) (BookedHither HeadD C) HeadD C
-takes_responses = record {
-  rules = rules_d;
-  Stands = λ s x. HasTaken s.box x.received (answered x.history) × KnowsClient s.book x.history;
-  inbox = λ s. s.box;
-  after_take = λ s x. record x { history = x.history ++ map Answer (take 1 s.box) };
-  Keeps = λ s s'. s'.box ≡ drop 1 s.box;
-}
+takes_responses = booked_takes rules_d Answer answered KnowsClient

@@ -1,14 +1,14 @@
 -- The logical view of each side of the bridge. A, C and E cross from the client's side, at width C, to the manager's,
 -- at width M; B and D cross back. A side represents only its own past: only a meeting shows how far the beats that it
 -- sent have come, and which ones will arrive (this project's choice).
-use Rattle.std.specs.Prelude.{◌≡◌, ◌++◌, ℕ, List, [], ◌∷◌, map, take}
+use Rattle.std.proofs.Common.{◌≡◌, ◌++◌, ℕ, List, [], map, take, refl}
 use Rattle.tl_sides.specs.Words.{rules_a, rules_b, rules_c, rules_d, rules_e, ChA, ChB, ChC, ChD, ChE, HeadA, HeadB, HeadC, HeadD, HeadE, BeatOf}
-use Rattle.tl_sides.specs.Words.{World, empty, offered, Sending, Taking, SendHalf, TakeHalf, sending_of, taking_of, Sends, Takes, Meets, ArePair}
+use Rattle.tl_sides.specs.Words.{World, empty, Sending, Taking, SendHalf, TakeHalf, sending_of, taking_of, Sends, Takes, Meets, ArePair}
 use Rattle.tl_sides.specs.Words.{SameSend, SameTake, known_free, closing, took_first, Event, Ask, Answer, asked, answered, client_answer}
 use Rattle.tl_sides.specs.Words.{manager_answer, manager_home, manager_homes}
 use Rattle.tl_settle.specs.Books.{Client, Manager, KnowsClient, KnowsManager}
 use Rattle.tl_settle.specs.Obeying.{RequestsObey, ResponsesObey}
-use Rattle.tl_sides.specs.Calls.{SendingChannel, TakingChannel, alone}
+use Rattle.tl_sides.specs.Calls.{SendingChannel, TakingChannel, alone, coupled}
 use Rattle.tl_sides.specs.Ports.{ClientNow, ManagerNow}
 use Rattle.tl_sides.specs.Ends.{after_pump, IsIdle}
 
@@ -123,31 +123,32 @@ module _ {C M : ℕ} where
 module _ {A : Type 0} {C M : ℕ} where
   -- The channels that each side sends. Its half of a ring is unchanged. The home of a message of D is the address of its
   -- request, outstanding at that moment, and 0 for ReleaseAck.
-  abbrev pub side_sends_a : SendingChannel (ClientState A C M) (ClientPast C M) HeadA C
-  side_sends_a = record (alone rules_a ClientStandsFor (λ x. x.a) (λ y x. record x { a = y }) (λ s. s.a.closed) (λ s. record s { a = closing s.a })
-      (λ s s'. (s'.a.producer ≡ s.a.producer) × (s' ≡ record s { a = s'.a; book = s'.book }))) {
-        stops = λ x. client_answer x.history;
-        with_beat = λ b x. record x { history = x.history ++ Ask b ∷ []; a = offered rules_a b 0 x.a };
-      }
+  abbrev pub side_sends_a : SendingChannel (ClientState A C M) (ClientPast C M) HeadA C M
+  side_sends_a = coupled rules_a ClientStandsFor (λ x. x.a) (λ y x. record x { a = y }) (λ _. refl) (λ s. s.a.closed)
+      (λ s. record s { a = closing s.a })
+      (λ s s'. (s'.a.producer ≡ s.a.producer) × (s' ≡ record s { a = s'.a; book = s'.book })) (λ _. (refl, refl)) (λ _. (refl, refl))
+      Ask (λ x. x.history) (λ es x. record x { history = es }) (λ _. refl) client_answer (λ _ _. 0)
 
-  abbrev pub side_sends_b : SendingChannel (ManagerState A C M) (ManagerPast C M) HeadB M
-  side_sends_b = alone rules_b ManagerStandsFor (λ x. x.b) (λ y x. record x { b = y }) (λ s. s.b.closed) (λ s. record s { b = closing s.b })
-      (λ s s'. (s'.b.producer ≡ s.b.producer) × (s' ≡ record s { b = s'.b }))
+  abbrev pub side_sends_b : SendingChannel (ManagerState A C M) (ManagerPast C M) HeadB M C
+  side_sends_b = alone rules_b ManagerStandsFor (λ x. x.b) (λ y x. record x { b = y }) (λ _. refl) (λ s. s.b.closed)
+      (λ s. record s { b = closing s.b })
+      (λ s s'. (s'.b.producer ≡ s.b.producer) × (s' ≡ record s { b = s'.b })) (λ _. (refl, refl)) (λ _. (refl, refl))
 
-  abbrev pub side_sends_c : SendingChannel (ClientState A C M) (ClientPast C M) HeadC C
-  side_sends_c = alone rules_c ClientStandsFor (λ x. x.c) (λ y x. record x { c = y }) (λ s. s.c.closed) (λ s. record s { c = closing s.c })
-      (λ s s'. (s'.c.producer ≡ s.c.producer) × (s' ≡ record s { c = s'.c }))
+  abbrev pub side_sends_c : SendingChannel (ClientState A C M) (ClientPast C M) HeadC C M
+  side_sends_c = alone rules_c ClientStandsFor (λ x. x.c) (λ y x. record x { c = y }) (λ _. refl) (λ s. s.c.closed)
+      (λ s. record s { c = closing s.c })
+      (λ s s'. (s'.c.producer ≡ s.c.producer) × (s' ≡ record s { c = s'.c })) (λ _. (refl, refl)) (λ _. (refl, refl))
 
-  abbrev pub side_sends_d : SendingChannel (ManagerState A C M) (ManagerPast C M) HeadD M
-  side_sends_d = record (alone rules_d ManagerStandsFor (λ x. x.d) (λ y x. record x { d = y }) (λ s. s.d.closed) (λ s. record s { d = closing s.d })
-      (λ s s'. (s'.d.producer ≡ s.d.producer) × (s' ≡ record s { d = s'.d; book = s'.book }))) {
-        stops = λ x. manager_answer x.history;
-        with_beat = λ b x. record x { history = x.history ++ Answer b ∷ []; d = offered rules_d b (manager_home x.history b.head) x.d };
-      }
+  abbrev pub side_sends_d : SendingChannel (ManagerState A C M) (ManagerPast C M) HeadD M C
+  side_sends_d = coupled rules_d ManagerStandsFor (λ x. x.d) (λ y x. record x { d = y }) (λ _. refl) (λ s. s.d.closed)
+      (λ s. record s { d = closing s.d })
+      (λ s s'. (s'.d.producer ≡ s.d.producer) × (s' ≡ record s { d = s'.d; book = s'.book })) (λ _. (refl, refl)) (λ _. (refl, refl))
+      Answer (λ x. x.history) (λ es x. record x { history = es }) (λ _. refl) manager_answer (λ es b. manager_home es b.head)
 
-  abbrev pub side_sends_e : SendingChannel (ClientState A C M) (ClientPast C M) HeadE C
-  side_sends_e = alone rules_e ClientStandsFor (λ x. x.e) (λ y x. record x { e = y }) (λ s. s.e.closed) (λ s. record s { e = closing s.e })
-      (λ s s'. (s'.e.producer ≡ s.e.producer) × (s' ≡ record s { e = s'.e }))
+  abbrev pub side_sends_e : SendingChannel (ClientState A C M) (ClientPast C M) HeadE C M
+  side_sends_e = alone rules_e ClientStandsFor (λ x. x.e) (λ y x. record x { e = y }) (λ _. refl) (λ s. s.e.closed)
+      (λ s. record s { e = closing s.e })
+      (λ s s'. (s'.e.producer ≡ s.e.producer) × (s' ≡ record s { e = s'.e })) (λ _. (refl, refl)) (λ _. (refl, refl))
 
   -- the channels that it takes
   abbrev pub side_takes_a : TakingChannel (ManagerState A C M) (ManagerPast C M) HeadA M

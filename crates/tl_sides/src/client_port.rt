@@ -17,11 +17,10 @@ use tl_settle::ClientBook;
 /// from a bus of `M` bytes. It offers beats of A, C and E, and takes those of B and D.
 ///
 /// It has an outbox for each channel that it sends, an inbox for each channel that it takes, and
-/// its book. The owner of the port and its rings moves beats from the outboxes into the rings, and
-/// from the rings into the inboxes. The contracts of the calls refer only to this side's own
-/// history.
+/// its book. The owner of the port and its rings calls these parts, and moves beats from the
+/// outboxes into the rings, and from the rings into the inboxes.
 #[derive(Drop)]
-pub struct ClientPort<const C: usize, const M: usize, A: Allocator = Global> {
+pub(crate) struct ClientPort<const C: usize, const M: usize, A: Allocator = Global> {
     pub(crate) a: Outbox<ChA, C, M>,
     pub(crate) b: Inbox<ChB, C>,
     pub(crate) c: Outbox<ChC, C, M>,
@@ -41,7 +40,7 @@ impl<const C: usize, const M: usize, A: Allocator> Model for ClientPort<C, M, A>
 impl<const C: usize, const M: usize, A: Allocator> ClientPort<C, M, A> {
     /// Creates the port of a new side from its book. It has no precondition on the widths; its
     /// postconditions apply only to valid ones.
-    pub fn with_book(book: ClientBook<C, A>) -> Self
+    pub(crate) fn with_book(book: ClientBook<C, A>) -> Self
         ensures new { IsWidth C → IsWidth M → KnowsClient {w = C} book [] → ClientIsNew {C = C} {M = M} result }
         ensures ready_a { IsOpen result.a }
         ensures ready_c { IsOpen result.c }
@@ -62,7 +61,7 @@ impl<const C: usize, const M: usize, A: Allocator> ClientPort<C, M, A> {
 
     /// Takes all beats of both inboxes, and records those of D in the book, in order. Requires: `C`
     /// is a width.
-    pub fn take_all(&mut self)
+    pub(crate) fn take_all(&mut self)
         requires { IsWidth C }
         // for every history that the book records
         ensures book { (es : List (Event C)) → KnowsClient self.old.book es →

@@ -33,9 +33,7 @@ mod sync_bridge;
 mod taking;
 
 pub use channel_calls::Forward;
-pub use client_port::ClientPort;
 pub use client_side::ClientSide;
-pub use manager_port::ManagerPort;
 pub use manager_side::ManagerSide;
 pub use per_channel::PerChannel;
 pub use receipts::{ClientReceipt, FinishedClient, FinishedManager, ManagerReceipt};

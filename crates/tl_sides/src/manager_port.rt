@@ -17,10 +17,9 @@ use tl_settle::ManagerBook;
 /// from a bus of `C` bytes. It offers beats of B and D, and takes those of A, C and E.
 ///
 /// It has an outbox for each channel that it sends, an inbox for each channel that it takes, and
-/// its book, like [`crate::ClientPort`]. The contracts of the calls refer only to this side's own
-/// history.
+/// its book, like [`crate::client_port::ClientPort`].
 #[derive(Drop)]
-pub struct ManagerPort<const C: usize, const M: usize, A: Allocator = Global> {
+pub(crate) struct ManagerPort<const C: usize, const M: usize, A: Allocator = Global> {
     pub(crate) a: Inbox<ChA, M>,
     pub(crate) b: Outbox<ChB, M, C>,
     pub(crate) c: Inbox<ChC, M>,
@@ -40,7 +39,7 @@ impl<const C: usize, const M: usize, A: Allocator> Model for ManagerPort<C, M, A
 impl<const C: usize, const M: usize, A: Allocator> ManagerPort<C, M, A> {
     /// Creates the port of a new side from its book. It has no precondition on the widths; its
     /// postconditions apply only to valid ones.
-    pub fn with_book(book: ManagerBook<M, A>) -> Self
+    pub(crate) fn with_book(book: ManagerBook<M, A>) -> Self
         ensures new { IsWidth C → IsWidth M → KnowsManager {w = M} book [] → ManagerIsNew {C = C} {M = M} result }
         ensures ready_b { IsOpen result.b }
         ensures ready_d { IsOpen result.d }
@@ -61,7 +60,7 @@ impl<const C: usize, const M: usize, A: Allocator> ManagerPort<C, M, A> {
 
     /// Takes all beats of all three inboxes, and records those of A in the book, in order. Requires:
     /// `M` is a width.
-    pub fn take_all(&mut self)
+    pub(crate) fn take_all(&mut self)
         requires { IsWidth M }
         // for every history that the book records
         ensures book { (es : List (Event M)) → KnowsManager self.old.book es →

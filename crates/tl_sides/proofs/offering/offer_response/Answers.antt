@@ -1,7 +1,9 @@
-use Rattle.std.proofs.Common.{rules, refl, subst, ap}
+use Rattle.std.proofs.Common.{◌≡◌, rules, subst}
 use Rattle.std.specs.Prelude.{IfOk}
-use Rattle.tl_sides.proofs.Words.{beat_small, rules_d, IsPlaceOf, answered, manager_homes}
-use Rattle.tl_sides.proofs.BoxSteps.{checked_in, answered_with}
+use Rattle.tl_sides.proofs.Words.{beat_small, rules_d, IsPlaceOf, answered_answer, manager_home, manager_homes}
+use Rattle.tl_settle.specs.Books.{manager_decides}
+use Rattle.tl_sides.proofs.BoxSteps.{book_accepts, book_refuses, booked_checked, between_of, responds}
+use Rattle.tl_sides.proofs.BridgeSteps.{homes_given}
 use Rattle.tl_sides.proofs.offering.offer_response.Goals as goal
 
 pub offer_at-requires : goal.offer_at-requires
@@ -19,31 +21,15 @@ offer_at-requires g c = (
 )
 
 pub returns-in-Err : goal.returns-in-Err
-returns-in-Err g c = record {
-  admitted = λ x h. c.in-Err.ensures.admits.admitted x.history c.args.beat.now h.1
-      (checked_in rules_d _ (answered x.history) (manager_homes x.history) x.sent c.args.beat.now _ h.0 c.check.ensures.place
-      (c.check.ensures.first_fault (answered x.history) (manager_homes x.history) x.sent h.0));
-  accepted = λ x h. tt;
-  fault = λ x h. c.in-Err.ensures.admits.fault x.history c.args.beat.now h.1
-      (checked_in rules_d _ (answered x.history) (manager_homes x.history) x.sent c.args.beat.now _ h.0 c.check.ensures.place
-      (c.check.ensures.first_fault (answered x.history) (manager_homes x.history) x.sent h.0));
-  refused = ap (λ book. record { box = c.args.outbox.now; book = book }) c.in-Err.ensures.admits.refused;
-  rest = c.requires.2.1;
-}
+returns-in-Err g c = book_refuses manager_decides (λ es homes. manager_homes es ≡ homes) (λ es b. manager_home es b.head) c.args.outbox.now _
+    c.args.beat.now _ c.check.ensures.place c.check.ensures.first_fault _ _ c.in-Err.ensures.admits
 
 pub returns : goal.returns
-returns g c = record {
-  admitted = λ x h. c.in-Ok.ensures.admits.admitted x.history c.args.beat.now h.1
-      (checked_in rules_d _ (answered x.history) (manager_homes x.history) x.sent c.args.beat.now _ h.0 c.check.ensures.place
-      (c.check.ensures.first_fault (answered x.history) (manager_homes x.history) x.sent h.0));
-  accepted = λ x h.
-      let checked = checked_in rules_d _ (answered x.history) (manager_homes x.history) x.sent c.args.beat.now _ h.0 c.check.ensures.place
-      (c.check.ensures.first_fault (answered x.history) (manager_homes x.history) x.sent h.0) in (
-        answered_with x.history _ _ x.sent c.args.beat.now _ h.0 (c.in-Ok.ensures.home x.history c.args.beat.now h.1 checked)
-            (c.offer_at.ensures.accepted (answered x.history) (manager_homes x.history) x.sent h.0),
-        c.in-Ok.ensures.admits.noted x.history c.args.beat.now h.1 checked,
-      );
-  fault = λ x h. tt;
-  refused = tt;
-  rest = c.offer_at.ensures.still;
-}
+returns g c = book_accepts manager_decides (λ es homes. manager_homes es ≡ homes) (λ es b. manager_home es b.head) c.args.outbox.now _
+    c.args.beat.now _ c.check.ensures.place c.check.ensures.first_fault _ _ _ c.in-Ok.ensures.admits (λ es. answered_answer es c.args.beat.now)
+    (λ x h. responds x.history _ _ x.crossing c.args.beat.now _ c.requires.2 c.offer_at.ensures.still h.box h.accepted
+    (c.in-Ok.ensures.home x.history c.args.beat.now h.book (booked_checked manager_decides (λ es homes. manager_homes es ≡ homes)
+    (λ es b. manager_home es b.head) c.args.outbox.now _ c.args.beat.now _ c.check.ensures.place c.check.ensures.first_fault x h))
+    (c.offer_at.ensures.accepted x.crossing.accepted x.crossing.homes x.crossing.taken h.box.sent))
+    (λ x h. homes_given x.history c.args.beat.now x.crossing.accepted x.crossing.homes
+    (between_of rules_d c.args.outbox.now x.crossing.accepted x.crossing.homes x.crossing.taken h.box.sent) h.accepted h.homes)

@@ -1,5 +1,5 @@
-use Rattle.tl_offer.proofs.Names.{there_is, refl, arith, slice_get_past, slice_get_read, sym, subst, client_small, SameClientEnds, on_side_a}
-use Rattle.tl_offer.proofs.NextOffers.{waits, answers, closes, holds-after, client-same}
+use Rattle.tl_offer.proofs.Names.{there_is, refl, arith, slice_get_past, slice_get_read, client_small, side_sends_a}
+use Rattle.tl_offer.proofs.NextOffers.{waits, answers, closes}
 use Rattle.tl_offer.proofs.OfferSteps.{fails}
 use Rattle.tl_ring.proofs.FieldSizes.{beat_small}
 use Rattle.tl_offer.proofs.offers.ClientSideOffersBeatOfHeadA.offer_next.Goals as goal
@@ -8,15 +8,12 @@ pub close_a-requires : goal.close_a-requires
 close_a-requires g c = client_small g.row.C g.row.M c.requires.client c.requires.manager
 
 pub returns-then-at-beats : goal.returns-then-at-beats
-returns-then-at-beats g c =
-    let said = c.close_a.ensures in
-    rw c.from_close.ensures (closes on_side_a _ _ _ (slice_get_past c.args.beats.now c.args.at c.if-at-beats.true) c.close_a.result _
-    (holds-after (SameClientEnds c.args.self.now) c.close_a.result _ _ _ said.closed said.refused (client-same _)
-    (record { a = refl; b = refl; c = refl; d = refl; e = refl })) said.refused said.between said.stands)
+returns-then-at-beats g c = rw c.from_close.ensures
+    (closes side_sends_a _ _ _ (slice_get_past c.args.beats.now c.args.at c.if-at-beats.true) c.close_a.result _ c.close_a.ensures)
 
 pub returns-then-not-ready_a : goal.returns-then-not-ready_a
 returns-then-not-ready_a g c =
-    waits on_side_a c.args.self.now (client-same _) _ (λ x h. h.a.pipe) (fails c.ready_a.result c.ready_a.ensures c.if-not-ready_a.true) _ _ _
+    waits side_sends_a c.args.self.now _ (λ x h. h.a.pipe) (fails c.ready_a.result c.ready_a.ensures c.if-not-ready_a.true) _ _ _
     (there_is c.args.beats.now c.args.at c.if-at-beats.false).1
 
 pub bounds-beats-at : goal.bounds-beats-at
@@ -32,9 +29,6 @@ offer_a-requires g c = (
 )
 
 pub returns : goal.returns
-returns g c =
-    let said = c.offer_a.ensures in
-    rw c.from_offer.ensures (answers on_side_a _ _ _ _
-    (slice_get_read c.args.beats.now _ c.args.at c.index-beats-at.result refl c.if-at-beats.false c.index-beats-at.is) _ (λ x h. h.a.pipe) (c.ready_a.ensures.0 c.if-not-ready_a.false) c.offer_a.result _
-    (subst (SameClientEnds c.args.self.now) (sym said.rest.1) (record { a = said.rest.0; b = refl; c = refl; d = refl; e = refl })) said.admitted
-    said.accepted said.fault said.refused)
+returns g c = rw c.from_offer.ensures (answers side_sends_a _ _ _ _
+    (slice_get_read c.args.beats.now _ c.args.at c.index-beats-at.result refl c.if-at-beats.false c.index-beats-at.is) _ (λ x h. h.a.pipe)
+    (c.ready_a.ensures.0 c.if-not-ready_a.false) c.offer_a.result _ c.offer_a.ensures)

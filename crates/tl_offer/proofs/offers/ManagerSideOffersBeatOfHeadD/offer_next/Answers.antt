@@ -1,5 +1,5 @@
-use Rattle.tl_offer.proofs.Names.{there_is, refl, arith, slice_get_past, slice_get_read, sym, subst, manager_small, SameManagerEnds, on_side_d}
-use Rattle.tl_offer.proofs.NextOffers.{waits, answers, closes, holds-after, manager-same}
+use Rattle.tl_offer.proofs.Names.{there_is, refl, arith, slice_get_past, slice_get_read, manager_small, side_sends_d}
+use Rattle.tl_offer.proofs.NextOffers.{waits, answers, closes}
 use Rattle.tl_offer.proofs.OfferSteps.{fails}
 use Rattle.tl_ring.proofs.FieldSizes.{beat_small}
 use Rattle.tl_offer.proofs.offers.ManagerSideOffersBeatOfHeadD.offer_next.Goals as goal
@@ -8,15 +8,12 @@ pub close_d-requires : goal.close_d-requires
 close_d-requires g c = manager_small g.row.C g.row.M c.requires.client c.requires.manager
 
 pub returns-then-at-beats : goal.returns-then-at-beats
-returns-then-at-beats g c =
-    let said = c.close_d.ensures in
-    rw c.from_close.ensures (closes on_side_d _ _ _ (slice_get_past c.args.beats.now c.args.at c.if-at-beats.true) c.close_d.result _
-    (holds-after (SameManagerEnds c.args.self.now) c.close_d.result _ _ _ said.closed said.refused (manager-same _)
-    (record { a = refl; b = refl; c = refl; d = refl; e = refl })) said.refused said.between said.stands)
+returns-then-at-beats g c = rw c.from_close.ensures
+    (closes side_sends_d _ _ _ (slice_get_past c.args.beats.now c.args.at c.if-at-beats.true) c.close_d.result _ c.close_d.ensures)
 
 pub returns-then-not-ready_d : goal.returns-then-not-ready_d
 returns-then-not-ready_d g c =
-    waits on_side_d c.args.self.now (manager-same _) _ (λ x h. h.d.pipe) (fails c.ready_d.result c.ready_d.ensures c.if-not-ready_d.true) _ _ _
+    waits side_sends_d c.args.self.now _ (λ x h. h.d.pipe) (fails c.ready_d.result c.ready_d.ensures c.if-not-ready_d.true) _ _ _
     (there_is c.args.beats.now c.args.at c.if-at-beats.false).1
 
 pub bounds-beats-at : goal.bounds-beats-at
@@ -32,9 +29,6 @@ offer_d-requires g c = (
 )
 
 pub returns : goal.returns
-returns g c =
-    let said = c.offer_d.ensures in
-    rw c.from_offer.ensures (answers on_side_d _ _ _ _
-    (slice_get_read c.args.beats.now _ c.args.at c.index-beats-at.result refl c.if-at-beats.false c.index-beats-at.is) _ (λ x h. h.d.pipe) (c.ready_d.ensures.0 c.if-not-ready_d.false) c.offer_d.result _
-    (subst (SameManagerEnds c.args.self.now) (sym said.rest.1) (record { a = refl; b = refl; c = refl; d = said.rest.0; e = refl })) said.admitted
-    said.accepted said.fault said.refused)
+returns g c = rw c.from_offer.ensures (answers side_sends_d _ _ _ _
+    (slice_get_read c.args.beats.now _ c.args.at c.index-beats-at.result refl c.if-at-beats.false c.index-beats-at.is) _ (λ x h. h.d.pipe)
+    (c.ready_d.ensures.0 c.if-not-ready_d.false) c.offer_d.result _ c.offer_d.ensures)
