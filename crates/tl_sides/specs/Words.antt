@@ -1,6 +1,6 @@
 -- Definitions of the crates below that those of this crate use.
 pub use Rattle.circular_buffer.specs.Buffer.{Buffer}
-pub use Rattle.tl_burst.specs.Handing.{fault_after, homes_with, rest_of}
+pub use Rattle.tl_burst.specs.Handing.{fault_after, rest_of}
 pub use Rattle.tl_msg.specs.Faults.{IsLawfulBeat}
 pub use Rattle.tl_msg.specs.Rules.{Rules}
 pub use Rattle.tl_msg.specs.Tables.{rules_a, rules_b, rules_c, rules_d, rules_e}
