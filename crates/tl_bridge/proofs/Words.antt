@@ -31,7 +31,6 @@ pub use Rattle.tl_run.proofs.RoundMoves.{client-offers, client-takes-all, manage
 pub use Rattle.tl_run.proofs.RunRound.{due-a, due-d}
 pub use Rattle.tl_run.specs.Arrivals.{no_beats}
 pub use Rattle.tl_run.specs.Inner.Arriving.{HasRoom, HasRoomFor, beats_of}
-pub use Rattle.tl_offer.specs.Offering.{on_side_a, on_side_b, on_side_c, on_side_d, on_side_e}
 pub use Rattle.tl_run.specs.Inner.Running.{AllStop, AreStopped, HasEnded, HaveRoomToCount, IsAt, IsSent, IsStopped, all_progress, all_standing}
 pub use Rattle.tl_run.specs.Inner.Running.{all_steps, all_stopped, all_under_way, counted, of_both, progress, standing_count, under_way}
 pub use Rattle.tl_run.specs.Scripts.{IsShort, near_beats}
@@ -50,6 +49,7 @@ pub use Rattle.tl_sides.proofs.SameSides.{same_client_then, same_manager_then, s
 pub use Rattle.tl_sides.specs.Bridges.{Bridge, Past, StandsFor}
 pub use Rattle.tl_sides.specs.Crossings.{stops_alone}
 pub use Rattle.tl_sides.specs.Ends.{AreStanding, Fetches, Pumps, fetch_count, pump_count}
+pub use Rattle.tl_sides.specs.Sides.{side_sends_a, side_sends_b, side_sends_c, side_sends_d, side_sends_e}
 pub use Rattle.tl_sides.specs.Sides.{AreSides, ClientPast, ClientStandsFor, ClientState, ManagerPast, ManagerStandsFor, ManagerState, SameClient}
 pub use Rattle.tl_sides.specs.Sides.{SameManager, SidesMeet, client_pumps, client_takes_b, client_takes_d, manager_pumps, manager_takes_a}
 pub use Rattle.tl_sides.specs.Sides.{manager_takes_c, manager_takes_e, new_client, new_manager}

@@ -1,6 +1,6 @@
 -- The parts of a handle that a call keeps.
 use Rattle.std.specs.Prelude.{ℕ, Option, None, Some, Result, Ok, Err, OnOk, OnErr}
-use Rattle.std.proofs.Common.{◌≡◌, refl, sym, ap, ◌∙◌, subst, rules}
+use Rattle.std.proofs.Common.{◌≡◌, sym, ap, ◌∙◌, subst, rules}
 use Rattle.tl_sides.specs.Calls.{SendingChannel}
 use Rattle.tl_sides.specs.Sides.{ClientState, ManagerState, SameClient, SameManager}
 use Rattle.tl_sides.specs.Sides.{side_sends_a, side_sends_b, side_sends_c, side_sends_d, side_sends_e}
@@ -26,49 +26,30 @@ by_answer : {E Q Q' X : Type 0} (answer : Result (Unit {0}) E) → OnOk answer Q
 by_answer (Ok done) q r f g = f q
 by_answer (Err fault) q r f g = g r
 
--- a close leaves the same side, if nothing changes and also if the channel is closed
-after_close : {R P H : Type 0} {w : ℕ} (k : SendingChannel R P H w) (Same : R → R → Type 0) → ((q : R) → Same q q) →
-    ((q : R) → Same q (k.as_closed q)) → {q q' : R} {number : ℕ} → ClosesNumbered k q number q' → Same q q'
-after_close k Same same closed {q = q} told = by_answer told.answer told.closes.closed told.closes.refused
-    (λ e. subst (λ r. Same q r) (sym e) (closed q)) (λ e. subst (λ r. Same q r) (sym e) (same q))
+-- a close keeps the parts that an offer keeps, if nothing changes and also if the channel is closed
+pub close_keeps : {R P H : Type 0} {w v : ℕ} (k : SendingChannel R P H w v) {q q' : R} {number : ℕ} → ClosesNumbered k q number q' → k.Keeps q q'
+close_keeps k {q = q} told = by_answer told.answer told.closes.closed told.closes.refused
+    (λ e. subst (λ r. k.Keeps q r) (sym e) (k.keeps_closed q)) (λ e. subst (λ r. k.Keeps q r) (sym e) (k.keeps_same q))
 
 -- whatever a call changes in a side, its ends of the rings stay the same
 module _ {A : Type 0} {C M : ℕ} where
   pub client_same : (s : ClientState A C M) → SameClient s s
   client_same s = search rules
 
-  pub offered_a : {s s' : ClientState A C M} → (side_sends_a {A = A} {C = C} {M = M}).Keeps s s' → SameClient s s'
-  offered_a rest = search rules
-
-  pub closed_a : {s s' : ClientState A C M} {number : ℕ} → ClosesNumbered side_sends_a s number s' → SameClient s s'
-  closed_a = after_close side_sends_a SameClient client_same (λ s. offered_a (refl, refl))
-
-  pub closed_rest_a : {s s' : ClientState A C M} {number : ℕ} → ClosesNumbered side_sends_a s number s' → (side_sends_a {A = A} {C = C} {M = M}).Keeps s s'
-  closed_rest_a = after_close side_sends_a ((side_sends_a {A = A} {C = C} {M = M}).Keeps) (λ s. (refl, refl)) (λ s. (refl, refl))
+  pub same_side_a : {s s' : ClientState A C M} → (side_sends_a {A = A} {C = C} {M = M}).Keeps s s' → SameClient s s'
+  same_side_a rest = search rules
 
   pub taken_b : {s s' : ClientState A C M} → (side_takes_b {A = A} {C = C} {M = M}).Keeps s s' → SameClient s s'
   taken_b rest = search rules
 
-  pub offered_c : {s s' : ClientState A C M} → (side_sends_c {A = A} {C = C} {M = M}).Keeps s s' → SameClient s s'
-  offered_c rest = search rules
-
-  pub closed_c : {s s' : ClientState A C M} {number : ℕ} → ClosesNumbered side_sends_c s number s' → SameClient s s'
-  closed_c = after_close side_sends_c SameClient client_same (λ s. offered_c (refl, refl))
-
-  pub closed_rest_c : {s s' : ClientState A C M} {number : ℕ} → ClosesNumbered side_sends_c s number s' → (side_sends_c {A = A} {C = C} {M = M}).Keeps s s'
-  closed_rest_c = after_close side_sends_c ((side_sends_c {A = A} {C = C} {M = M}).Keeps) (λ s. (refl, refl)) (λ s. (refl, refl))
+  pub same_side_c : {s s' : ClientState A C M} → (side_sends_c {A = A} {C = C} {M = M}).Keeps s s' → SameClient s s'
+  same_side_c rest = search rules
 
   pub taken_d : {s s' : ClientState A C M} → (side_takes_d {A = A} {C = C} {M = M}).Keeps s s' → SameClient s s'
   taken_d rest = search rules
 
-  pub offered_e : {s s' : ClientState A C M} → (side_sends_e {A = A} {C = C} {M = M}).Keeps s s' → SameClient s s'
-  offered_e rest = search rules
-
-  pub closed_e : {s s' : ClientState A C M} {number : ℕ} → ClosesNumbered side_sends_e s number s' → SameClient s s'
-  closed_e = after_close side_sends_e SameClient client_same (λ s. offered_e (refl, refl))
-
-  pub closed_rest_e : {s s' : ClientState A C M} {number : ℕ} → ClosesNumbered side_sends_e s number s' → (side_sends_e {A = A} {C = C} {M = M}).Keeps s s'
-  closed_rest_e = after_close side_sends_e ((side_sends_e {A = A} {C = C} {M = M}).Keeps) (λ s. (refl, refl)) (λ s. (refl, refl))
+  pub same_side_e : {s s' : ClientState A C M} → (side_sends_e {A = A} {C = C} {M = M}).Keeps s s' → SameClient s s'
+  same_side_e rest = search rules
 
   pub manager_same : (t : ManagerState A C M) → SameManager t t
   manager_same t = search rules
@@ -76,26 +57,14 @@ module _ {A : Type 0} {C M : ℕ} where
   pub taken_a : {t t' : ManagerState A C M} → (side_takes_a {A = A} {C = C} {M = M}).Keeps t t' → SameManager t t'
   taken_a rest = search rules
 
-  pub offered_b : {t t' : ManagerState A C M} → (side_sends_b {A = A} {C = C} {M = M}).Keeps t t' → SameManager t t'
-  offered_b rest = search rules
-
-  pub closed_b : {t t' : ManagerState A C M} {number : ℕ} → ClosesNumbered side_sends_b t number t' → SameManager t t'
-  closed_b = after_close side_sends_b SameManager manager_same (λ t. offered_b (refl, refl))
-
-  pub closed_rest_b : {t t' : ManagerState A C M} {number : ℕ} → ClosesNumbered side_sends_b t number t' → (side_sends_b {A = A} {C = C} {M = M}).Keeps t t'
-  closed_rest_b = after_close side_sends_b ((side_sends_b {A = A} {C = C} {M = M}).Keeps) (λ t. (refl, refl)) (λ t. (refl, refl))
+  pub same_side_b : {t t' : ManagerState A C M} → (side_sends_b {A = A} {C = C} {M = M}).Keeps t t' → SameManager t t'
+  same_side_b rest = search rules
 
   pub taken_c : {t t' : ManagerState A C M} → (side_takes_c {A = A} {C = C} {M = M}).Keeps t t' → SameManager t t'
   taken_c rest = search rules
 
-  pub offered_d : {t t' : ManagerState A C M} → (side_sends_d {A = A} {C = C} {M = M}).Keeps t t' → SameManager t t'
-  offered_d rest = search rules
-
-  pub closed_d : {t t' : ManagerState A C M} {number : ℕ} → ClosesNumbered side_sends_d t number t' → SameManager t t'
-  closed_d = after_close side_sends_d SameManager manager_same (λ t. offered_d (refl, refl))
-
-  pub closed_rest_d : {t t' : ManagerState A C M} {number : ℕ} → ClosesNumbered side_sends_d t number t' → (side_sends_d {A = A} {C = C} {M = M}).Keeps t t'
-  closed_rest_d = after_close side_sends_d ((side_sends_d {A = A} {C = C} {M = M}).Keeps) (λ t. (refl, refl)) (λ t. (refl, refl))
+  pub same_side_d : {t t' : ManagerState A C M} → (side_sends_d {A = A} {C = C} {M = M}).Keeps t t' → SameManager t t'
+  same_side_d rest = search rules
 
   pub taken_e : {t t' : ManagerState A C M} → (side_takes_e {A = A} {C = C} {M = M}).Keeps t t' → SameManager t t'
   taken_e rest = search rules

@@ -106,19 +106,19 @@ pub record ManagerStays (s t : ManagerState Global CLIENT MANAGER) : Type 0 wher
   pub book : t.book ≡ s.book
 
 -- the channels that the held sides send
-abbrev pub sends_a : SendingChannel (ClientState Global CLIENT MANAGER) (ClientPast CLIENT MANAGER) HeadA CLIENT
+abbrev pub sends_a : SendingChannel (ClientState Global CLIENT MANAGER) (ClientPast CLIENT MANAGER) HeadA CLIENT MANAGER
 sends_a = side_sends_a
 
-abbrev pub sends_b : SendingChannel (ManagerState Global CLIENT MANAGER) (ManagerPast CLIENT MANAGER) HeadB MANAGER
+abbrev pub sends_b : SendingChannel (ManagerState Global CLIENT MANAGER) (ManagerPast CLIENT MANAGER) HeadB MANAGER CLIENT
 sends_b = side_sends_b
 
-abbrev pub sends_c : SendingChannel (ClientState Global CLIENT MANAGER) (ClientPast CLIENT MANAGER) HeadC CLIENT
+abbrev pub sends_c : SendingChannel (ClientState Global CLIENT MANAGER) (ClientPast CLIENT MANAGER) HeadC CLIENT MANAGER
 sends_c = side_sends_c
 
-abbrev pub sends_d : SendingChannel (ManagerState Global CLIENT MANAGER) (ManagerPast CLIENT MANAGER) HeadD MANAGER
+abbrev pub sends_d : SendingChannel (ManagerState Global CLIENT MANAGER) (ManagerPast CLIENT MANAGER) HeadD MANAGER CLIENT
 sends_d = side_sends_d
 
-abbrev pub sends_e : SendingChannel (ClientState Global CLIENT MANAGER) (ClientPast CLIENT MANAGER) HeadE CLIENT
+abbrev pub sends_e : SendingChannel (ClientState Global CLIENT MANAGER) (ClientPast CLIENT MANAGER) HeadE CLIENT MANAGER
 sends_e = side_sends_e
 
 -- the channels that the held sides take

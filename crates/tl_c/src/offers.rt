@@ -32,7 +32,7 @@ pub extern "C" fn tl_offer_a(
     beat: &BeatFields,
     lanes: &[u8; CLIENT],
 ) -> u8
-    ensures offer { Offers HoldsClient NOT_OPEN sends_a (λ x. x.a) (beat_a beat.now lanes.now)
+    ensures offer { Offers HoldsClient NOT_OPEN sends_a (beat_a beat.now lanes.now)
         client.old.owned.held client.new.owned.held result }
     ensures kept { KeepsOfClient sends_a.Keeps client.old client.new }
 {
@@ -61,7 +61,7 @@ pub extern "C" fn tl_offer_b(
     beat: &BeatFields,
     lanes: &[u8; MANAGER],
 ) -> u8
-    ensures offer { Offers HoldsManager NOT_OPEN sends_b (λ x. x.b) (beat_b beat.now lanes.now)
+    ensures offer { Offers HoldsManager NOT_OPEN sends_b (beat_b beat.now lanes.now)
         manager.old.owned.held manager.new.owned.held result }
     ensures kept { KeepsOfManager sends_b.Keeps manager.old manager.new }
 {
@@ -90,7 +90,7 @@ pub extern "C" fn tl_offer_c(
     beat: &BeatFields,
     lanes: &[u8; CLIENT],
 ) -> u8
-    ensures offer { Offers HoldsClient NOT_OPEN sends_c (λ x. x.c) (beat_c beat.now lanes.now)
+    ensures offer { Offers HoldsClient NOT_OPEN sends_c (beat_c beat.now lanes.now)
         client.old.owned.held client.new.owned.held result }
     ensures kept { KeepsOfClient sends_c.Keeps client.old client.new }
 {
@@ -119,7 +119,7 @@ pub extern "C" fn tl_offer_d(
     beat: &BeatFields,
     lanes: &[u8; MANAGER],
 ) -> u8
-    ensures offer { Offers HoldsManager NOT_OPEN sends_d (λ x. x.d) (beat_d beat.now lanes.now)
+    ensures offer { Offers HoldsManager NOT_OPEN sends_d (beat_d beat.now lanes.now)
         manager.old.owned.held manager.new.owned.held result }
     ensures kept { KeepsOfManager sends_d.Keeps manager.old manager.new }
 {
@@ -148,7 +148,7 @@ pub extern "C" fn tl_offer_e(
     beat: &BeatFields,
     lanes: &[u8; CLIENT],
 ) -> u8
-    ensures offer { Offers HoldsClient NOT_OPEN sends_e (λ x. x.e) (beat_e beat.now lanes.now)
+    ensures offer { Offers HoldsClient NOT_OPEN sends_e (beat_e beat.now lanes.now)
         client.old.owned.held client.new.owned.held result }
     ensures kept { KeepsOfClient sends_e.Keeps client.old client.new }
 {

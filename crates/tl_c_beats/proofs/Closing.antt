@@ -5,7 +5,7 @@ use Rattle.std.proofs.lemmas.Option.{none-some}
 use Rattle.tl_ring.specs.declared.fault.EndFault.{EndFault}
 use Rattle.tl_ring.specs.declared.fault.EndFault.TheVariants.{MidBurst}
 use Rattle.tl_burst.specs.Handing.{rest_of}
-use Rattle.tl_sides.specs.Calls.{SendingChannel}
+use Rattle.tl_sides.specs.Calls.{SendingChannel, ended}
 use Rattle.tl_c_beats.specs.Answers.{close_answer, close_number}
 use Rattle.tl_c_beats.specs.Calls.{Stands, Closes, ClosesNumbered}
 use Rattle.tl_c_beats.proofs.Numbers.{end_fault_numbered}
@@ -27,7 +27,7 @@ held_not_none : {S Q : Type 0} {before : Option S} {h : S} → before ≡ Some h
 held_not_none {h = h} was e = absurd (none-some h (sym e ∙ was))
 
 -- nothing is held
-pub closes_none : {S P R H : Type 0} {w : ℕ} {StandsFor : S → P → Type 0} {none : ℕ} {k : SendingChannel R P H w} {before now : Option S} →
+pub closes_none : {S P R H : Type 0} {w v : ℕ} {StandsFor : S → P → Type 0} {none : ℕ} {k : SendingChannel R P H w v} {before now : Option S} →
     before ≡ None → now ≡ None → Closes (Stands StandsFor) none k before now none
 closes_none {StandsFor = StandsFor} was is = record {
   nothing = λ e. refl;
@@ -37,7 +37,7 @@ closes_none {StandsFor = StandsFor} was is = record {
 }
 
 -- the held value is the side q before the call and q' after it
-pub closes : {S P R H : Type 0} {w : ℕ} {Holds : Option S → P → Type 0} {none : ℕ} {k : SendingChannel R P H w} {before now : Option S}
+pub closes : {S P R H : Type 0} {w v : ℕ} {Holds : Option S → P → Type 0} {none : ℕ} {k : SendingChannel R P H w v} {before now : Option S}
     {answer : ℕ} (of : R → S) {q q' : R} →
     before ≡ Some (of q) → now ≡ Some (of q') → ((x : P) → Holds (Some (of q)) x → k.Stands q x) →
     ((x : P) → k.Stands q' x → Holds (Some (of q')) x) →
@@ -46,8 +46,8 @@ closes {w = w} {Holds = Holds} {k = k} of was is to from told =
     let closed = told.answer in let said = told.closes in
     record {
       nothing = held_not_none was;
-      answers = λ x h. told.numbered ∙ close_told closed (rest_of k.rules w (k.accepted x)) (said.between x (to x (subst (λ s. Holds s x) was h)));
-      closed = λ x h e. subst (λ s. Holds s (k.ended x)) (sym is)
-          (from (k.ended x) (on_0 closed (said.stands x (to x (subst (λ s. Holds s x) was h))) (sym told.numbered ∙ e)));
+      answers = λ x h. told.numbered ∙ close_told closed (rest_of k.rules w (k.crossing x).accepted) (said.between x (to x (subst (λ s. Holds s x) was h)));
+      closed = λ x h e. subst (λ s. Holds s (ended k x)) (sym is)
+          (from (ended k x) (on_0 closed (said.stands x (to x (subst (λ s. Holds s x) was h))) (sym told.numbered ∙ e)));
       refused = λ e. is ∙ ap (λ z. Some (of z)) (on_else closed said.refused (λ z. e (told.numbered ∙ z))) ∙ sym was;
     }

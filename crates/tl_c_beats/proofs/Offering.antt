@@ -7,7 +7,7 @@ use Rattle.tl_msg.specs.declared.fault.SideFault.{SideFault}
 use Rattle.tl_ring.specs.Crossing.{World}
 use Rattle.tl_ring.specs.Pipe.{Pipe, IsReady}
 use Rattle.tl_msg.specs.declared.beat.BeatOf.{BeatOf}
-use Rattle.tl_sides.specs.Calls.{SendingChannel, OffersBeat}
+use Rattle.tl_sides.specs.Calls.{SendingChannel, OffersBeat, with_beat}
 use Rattle.tl_c_beats.specs.declared.answers.TheConstants.{NOT_READY}
 use Rattle.tl_c_beats.specs.Answers.{is_free, is_ready, fault_answer, offer_answer, offer_number}
 use Rattle.tl_c_beats.specs.Calls.{Stands, Asks, Offers}
@@ -83,43 +83,42 @@ module _ {S P : Type 0} {StandsFor : S → P → Type 0} {H : Type 0} {w v : ℕ
     same = is ∙ sym was;
   }
 
-module _ {S P : Type 0} {StandsFor : S → P → Type 0} {R H : Type 0} {w v : ℕ} {k : SendingChannel R P H w} {channel : P → World H w v}
-    {b : BeatOf H w} {before now : Option S}
+module _ {S P : Type 0} {StandsFor : S → P → Type 0} {R H : Type 0} {w v : ℕ} {k : SendingChannel R P H w v} {b : BeatOf H w} {before now : Option S}
     {none : ℕ} where
   -- nothing is held
-  pub offers_none : before ≡ None → now ≡ None → Offers (Stands StandsFor) none k channel b before now none
+  pub offers_none : before ≡ None → now ≡ None → Offers (Stands StandsFor) none k b before now none
   offers_none was is = record {
     nothing = λ e. refl;
-    answers = not_held StandsFor (λ x. none ≡ offer_answer (channel x) (k.stops x b)) was;
-    accepted = λ x held e. not_held StandsFor (λ x. Stands StandsFor now (k.with_beat b x)) was x held;
+    answers = not_held StandsFor (λ x. none ≡ offer_answer (k.crossing x) (k.stops x b)) was;
+    accepted = λ x held e. not_held StandsFor (λ x. Stands StandsFor now (with_beat k b x)) was x held;
     refused = λ e. is ∙ sym was;
   }
 
   -- the held value has a part on which the channel is this pipe
-  pub offers_later : (p : Pipe H v) (h : S) → ((x : P) → StandsFor h x → AreAlike p (channel x)) → before ≡ Some h → now ≡ Some h →
-      IsTrue false ↔ IsReady p → Offers (Stands StandsFor) none k channel b before now NOT_READY
+  pub offers_later : (p : Pipe H v) (h : S) → ((x : P) → StandsFor h x → AreAlike p (k.crossing x)) → before ≡ Some h → now ≡ Some h →
+      IsTrue false ↔ IsReady p → Offers (Stands StandsFor) none k b before now NOT_READY
   offers_later p h alike was is asked = record {
     nothing = held_not_none was;
     answers = λ x held. ap (λ t. if t then fault_answer (k.stops x b) else NOT_READY)
-        (ready_told false p (channel x) (alike x (stands_held StandsFor was x held)) asked);
+        (ready_told false p (k.crossing x) (alike x (stands_held StandsFor was x held)) asked);
     accepted = λ x held e. absurd (later_not_0 e);
     refused = λ e. is ∙ sym was;
   }
 
   -- the held value is the side q before the offer and q' after it; the offered beat is the one that C passes
-  pub offers : (of : R → S) (q q' : R) (p : Pipe H v) → ((x : P) → StandsFor (of q) x → AreAlike p (channel x)) →
+  pub offers : (of : R → S) (q q' : R) (p : Pipe H v) → ((x : P) → StandsFor (of q) x → AreAlike p (k.crossing x)) →
       before ≡ Some (of q) → now ≡ Some (of q') →
       ((x : P) → StandsFor (of q) x → k.Stands q x) → ((x : P) → k.Stands q' x → StandsFor (of q') x) →
       {answer : ℕ} {given : BeatOf H w} (offered : Result Unit SideFault) →
       given ≡ b → IsTrue true ↔ IsReady p → answer ≡ offer_number offered → OffersBeat k given q offered q' →
-      Offers (Stands StandsFor) none k channel b before now answer
+      Offers (Stands StandsFor) none k b before now answer
   offers of q q' p alike was is to from {answer = answer} {given = given} offered same_beat asked told said =
-      subst (λ z. Offers (Stands StandsFor) none k channel z before now answer) same_beat (record {
+      subst (λ z. Offers (Stands StandsFor) none k z before now answer) same_beat (record {
         nothing = held_not_none was;
         answers = λ x held. let s = stands_held StandsFor was x held in
             told ∙ verdict_told offered (k.stops x given) (said.admitted x (to x s)) (said.fault x (to x s))
-            ∙ ap (λ t. if t then fault_answer (k.stops x given) else NOT_READY) (ready_told true p (channel x) (alike x s) asked);
-        accepted = λ x held e. subst (λ s. Stands StandsFor s (k.with_beat given x)) (sym is)
-            (from (k.with_beat given x) (on_0 offered (said.accepted x (to x (stands_held StandsFor was x held))) (sym told ∙ e)));
+            ∙ ap (λ t. if t then fault_answer (k.stops x given) else NOT_READY) (ready_told true p (k.crossing x) (alike x s) asked);
+        accepted = λ x held e. subst (λ s. Stands StandsFor s (with_beat k given x)) (sym is)
+            (from (with_beat k given x) (on_0 offered (said.accepted x (to x (stands_held StandsFor was x held))) (sym told ∙ e)));
         refused = λ e. is ∙ ap (λ z. Some (of z)) (on_else offered said.refused (λ z. e (told ∙ z))) ∙ sym was;
       })

@@ -5,7 +5,7 @@ use Rattle.tl_msg.specs.declared.beat.BeatOf.{BeatOf}
 use Rattle.tl_burst.specs.Handing.{rest_of}
 use Rattle.tl_ring.specs.declared.fault.EndFault.{EndFault}
 use Rattle.tl_ring.specs.Crossing.{World}
-use Rattle.tl_sides.specs.Calls.{SendingChannel, ClosesChannel}
+use Rattle.tl_sides.specs.Calls.{SendingChannel, ClosesChannel, with_beat, ended}
 use Rattle.tl_c_beats.specs.declared.fields.BeatFields.{BeatFields}
 use Rattle.tl_c_beats.specs.Answers.{IsTold, is_ready, offer_answer, close_answer, close_number}
 
@@ -23,26 +23,26 @@ pub record Asks {S P : Type 0} (Holds : Option S → P → Type 0) {H : Type 0} 
 
 -- an offer of a beat on a channel of the held side: status `none` if nothing is held. If it is accepted, the past is
 -- extended; otherwise nothing changes
-pub record Offers {S P R : Type 0} (Holds : Option S → P → Type 0) (none : ℕ) {H : Type 0} {w v : ℕ} (k : SendingChannel R P H w)
-    (channel : P → World H w v) (b : BeatOf H w) (before now : Option S) (answer : ℕ) : Type 0 where
+pub record Offers {S P R : Type 0} (Holds : Option S → P → Type 0) (none : ℕ) {H : Type 0} {w v : ℕ} (k : SendingChannel R P H w v)
+    (b : BeatOf H w) (before now : Option S) (answer : ℕ) : Type 0 where
   pub nothing : before ≡ None → answer ≡ none
-  pub answers : (x : P) → Holds before x → answer ≡ offer_answer (channel x) (k.stops x b)
-  pub accepted : (x : P) → Holds before x → answer ≡ 0 → Holds now (k.with_beat b x)
+  pub answers : (x : P) → Holds before x → answer ≡ offer_answer (k.crossing x) (k.stops x b)
+  pub accepted : (x : P) → Holds before x → answer ≡ 0 → Holds now (with_beat k b x)
   pub refused : answer ≢ 0 → now ≡ before
 
 -- a close of a channel by its holder, and the status that C receives
-pub record ClosesNumbered {R P H : Type 0} {w : ℕ} (k : SendingChannel R P H w) (before : R) (number : ℕ) (now : R) : Type 0 where
+pub record ClosesNumbered {R P H : Type 0} {w v : ℕ} (k : SendingChannel R P H w v) (before : R) (number : ℕ) (now : R) : Type 0 where
   pub answer : Result (Unit {0}) EndFault
   pub numbered : number ≡ close_number answer
   pub closes : ClosesChannel k before answer now
 
 -- a close of a channel: status `none` if nothing is held. If it is closed, the past is extended; otherwise nothing
 -- changes
-pub record Closes {S P R : Type 0} (Holds : Option S → P → Type 0) (none : ℕ) {H : Type 0} {w : ℕ} (k : SendingChannel R P H w)
+pub record Closes {S P R : Type 0} (Holds : Option S → P → Type 0) (none : ℕ) {H : Type 0} {w v : ℕ} (k : SendingChannel R P H w v)
     (before now : Option S) (answer : ℕ) : Type 0 where
   pub nothing : before ≡ None → answer ≡ none
-  pub answers : (x : P) → Holds before x → answer ≡ close_answer (rest_of k.rules w (k.accepted x))
-  pub closed : (x : P) → Holds before x → answer ≡ 0 → Holds now (k.ended x)
+  pub answers : (x : P) → Holds before x → answer ≡ close_answer (rest_of k.rules w (k.crossing x).accepted)
+  pub closed : (x : P) → Holds before x → answer ≡ 0 → Holds now (ended k x)
   pub refused : answer ≢ 0 → now ≡ before
 
 -- C received this beat, if there is one; otherwise nothing was written

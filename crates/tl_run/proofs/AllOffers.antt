@@ -1,12 +1,12 @@
 -- The outcome of the next beat of each channel of a bridge, which offers them one after another.
 use Rattle.tl_run.proofs.Names.{ℕ, refl, OffersNext, Offered}
-use Rattle.tl_run.proofs.Names.{on_bridge_a, on_bridge_b, on_bridge_c, on_bridge_d, on_bridge_e, Beats, Bridge, Past, PerChannel, HasOffered}
+use Rattle.tl_run.proofs.Names.{bridge_sends_a, bridge_sends_b, bridge_sends_c, bridge_sends_d, bridge_sends_e, Beats, Bridge, Past, PerChannel, HasOffered}
 use Rattle.tl_sides.specs.Bridges as bridge
 
 -- a bridge offers the next beat of each list, one after another
 pub all-offered : {C M : ℕ} (near : Beats C M) (n : PerChannel ℕ) (s t u v y z : Bridge C M) (o : PerChannel Offered) →
-    OffersNext on_bridge_a near.a n.a s o.a t → OffersNext on_bridge_c near.c n.c t o.c u → OffersNext on_bridge_e near.e n.e u o.e v →
-    OffersNext on_bridge_b near.b n.b v o.b y → OffersNext on_bridge_d near.d n.d y o.d z →
+    OffersNext bridge_sends_a near.a n.a s o.a t → OffersNext bridge_sends_c near.c n.c t o.c u → OffersNext bridge_sends_e near.e n.e u o.e v →
+    OffersNext bridge_sends_b near.b n.b v o.b y → OffersNext bridge_sends_d near.d n.d y o.d z →
     (x : Past C M) → bridge.StandsFor s x → HasOffered near n x z o
 all-offered near n s t u v y z o in_a in_c in_e in_b in_d x h =
     let a = in_a.does x h in

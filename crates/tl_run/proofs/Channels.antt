@@ -1,14 +1,14 @@
 -- A channel of a run in one thread: its list and its count, and its state.
 use Rattle.tl_run.proofs.Names.{◌≡◌, ℕ, Option, None, List, refl, sym, ap, subst, ◌∙◌, slice_get, inl, HeadA, HeadD, BeatOf, SideFault, Beats}
-use Rattle.tl_run.proofs.Names.{PerChannel, Bridge, Past, StandsFor, IsPart, IsAt, Offering, RestsIn, ◌≤◌, ◌-◌}
+use Rattle.tl_run.proofs.Names.{PerChannel, Bridge, Past, StandsFor, IsPart, IsAt, SendingChannel, RestsIn, ◌≤◌, ◌-◌}
 use Rattle.tl_msg.specs.declared.head.HeadB.{HeadB}
 use Rattle.tl_msg.specs.declared.head.HeadC.{HeadC}
 use Rattle.tl_msg.specs.declared.head.HeadE.{HeadE}
 
-module _ {S P H : Type 0} {w v : ℕ} (q : Offering S P H w v) where
+module _ {S P H : Type 0} {w v : ℕ} (q : SendingChannel S P H w v) where
   -- the same in every past that a side represents
   abbrev pub RestsAt : List (BeatOf H w) → ℕ → S → Option SideFault → Type 0
-  RestsAt bs n s o = (x : P) → q.Stands s x → RestsIn bs n (q.answer x) (q.crossing x) o
+  RestsAt bs n s o = (x : P) → q.Stands s x → RestsIn bs n (q.stops x) (q.crossing x) o
 
   pub rests_none : (bs : List (BeatOf H w)) (n : ℕ) (s : S) → slice_get bs n ≡ None → RestsAt bs n s None
   rests_none bs n s past = λ x stands. inl past
@@ -119,7 +119,7 @@ module _ {C M : ℕ} where
 
 -- the effect on a channel that went ahead, from this count and side to that one, if its next beat was refused for this
 -- fault, or for none
-module _ {C M : ℕ} {H : Type 0} {w v : ℕ} (k : Going C M (BeatOf H w)) (q : Offering (Bridge C M) (Past C M) H w v) where
+module _ {C M : ℕ} {H : Type 0} {w v : ℕ} (k : Going C M (BeatOf H w)) (q : SendingChannel (Bridge C M) (Past C M) H w v) where
   pub record HasGone (discarded : ℕ) (held : List (BeatOf H w)) (at : ℕ) (s : Bridge C M) (later : ℕ) (t : Bridge C M) (o : Option SideFault) :
       Type 0 where
     pub on : at ≤ later

@@ -5,12 +5,12 @@ use Rattle.tl_run.proofs.Names.{subst, ◌∙◌, arith, Rules, rules_a, rules_b
 use Rattle.tl_run.proofs.Names.{none_past, World, Ask, Answer, client_answer, manager_answer, manager_home, round, client_rests}
 use Rattle.tl_run.proofs.Names.{manager_rests, Beats, PerChannel, Bridge, Past, StandsFor, stops_alone, IsPart, Does, IsSent, IsAt, steps}
 use Rattle.tl_run.proofs.Names.{RestsIn, GoesAhead, GoesOn, passed_on, refused_by, again_count, out_count, pump_count}
-use Rattle.tl_run.proofs.Names.{on_bridge_a, on_bridge_b, on_bridge_c, on_bridge_d, on_bridge_e}
+use Rattle.tl_run.proofs.Names.{bridge_sends_a, bridge_sends_b, bridge_sends_c, bridge_sends_d, bridge_sends_e}
 use Rattle.tl_sides.specs.ChannelCalls.{passes_a, passes_b, passes_c, passes_d, passes_e}
 use Rattle.tl_run.specs.Inner.Going.{at_first, one_more, stopped, through}
 use Rattle.tl_run.proofs.Channels.{Going, HasGone, Passes, Stays, going_a, going_b, going_c, going_d, going_e}
 use Rattle.tl_run.proofs.Channels.{passes_none, passes_stays, passes_then, rests_none, stays_same}
-use Rattle.tl_run.proofs.Names.{Offering, OffersNext, Offered, Accepted, NotReady}
+use Rattle.tl_run.proofs.Names.{SendingChannel, OffersNext, Offered, Accepted, NotReady}
 use Rattle.tl_run.proofs.Names.{Stopped, Done, Cut, Refused}
 use Rattle.tl_msg.specs.declared.head.HeadB.{HeadB}
 use Rattle.tl_msg.specs.declared.head.HeadC.{HeadC}
@@ -63,22 +63,22 @@ module _ {H : Type 0} (r : Rules H) {w v : ℕ} (answer : BeatOf H w → Option 
   unchanged held n within (Stopped Done) accepted y none (past, rest, no_beat, same) = absurd (not-past held n within (none_past held n past))
   unchanged held n within (Stopped Cut) accepted y none (past, rest, no_beat, same) = absurd (not-past held n within (none_past held n past))
 
-module _ {S P H : Type 0} {w v : ℕ} (q : Offering S P H w v) (held : List (BeatOf H w)) (discarded at : ℕ) (from : discarded ≤ at)
+module _ {S P H : Type 0} {w v : ℕ} (q : SendingChannel S P H w v) (held : List (BeatOf H w)) (discarded at : ℕ) (from : discarded ≤ at)
     (within : at - discarded < length held) (s t : S) (o : Offered)
     (none : steps o ≡ 0) (offers : OffersNext q held (at - discarded) s o t) where
   -- a side that accepted no beat represents the same past
   pub stays-next : (x : P) → q.Stands s x → q.Stands t x
   stays-next x h =
       let d = offers.does x h in
-      let same = unchanged q.rules (q.answer x) (q.home x) (q.crossing x) held (at - discarded) within o d.0 d.1 none d.3 in
+      let same = unchanged q.rules (q.stops x) (q.home x) (q.crossing x) held (at - discarded) within o d.0 d.1 none d.3 in
       subst (λ z. q.Stands t z) (q.kept x) (subst (λ z. q.Stands t (q.put (q.crossing x) z)) (q.noted x)
       (subst (λ y. q.Stands t (q.put y (q.note [] x))) same.1 (subst (λ l. q.Stands t (q.put d.1 (q.note l x))) same.0 d.2)))
 
   -- and the channel rests
-  pub rests-next : (x : P) → q.Stands s x → RestsIn held (at - discarded) (q.answer x) (q.crossing x) (refused_by o)
+  pub rests-next : (x : P) → q.Stands s x → RestsIn held (at - discarded) (q.stops x) (q.crossing x) (refused_by o)
   rests-next x h =
       let d = offers.does x h in
-      rests-held q.rules (q.answer x) (q.home x) (q.crossing x) held (at - discarded) within o d.0 d.1 none d.3
+      rests-held q.rules (q.stops x) (q.home x) (q.crossing x) held (at - discarded) within o d.0 d.1 none d.3
 
 -- ---- a beat was offered, and beats moved on
 
@@ -190,14 +190,14 @@ module _ {C M : ℕ} (i' j k : ℕ) (near : Beats C M) (n : PerChannel ℕ) (far
 -- ---- a channel goes ahead
 
 -- on a bridge in one thread, if its staged beats are forwarded in this way
-module _ {C M : ℕ} {H : Type 0} {w v : ℕ} (k : Going C M (BeatOf H w)) (q : Offering (Bridge C M) (Past C M) H w v)
+module _ {C M : ℕ} {H : Type 0} {w v : ℕ} (k : Going C M (BeatOf H w)) (q : SendingChannel (Bridge C M) (Past C M) H w v)
     (on : (s : Bridge C M) (x : Past C M) → (StandsFor s x → q.Stands s x) × (q.Stands s x → StandsFor s x))
     (Moves : Bridge C M → Bridge C M → Type 0)
     (moves : (t u : Bridge C M) → Moves t u → (i : ℕ) × (j : ℕ) × (l : ℕ) ×
     ((y : World H w v) (x : Past C M) → StandsFor t (q.put y x) → StandsFor u (q.put (passed_on i j l y) x)))
     (ahead : (i j l : ℕ) (near : Beats C M) (n : PerChannel ℕ) (far : Beats M C) (x : Past C M) → IsAt near n far x →
     (s : Bridge C M) → StandsFor s x → (o : Offered) (accepted : List (BeatOf H w)) (y : World H w v) →
-    Does q.rules (k.list near) (k.count n) (q.answer x) (q.home x) (q.crossing x) o accepted y →
+    Does q.rules (k.list near) (k.count n) (q.stops x) (q.home x) (q.crossing x) o accepted y →
     IsAt near (k.set (k.count n + steps o) n) far (q.put (passed_on i j l y) (q.note accepted x)))
     (discarded : ℕ) (held : List (BeatOf H w)) where
   -- one beat was accepted, and what it gave passed on
@@ -211,8 +211,8 @@ module _ {C M : ℕ} {H : Type 0} {w v : ℕ} (k : Going C M (BeatOf H w)) (q : 
         past = after;
         stands = m.3 h.1 (q.note h.0 x) ((on t (q.put h.1 (q.note h.0 x))).1 h.2);
         is_at = λ near n far part here is.
-            let does = subst (λ c. Does q.rules (k.list near) c (q.answer x) (q.home x) (q.crossing x) Accepted h.0 h.1) (sym here)
-            (does-part q.rules (q.answer x) (q.home x) (q.crossing x) discarded at held (k.list near) part from within Accepted h.0 h.1 h.3) in
+            let does = subst (λ c. Does q.rules (k.list near) c (q.stops x) (q.home x) (q.crossing x) Accepted h.0 h.1) (sym here)
+            (does-part q.rules (q.stops x) (q.home x) (q.crossing x) discarded at held (k.list near) part from within Accepted h.0 h.1 h.3) in
             subst (λ c. IsAt near (k.set (c + 1) n) far after) here (ahead m.0 m.1 m.2 near n far x is s stands Accepted h.0 h.1 does);
       }
 
@@ -247,33 +247,33 @@ module _ {C M : ℕ} {H : Type 0} {w v : ℕ} (k : Going C M (BeatOf H w)) (q : 
           stays = λ e. subst (λ p. Stays p u) (sym (same-side later t goes e)) stays;
           rests = λ e x h.
               let t_is = same-side later t goes e in
-              subst (λ c. RestsIn held (c - discarded) (q.answer x) (q.crossing x) (refused_by step)) e
+              subst (λ c. RestsIn held (c - discarded) (q.stops x) (q.crossing x) (refused_by step)) e
               (rests-next q held discarded later from within t u step none offers x (subst (λ p. q.Stands p x) t_is h));
         }
 
 -- so each of the five does
 module _ {C M : ℕ} (discarded : ℕ) where
   pub gone-a : (held : List (BeatOf HeadA C)) (at : ℕ) (s : Bridge C M) (later : ℕ) (t : Bridge C M) (o : Option SideFault) →
-      GoesAhead (OffersNext on_bridge_a) passes_a discarded held at s later t o → HasGone going_a on_bridge_a discarded held at s later t o
-  gone-a = has-gone going_a on_bridge_a (λ s x. (λ h. h, λ h. h)) passes_a
+      GoesAhead (OffersNext bridge_sends_a) passes_a discarded held at s later t o → HasGone going_a bridge_sends_a discarded held at s later t o
+  gone-a = has-gone going_a bridge_sends_a (λ s x. (λ h. h, λ h. h)) passes_a
       (λ t u p. (pump_count t.a, out_count t.a, again_count t.a, λ y x h. p _ h)) ahead-a discarded
 
   pub gone-b : (held : List (BeatOf HeadB M)) (at : ℕ) (s : Bridge C M) (later : ℕ) (t : Bridge C M) (o : Option SideFault) →
-      GoesAhead (OffersNext on_bridge_b) passes_b discarded held at s later t o → HasGone going_b on_bridge_b discarded held at s later t o
-  gone-b = has-gone going_b on_bridge_b (λ s x. (λ h. h, λ h. h)) passes_b
+      GoesAhead (OffersNext bridge_sends_b) passes_b discarded held at s later t o → HasGone going_b bridge_sends_b discarded held at s later t o
+  gone-b = has-gone going_b bridge_sends_b (λ s x. (λ h. h, λ h. h)) passes_b
       (λ t u p. (pump_count t.b, out_count t.b, again_count t.b, λ y x h. p _ h)) ahead-b discarded
 
   pub gone-c : (held : List (BeatOf HeadC C)) (at : ℕ) (s : Bridge C M) (later : ℕ) (t : Bridge C M) (o : Option SideFault) →
-      GoesAhead (OffersNext on_bridge_c) passes_c discarded held at s later t o → HasGone going_c on_bridge_c discarded held at s later t o
-  gone-c = has-gone going_c on_bridge_c (λ s x. (λ h. h, λ h. h)) passes_c
+      GoesAhead (OffersNext bridge_sends_c) passes_c discarded held at s later t o → HasGone going_c bridge_sends_c discarded held at s later t o
+  gone-c = has-gone going_c bridge_sends_c (λ s x. (λ h. h, λ h. h)) passes_c
       (λ t u p. (pump_count t.c, out_count t.c, again_count t.c, λ y x h. p _ h)) ahead-c discarded
 
   pub gone-d : (held : List (BeatOf HeadD M)) (at : ℕ) (s : Bridge C M) (later : ℕ) (t : Bridge C M) (o : Option SideFault) →
-      GoesAhead (OffersNext on_bridge_d) passes_d discarded held at s later t o → HasGone going_d on_bridge_d discarded held at s later t o
-  gone-d = has-gone going_d on_bridge_d (λ s x. (λ h. h, λ h. h)) passes_d
+      GoesAhead (OffersNext bridge_sends_d) passes_d discarded held at s later t o → HasGone going_d bridge_sends_d discarded held at s later t o
+  gone-d = has-gone going_d bridge_sends_d (λ s x. (λ h. h, λ h. h)) passes_d
       (λ t u p. (pump_count t.d, out_count t.d, again_count t.d, λ y x h. p _ h)) ahead-d discarded
 
   pub gone-e : (held : List (BeatOf HeadE C)) (at : ℕ) (s : Bridge C M) (later : ℕ) (t : Bridge C M) (o : Option SideFault) →
-      GoesAhead (OffersNext on_bridge_e) passes_e discarded held at s later t o → HasGone going_e on_bridge_e discarded held at s later t o
-  gone-e = has-gone going_e on_bridge_e (λ s x. (λ h. h, λ h. h)) passes_e
+      GoesAhead (OffersNext bridge_sends_e) passes_e discarded held at s later t o → HasGone going_e bridge_sends_e discarded held at s later t o
+  gone-e = has-gone going_e bridge_sends_e (λ s x. (λ h. h, λ h. h)) passes_e
       (λ t u p. (pump_count t.e, out_count t.e, again_count t.e, λ y x h. p _ h)) ahead-e discarded

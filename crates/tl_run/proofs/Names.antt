@@ -31,8 +31,7 @@ pub use Rattle.tl_run.specs.Inner.Arriving.{HasRoom, HaveRoom, beats_of}
 pub use Rattle.tl_run.specs.Inner.Going.{GoesAhead, GoesOn, RestsIn, AreOn, AreStopsOf, HasStopped, IsStopOf, all_counts, all_ways}
 pub use Rattle.tl_run.specs.Inner.Going.{stop_by, way_in, IsSound}
 pub use Rattle.tl_run.specs.Inner.Going.{AllRest}
-pub use Rattle.tl_offer.specs.Offering.{Offering, OffersNext, on_bridge_a, on_bridge_b, on_bridge_c, on_bridge_d, on_bridge_e}
-pub use Rattle.tl_offer.specs.Offering.{Does, refused_by, steps}
+pub use Rattle.tl_offer.specs.Offering.{OffersNext, Does, refused_by, steps}
 pub use Rattle.tl_run.specs.Inner.Running.{Stops, IsSent, IsHomed, under_way, progress, stop_verdict, IsStopped, emptied, AreStopped}
 pub use Rattle.tl_run.specs.Inner.Running.{IsNew, IsUnderWay, counted, all_progress, all_under_way, standing_count, all_standing, all_stopped}
 pub use Rattle.tl_run.specs.Inner.Running.{IsRunning, CanAdd, HaveRoomToCount, arriving, inboxes, lengths, IsAt, AllStop, HasRound, HasEnded}
@@ -48,6 +47,8 @@ pub use Rattle.tl_settle.specs.Outcomes.{verdict_of, far_alone, verdict_alone, B
 pub use Rattle.tl_settle.specs.Rounds.{round, client_rests, manager_rests, Run, ClientMoves, ManagerMoves, client_takes, client_accepts}
 pub use Rattle.tl_settle.specs.Rounds.{manager_takes, manager_accepts, IsOver, IsSettledRun}
 pub use Rattle.tl_sides.proofs.BridgeSize.{bridge_small}
+pub use Rattle.tl_sides.specs.Bridges.{bridge_sends_a, bridge_sends_b, bridge_sends_c, bridge_sends_d, bridge_sends_e}
+pub use Rattle.tl_sides.specs.Calls.{SendingChannel}
 pub use Rattle.tl_sides.specs.Bridges.{Bridge, Past, StandsFor, IsStanding, nothing_yet, fetch_count, pump_count, after_fetch, after_pump}
 pub use Rattle.tl_sides.specs.ChannelCalls.{again_count, out_count, passed_on}
 pub use Rattle.tl_sides.specs.Crossings.{stops_alone}

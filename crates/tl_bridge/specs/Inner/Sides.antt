@@ -9,7 +9,6 @@ use Rattle.tl_bridge.specs.Words.{ClientState, ManagerState, ClientPast, Manager
 use Rattle.tl_bridge.specs.Words.{SameManager, SidesMeet, new_client, new_manager, Does, Stops, IsSent, IsHomed, IsAt, AllStop, AreStopped, IsStopped}
 use Rattle.tl_bridge.specs.Words.{HaveRoomToCount, Standing, all_standing, all_under_way, Offered, NotReady, Turn}
 use Rattle.tl_sides.proofs.SameSides.{same_client_then, same_manager_then}
-pub use Rattle.tl_offer.specs.Offering.{SameClientEnds, SameManagerEnds}
 use Rattle.tl_bridge.specs.declared.client_turns.ClientRun.{ClientRun}
 use Rattle.tl_bridge.specs.declared.manager_turns.ManagerRun.{ManagerRun}
 
@@ -26,6 +25,22 @@ module _ {A : Type 0} {C M : ℕ} where
   manager_progress n t = n.b + n.d + length (sent t.b) + length (sent t.d) + length (received t.a) + length (received t.c) + length (received t.e)
 
 -- ---- both
+
+module _ {A : Type 0} {C M : ℕ} where
+  -- a side's ends of the rings are unchanged
+  pub record SameClientEnds (s s' : ClientState A C M) : Type 0 where
+    pub a : s'.a.producer ≡ s.a.producer
+    pub b : s'.b.consumer ≡ s.b.consumer
+    pub c : s'.c.producer ≡ s.c.producer
+    pub d : s'.d.consumer ≡ s.d.consumer
+    pub e : s'.e.producer ≡ s.e.producer
+
+  pub record SameManagerEnds (t t' : ManagerState A C M) : Type 0 where
+    pub a : t'.a.consumer ≡ t.a.consumer
+    pub b : t'.b.producer ≡ t.b.producer
+    pub c : t'.c.consumer ≡ t.c.consumer
+    pub d : t'.d.producer ≡ t.d.producer
+    pub e : t'.e.consumer ≡ t.e.consumer
 
 module _ {A : Type 0} {C M : ℕ} where
   -- they were sides of one bridge, and each advanced by itself

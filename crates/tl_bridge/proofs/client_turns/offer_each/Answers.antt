@@ -1,6 +1,6 @@
 use Rattle.std.proofs.Common.{refl}
-use Rattle.tl_bridge.proofs.Words.{on_side_a, on_side_c, on_side_e, of-list, lives-long}
-use Rattle.tl_bridge.proofs.SideEnds.{client-ends-then}
+use Rattle.tl_bridge.proofs.Words.{side_sends_a, side_sends_c, side_sends_e, of-list, lives-long}
+use Rattle.tl_bridge.proofs.SideEnds.{client-ends-then, ends-a, ends-c, ends-e}
 use Rattle.tl_bridge.proofs.client_turns.offer_each.Goals as goal
 
 pub deref-requires : goal.deref-requires
@@ -17,9 +17,9 @@ returns-clause-others g c = (refl, refl)
 
 pub returns-clause-offers : goal.returns-clause-offers
 returns-clause-offers g c = λ x h.
-    let a = (of-list on_side_a c.deref.ensures.value c.offer_next-a.ensures).does x h in
-    let c' = (of-list on_side_c c.deref-2.ensures.value c.offer_next-c.ensures).does _ a.2 in
-    let e = (of-list on_side_e c.deref-3.ensures.value c.offer_next-e.ensures).does _ c'.2 in
+    let a = (of-list side_sends_a c.deref.ensures.value c.offer_next-a.ensures).does x h in
+    let c' = (of-list side_sends_c c.deref-2.ensures.value c.offer_next-c.ensures).does _ a.2 in
+    let e = (of-list side_sends_e c.deref-3.ensures.value c.offer_next-e.ensures).does _ c'.2 in
     record {
       past = _;
       stands = e.2;
@@ -35,4 +35,4 @@ returns-clause-offers g c = λ x h.
 
 pub returns-clause-ends : goal.returns-clause-ends
 returns-clause-ends g c = client-ends-then _ _ _
-    (client-ends-then _ _ _ c.offer_next-a.ensures.same c.offer_next-c.ensures.same) c.offer_next-e.ensures.same
+    (client-ends-then _ _ _ (ends-a _ _ c.offer_next-a.ensures.keeps) (ends-c _ _ c.offer_next-c.ensures.keeps)) (ends-e _ _ c.offer_next-e.ensures.keeps)

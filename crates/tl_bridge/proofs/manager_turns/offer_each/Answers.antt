@@ -1,6 +1,6 @@
 use Rattle.std.proofs.Common.{refl}
-use Rattle.tl_bridge.proofs.Words.{on_side_b, on_side_d, of-list, lives-long}
-use Rattle.tl_bridge.proofs.SideEnds.{manager-ends-then}
+use Rattle.tl_bridge.proofs.Words.{side_sends_b, side_sends_d, of-list, lives-long}
+use Rattle.tl_bridge.proofs.SideEnds.{manager-ends-then, ends-b, ends-d}
 use Rattle.tl_bridge.proofs.manager_turns.offer_each.Goals as goal
 
 pub deref-requires : goal.deref-requires
@@ -14,8 +14,8 @@ returns-clause-others g c = (refl, refl, refl)
 
 pub returns-clause-offers : goal.returns-clause-offers
 returns-clause-offers g c = λ x h.
-    let b = (of-list on_side_b c.deref.ensures.value c.offer_next-b.ensures).does x h in
-    let d = (of-list on_side_d c.deref-2.ensures.value c.offer_next-d.ensures).does _ b.2 in
+    let b = (of-list side_sends_b c.deref.ensures.value c.offer_next-b.ensures).does x h in
+    let d = (of-list side_sends_d c.deref-2.ensures.value c.offer_next-d.ensures).does _ b.2 in
     record {
       past = _;
       stands = d.2;
@@ -29,4 +29,4 @@ returns-clause-offers g c = λ x h.
     }
 
 pub returns-clause-ends : goal.returns-clause-ends
-returns-clause-ends g c = manager-ends-then _ _ _ c.offer_next-b.ensures.same c.offer_next-d.ensures.same
+returns-clause-ends g c = manager-ends-then _ _ _ (ends-b _ _ c.offer_next-b.ensures.keeps) (ends-d _ _ c.offer_next-d.ensures.keeps)

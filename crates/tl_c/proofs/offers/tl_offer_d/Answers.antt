@@ -4,7 +4,7 @@ use Rattle.tl_ring.specs.Ends.{as_pipe}
 use Rattle.tl_ring.specs.Pipe.{IsReady}
 use Rattle.tl_c_beats.proofs.Offering.{offers_none, offers_later, offers}
 use Rattle.tl_c.proofs.BothWidths.{widths}
-use Rattle.tl_c.proofs.Keeping.{held_at, kept, kept_none, manager_same, offered_d}
+use Rattle.tl_c.proofs.Keeping.{held_at, kept, kept_none, manager_same, same_side_d}
 use Rattle.tl_c.proofs.offers.tl_offer_d.Goals as goal
 
 pub offer_held-offer_d-requires : goal.offer_held-offer_d-requires
@@ -40,6 +40,6 @@ returns-2 c =
           (λ x s. s) (λ x s. s) c.offer_held-offer_d.result c.beat_d-beat.ensures
           (subst (λ h. IsTrue true ↔ IsReady (as_pipe h.side.d)) same c.if-offer_held.ensures) c.offer_held.ensures c.offer_held-offer_d.ensures;
       kept = kept _ {h = c.offer_held-deref_mut.result.now} {k = record { side = c.offer_held-offer_d.new.self }} was
-          c.offer_held-put-2.ensures.held (offered_d c.offer_held-offer_d.ensures.rest, c.offer_held-offer_d.ensures.rest)
+          c.offer_held-put-2.ensures.held (same_side_d c.offer_held-offer_d.ensures.rest, c.offer_held-offer_d.ensures.rest)
           c.offer_held-take.ensures.number c.offer_held-put-2.ensures.number;
     }

@@ -4,7 +4,7 @@ use Rattle.tl_ring.specs.Ends.{as_pipe}
 use Rattle.tl_ring.specs.Pipe.{IsReady}
 use Rattle.tl_c_beats.proofs.Offering.{offers_none, offers_later, offers}
 use Rattle.tl_c.proofs.BothWidths.{widths}
-use Rattle.tl_c.proofs.Keeping.{held_at, kept, kept_none, client_same, offered_e}
+use Rattle.tl_c.proofs.Keeping.{held_at, kept, kept_none, client_same, same_side_e}
 use Rattle.tl_c.proofs.offers.tl_offer_e.Goals as goal
 
 pub offer_held-offer_e-requires : goal.offer_held-offer_e-requires
@@ -40,6 +40,6 @@ returns-2 c =
           (λ x s. s) (λ x s. s) c.offer_held-offer_e.result c.beat_e-beat.ensures
           (subst (λ h. IsTrue true ↔ IsReady (as_pipe h.side.e)) same c.if-offer_held.ensures) c.offer_held.ensures c.offer_held-offer_e.ensures;
       kept = kept _ {h = c.offer_held-deref_mut.result.now} {k = record { side = c.offer_held-offer_e.new.self }} was
-          c.offer_held-put-2.ensures.held (offered_e c.offer_held-offer_e.ensures.rest, c.offer_held-offer_e.ensures.rest)
+          c.offer_held-put-2.ensures.held (same_side_e c.offer_held-offer_e.ensures.rest, c.offer_held-offer_e.ensures.rest)
           c.offer_held-take.ensures.number c.offer_held-put-2.ensures.number;
     }
