@@ -3,7 +3,7 @@ use Rattle.std.proofs.Common.{◌≡◌, ◌+◌, ℕ, length, take, refl, sym, 
 use Rattle.std.proofs.lemmas.List.{length-take}
 use Rattle.tl_bridge.proofs.Words.{Sending, Taking, SameSend, SameTake, sent, received, same_send, same_take, PerChannel, Pumps, Fetches, pump_count}
 use Rattle.tl_bridge.proofs.Words.{fetch_count, ClientState, ManagerState, SameClient, SameManager, same_client_then, same_manager_then, counted}
-use Rattle.tl_bridge.proofs.Words.{all_steps, steps, Offered, NotReady, side_sends_a, side_sends_b, side_sends_c, side_sends_d, side_sends_e}
+use Rattle.tl_bridge.proofs.Words.{all_steps, steps, Offered, NotReady, sends_a, sends_b, sends_c, sends_d, sends_e, client_side, manager_side}
 use Rattle.tl_bridge.specs.Inner.Sides.{SameClientEnds, SameManagerEnds, client_progress, manager_progress}
 
 module _ {A : Type 0} where
@@ -37,20 +37,20 @@ same-parts v0 v1 v2 v3 v4 v5 v6 v7 v8 v9 v10 a b c d e = omega arith
 
 module _ {A : Type 0} {C M : ℕ} where
   -- an offer, and a close, leave a side's ends of the rings as they are
-  pub ends-a : (s t : ClientState A C M) → (side_sends_a {A = A} {C = C} {M = M}).Keeps s t → SameClientEnds s t
-  ends-a s t keeps = subst (SameClientEnds s) (sym keeps.1) (record { a = keeps.0; b = refl; c = refl; d = refl; e = refl })
+  pub ends-a : (s t : ClientState A C M) → (sends_a (client_side {A = A} {C = C} {M = M})).Keeps s t → SameClientEnds s t
+  ends-a s t keeps = subst (SameClientEnds s) (sym keeps) (record { a = refl; b = refl; c = refl; d = refl; e = refl })
 
-  pub ends-b : (s t : ManagerState A C M) → (side_sends_b {A = A} {C = C} {M = M}).Keeps s t → SameManagerEnds s t
-  ends-b s t keeps = subst (SameManagerEnds s) (sym keeps.1) (record { a = refl; b = keeps.0; c = refl; d = refl; e = refl })
+  pub ends-b : (s t : ManagerState A C M) → (sends_b (manager_side {A = A} {C = C} {M = M})).Keeps s t → SameManagerEnds s t
+  ends-b s t keeps = subst (SameManagerEnds s) (sym keeps) (record { a = refl; b = refl; c = refl; d = refl; e = refl })
 
-  pub ends-c : (s t : ClientState A C M) → (side_sends_c {A = A} {C = C} {M = M}).Keeps s t → SameClientEnds s t
-  ends-c s t keeps = subst (SameClientEnds s) (sym keeps.1) (record { a = refl; b = refl; c = keeps.0; d = refl; e = refl })
+  pub ends-c : (s t : ClientState A C M) → (sends_c (client_side {A = A} {C = C} {M = M})).Keeps s t → SameClientEnds s t
+  ends-c s t keeps = subst (SameClientEnds s) (sym keeps) (record { a = refl; b = refl; c = refl; d = refl; e = refl })
 
-  pub ends-d : (s t : ManagerState A C M) → (side_sends_d {A = A} {C = C} {M = M}).Keeps s t → SameManagerEnds s t
-  ends-d s t keeps = subst (SameManagerEnds s) (sym keeps.1) (record { a = refl; b = refl; c = refl; d = keeps.0; e = refl })
+  pub ends-d : (s t : ManagerState A C M) → (sends_d (manager_side {A = A} {C = C} {M = M})).Keeps s t → SameManagerEnds s t
+  ends-d s t keeps = subst (SameManagerEnds s) (sym keeps) (record { a = refl; b = refl; c = refl; d = refl; e = refl })
 
-  pub ends-e : (s t : ClientState A C M) → (side_sends_e {A = A} {C = C} {M = M}).Keeps s t → SameClientEnds s t
-  ends-e s t keeps = subst (SameClientEnds s) (sym keeps.1) (record { a = refl; b = refl; c = refl; d = refl; e = keeps.0 })
+  pub ends-e : (s t : ClientState A C M) → (sends_e (client_side {A = A} {C = C} {M = M})).Keeps s t → SameClientEnds s t
+  ends-e s t keeps = subst (SameClientEnds s) (sym keeps) (record { a = refl; b = refl; c = refl; d = refl; e = refl })
 
   -- a side with the ends of another one
   pub client-ends-then : (s t u : ClientState A C M) → SameClientEnds s t → SameClientEnds t u → SameClientEnds s u

@@ -49,7 +49,8 @@ pub use Rattle.tl_sides.proofs.SameSides.{same_client_then, same_manager_then, s
 pub use Rattle.tl_sides.specs.Bridges.{Bridge, Past, StandsFor}
 pub use Rattle.tl_sides.specs.Crossings.{stops_alone}
 pub use Rattle.tl_sides.specs.Ends.{AreStanding, Fetches, Pumps, fetch_count, pump_count}
-pub use Rattle.tl_sides.specs.Sides.{side_sends_a, side_sends_b, side_sends_c, side_sends_d, side_sends_e}
+pub use Rattle.tl_sides.specs.Sides.{client_side, manager_side}
+pub use Rattle.tl_sides.specs.Ports.{sends_a, sends_b, sends_c, sends_d, sends_e}
 pub use Rattle.tl_sides.specs.Sides.{AreSides, ClientPast, ClientStandsFor, ClientState, ManagerPast, ManagerStandsFor, ManagerState, SameClient}
 pub use Rattle.tl_sides.specs.Sides.{SameManager, SidesMeet, client_pumps, client_takes_b, client_takes_d, manager_pumps, manager_takes_a}
 pub use Rattle.tl_sides.specs.Sides.{manager_takes_c, manager_takes_e, new_client, new_manager}

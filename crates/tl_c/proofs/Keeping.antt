@@ -2,9 +2,8 @@
 use Rattle.std.specs.Prelude.{ℕ, Option, None, Some, Result, Ok, Err, OnOk, OnErr}
 use Rattle.std.proofs.Common.{◌≡◌, sym, ap, ◌∙◌, subst, rules}
 use Rattle.tl_sides.specs.Calls.{SendingChannel}
-use Rattle.tl_sides.specs.Sides.{ClientState, ManagerState, SameClient, SameManager}
-use Rattle.tl_sides.specs.Sides.{side_sends_a, side_sends_b, side_sends_c, side_sends_d, side_sends_e}
-use Rattle.tl_sides.specs.Sides.{side_takes_a, side_takes_b, side_takes_c, side_takes_d, side_takes_e}
+use Rattle.tl_sides.specs.Ports.{sends_a, sends_b, sends_c, sends_d, sends_e, takes_a, takes_b, takes_c, takes_d, takes_e}
+use Rattle.tl_sides.specs.Sides.{ClientState, ManagerState, SameClient, SameManager, client_side, manager_side}
 use Rattle.tl_c_beats.specs.Calls.{ClosesNumbered}
 use Rattle.tl_c.specs.Calls.{Keeps}
 
@@ -36,35 +35,35 @@ module _ {A : Type 0} {C M : ℕ} where
   pub client_same : (s : ClientState A C M) → SameClient s s
   client_same s = search rules
 
-  pub same_side_a : {s s' : ClientState A C M} → (side_sends_a {A = A} {C = C} {M = M}).Keeps s s' → SameClient s s'
+  pub same_side_a : {s s' : ClientState A C M} → (sends_a (client_side {A = A} {C = C} {M = M})).Keeps s s' → SameClient s s'
   same_side_a rest = search rules
 
-  pub taken_b : {s s' : ClientState A C M} → (side_takes_b {A = A} {C = C} {M = M}).Keeps s s' → SameClient s s'
+  pub taken_b : {s s' : ClientState A C M} → (takes_b (client_side {A = A} {C = C} {M = M})).Keeps s s' → SameClient s s'
   taken_b rest = search rules
 
-  pub same_side_c : {s s' : ClientState A C M} → (side_sends_c {A = A} {C = C} {M = M}).Keeps s s' → SameClient s s'
+  pub same_side_c : {s s' : ClientState A C M} → (sends_c (client_side {A = A} {C = C} {M = M})).Keeps s s' → SameClient s s'
   same_side_c rest = search rules
 
-  pub taken_d : {s s' : ClientState A C M} → (side_takes_d {A = A} {C = C} {M = M}).Keeps s s' → SameClient s s'
+  pub taken_d : {s s' : ClientState A C M} → (takes_d (client_side {A = A} {C = C} {M = M})).Keeps s s' → SameClient s s'
   taken_d rest = search rules
 
-  pub same_side_e : {s s' : ClientState A C M} → (side_sends_e {A = A} {C = C} {M = M}).Keeps s s' → SameClient s s'
+  pub same_side_e : {s s' : ClientState A C M} → (sends_e (client_side {A = A} {C = C} {M = M})).Keeps s s' → SameClient s s'
   same_side_e rest = search rules
 
   pub manager_same : (t : ManagerState A C M) → SameManager t t
   manager_same t = search rules
 
-  pub taken_a : {t t' : ManagerState A C M} → (side_takes_a {A = A} {C = C} {M = M}).Keeps t t' → SameManager t t'
+  pub taken_a : {t t' : ManagerState A C M} → (takes_a (manager_side {A = A} {C = C} {M = M})).Keeps t t' → SameManager t t'
   taken_a rest = search rules
 
-  pub same_side_b : {t t' : ManagerState A C M} → (side_sends_b {A = A} {C = C} {M = M}).Keeps t t' → SameManager t t'
+  pub same_side_b : {t t' : ManagerState A C M} → (sends_b (manager_side {A = A} {C = C} {M = M})).Keeps t t' → SameManager t t'
   same_side_b rest = search rules
 
-  pub taken_c : {t t' : ManagerState A C M} → (side_takes_c {A = A} {C = C} {M = M}).Keeps t t' → SameManager t t'
+  pub taken_c : {t t' : ManagerState A C M} → (takes_c (manager_side {A = A} {C = C} {M = M})).Keeps t t' → SameManager t t'
   taken_c rest = search rules
 
-  pub same_side_d : {t t' : ManagerState A C M} → (side_sends_d {A = A} {C = C} {M = M}).Keeps t t' → SameManager t t'
+  pub same_side_d : {t t' : ManagerState A C M} → (sends_d (manager_side {A = A} {C = C} {M = M})).Keeps t t' → SameManager t t'
   same_side_d rest = search rules
 
-  pub taken_e : {t t' : ManagerState A C M} → (side_takes_e {A = A} {C = C} {M = M}).Keeps t t' → SameManager t t'
+  pub taken_e : {t t' : ManagerState A C M} → (takes_e (manager_side {A = A} {C = C} {M = M})).Keeps t t' → SameManager t t'
   taken_e rest = search rules

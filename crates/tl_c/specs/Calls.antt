@@ -15,11 +15,10 @@ use Rattle.tl_sides.specs.Legal.{WentOn}
 use Rattle.tl_ring.specs.Ends.{Sending, Taking, known_items, received, sent}
 use Rattle.std.specs.Global.{Global}
 use Rattle.tl_sides.specs.Calls.{SendingChannel, TakingChannel}
-use Rattle.tl_sides.specs.Sides.{side_sends_a, side_sends_b, side_sends_c, side_sends_d, side_sends_e}
-use Rattle.tl_sides.specs.Sides.{side_takes_a, side_takes_b, side_takes_c, side_takes_d, side_takes_e}
+use Rattle.tl_sides.specs.Ports as ports
 use Rattle.tl_sides.specs.Ends.{Pumps, Fetches, pump_count, fetch_count}
 use Rattle.tl_sides.specs.Sides.{ClientState, ManagerState, ClientPast, ManagerPast, ClientStandsFor, ManagerStandsFor, AreSides, SidesMeet}
-use Rattle.tl_sides.specs.Sides.{SameClient, SameManager, client_pumps, manager_pumps}
+use Rattle.tl_sides.specs.Sides.{SameClient, SameManager, client_pumps, manager_pumps, client_side, manager_side}
 use Rattle.tl_c_beats.specs.declared.counts.BeatCounts.{BeatCounts}
 use Rattle.tl_c_beats.specs.declared.counts.ChannelCounts.{ChannelCounts}
 use Rattle.tl_c_beats.specs.declared.fields.BeatFields.{BeatFields}
@@ -107,35 +106,35 @@ pub record ManagerStays (s t : ManagerState Global CLIENT MANAGER) : Type 0 wher
 
 -- the channels that the held sides send
 abbrev pub sends_a : SendingChannel (ClientState Global CLIENT MANAGER) (ClientPast CLIENT MANAGER) HeadA CLIENT MANAGER
-sends_a = side_sends_a
+sends_a = ports.sends_a client_side
 
 abbrev pub sends_b : SendingChannel (ManagerState Global CLIENT MANAGER) (ManagerPast CLIENT MANAGER) HeadB MANAGER CLIENT
-sends_b = side_sends_b
+sends_b = ports.sends_b manager_side
 
 abbrev pub sends_c : SendingChannel (ClientState Global CLIENT MANAGER) (ClientPast CLIENT MANAGER) HeadC CLIENT MANAGER
-sends_c = side_sends_c
+sends_c = ports.sends_c client_side
 
 abbrev pub sends_d : SendingChannel (ManagerState Global CLIENT MANAGER) (ManagerPast CLIENT MANAGER) HeadD MANAGER CLIENT
-sends_d = side_sends_d
+sends_d = ports.sends_d manager_side
 
 abbrev pub sends_e : SendingChannel (ClientState Global CLIENT MANAGER) (ClientPast CLIENT MANAGER) HeadE CLIENT MANAGER
-sends_e = side_sends_e
+sends_e = ports.sends_e client_side
 
 -- the channels that the held sides take
 abbrev pub takes_a : TakingChannel (ManagerState Global CLIENT MANAGER) (ManagerPast CLIENT MANAGER) HeadA MANAGER
-takes_a = side_takes_a
+takes_a = ports.takes_a manager_side
 
 abbrev pub takes_b : TakingChannel (ClientState Global CLIENT MANAGER) (ClientPast CLIENT MANAGER) HeadB CLIENT
-takes_b = side_takes_b
+takes_b = ports.takes_b client_side
 
 abbrev pub takes_c : TakingChannel (ManagerState Global CLIENT MANAGER) (ManagerPast CLIENT MANAGER) HeadC MANAGER
-takes_c = side_takes_c
+takes_c = ports.takes_c manager_side
 
 abbrev pub takes_d : TakingChannel (ClientState Global CLIENT MANAGER) (ClientPast CLIENT MANAGER) HeadD CLIENT
-takes_d = side_takes_d
+takes_d = ports.takes_d client_side
 
 abbrev pub takes_e : TakingChannel (ManagerState Global CLIENT MANAGER) (ManagerPast CLIENT MANAGER) HeadE MANAGER
-takes_e = side_takes_e
+takes_e = ports.takes_e manager_side
 
 -- the beats of an inbox of a side, if one is held: those that it has fetched on a channel and not yet taken
 abbrev pub waiting : {S A : Type 0} → (inbox : S → List A) → Option S → List A

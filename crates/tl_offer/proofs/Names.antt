@@ -14,6 +14,7 @@ pub use Rattle.tl_offer.specs.declared.offered.Offered.{Offered}
 pub use Rattle.tl_offer.specs.declared.offered.Offered.TheVariants.{Stopped, Accepted, NotReady}
 pub use Rattle.tl_offer.specs.declared.offered.Stop.TheVariants.{Done, Cut, Refused}
 pub use Rattle.tl_sides.proofs.BridgeSize.{bridge_small, client_small, manager_small}
-pub use Rattle.tl_sides.specs.Bridges.{bridge_sends_a, bridge_sends_b, bridge_sends_c, bridge_sends_d, bridge_sends_e}
+pub use Rattle.tl_sides.specs.Bridges.{bridge_client, bridge_manager}
+pub use Rattle.tl_sides.specs.Ports.{sends_a, sends_b, sends_c, sends_d, sends_e}
 pub use Rattle.tl_sides.specs.Calls.{SendingChannel, OffersBeat, ClosesChannel}
-pub use Rattle.tl_sides.specs.Sides.{side_sends_a, side_sends_b, side_sends_c, side_sends_d, side_sends_e}
+pub use Rattle.tl_sides.specs.Sides.{client_side, manager_side}

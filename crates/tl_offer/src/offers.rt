@@ -3,8 +3,9 @@ ghost use Rattle.std.specs.Prelude.{ℕ, List};
 ghost use Rattle.tl_offer.specs.declared.offered.Offered.{Offered};
 ghost use Rattle.tl_offer.specs.Widths.{AreWidths};
 ghost use Rattle.tl_offer.specs.Offering.{OffersNext};
-ghost use Rattle.tl_sides.specs.Bridges.{bridge_sends_a, bridge_sends_b, bridge_sends_c, bridge_sends_d, bridge_sends_e};
-ghost use Rattle.tl_sides.specs.Sides.{side_sends_a, side_sends_b, side_sends_c, side_sends_d, side_sends_e};
+ghost use Rattle.tl_sides.specs.Bridges.{bridge_client, bridge_manager};
+ghost use Rattle.tl_sides.specs.Ports.{sends_a, sends_b, sends_c, sends_d, sends_e};
+ghost use Rattle.tl_sides.specs.Sides.{client_side, manager_side};
 
 use crate::offered::Offered;
 use tl_msg::{BeatOf, HeadA, HeadB, HeadC, HeadD, HeadE};
@@ -45,7 +46,7 @@ pub trait Offers<B> {
 impl<const C: usize, const M: usize> Offers<BeatOf<HeadA, C>> for SyncBridge<C, M> {
     ghost CanOffer = { AreWidths C M };
 
-    ghost Becomes = { OffersNext bridge_sends_a };
+    ghost Becomes = { OffersNext (sends_a bridge_client) };
 
     fn offer_next(&mut self, beats: &[BeatOf<HeadA, C>], at: usize) -> Offered {
         next_offer!(self, beats, at, ready_a, offer_a, close_a)
@@ -55,7 +56,7 @@ impl<const C: usize, const M: usize> Offers<BeatOf<HeadA, C>> for SyncBridge<C, 
 impl<const C: usize, const M: usize> Offers<BeatOf<HeadB, M>> for SyncBridge<C, M> {
     ghost CanOffer = { AreWidths C M };
 
-    ghost Becomes = { OffersNext bridge_sends_b };
+    ghost Becomes = { OffersNext (sends_b bridge_manager) };
 
     fn offer_next(&mut self, beats: &[BeatOf<HeadB, M>], at: usize) -> Offered {
         next_offer!(self, beats, at, ready_b, offer_b, close_b)
@@ -65,7 +66,7 @@ impl<const C: usize, const M: usize> Offers<BeatOf<HeadB, M>> for SyncBridge<C, 
 impl<const C: usize, const M: usize> Offers<BeatOf<HeadC, C>> for SyncBridge<C, M> {
     ghost CanOffer = { AreWidths C M };
 
-    ghost Becomes = { OffersNext bridge_sends_c };
+    ghost Becomes = { OffersNext (sends_c bridge_client) };
 
     fn offer_next(&mut self, beats: &[BeatOf<HeadC, C>], at: usize) -> Offered {
         next_offer!(self, beats, at, ready_c, offer_c, close_c)
@@ -75,7 +76,7 @@ impl<const C: usize, const M: usize> Offers<BeatOf<HeadC, C>> for SyncBridge<C, 
 impl<const C: usize, const M: usize> Offers<BeatOf<HeadD, M>> for SyncBridge<C, M> {
     ghost CanOffer = { AreWidths C M };
 
-    ghost Becomes = { OffersNext bridge_sends_d };
+    ghost Becomes = { OffersNext (sends_d bridge_manager) };
 
     fn offer_next(&mut self, beats: &[BeatOf<HeadD, M>], at: usize) -> Offered {
         next_offer!(self, beats, at, ready_d, offer_d, close_d)
@@ -85,7 +86,7 @@ impl<const C: usize, const M: usize> Offers<BeatOf<HeadD, M>> for SyncBridge<C, 
 impl<const C: usize, const M: usize> Offers<BeatOf<HeadE, C>> for SyncBridge<C, M> {
     ghost CanOffer = { AreWidths C M };
 
-    ghost Becomes = { OffersNext bridge_sends_e };
+    ghost Becomes = { OffersNext (sends_e bridge_client) };
 
     fn offer_next(&mut self, beats: &[BeatOf<HeadE, C>], at: usize) -> Offered {
         next_offer!(self, beats, at, ready_e, offer_e, close_e)
@@ -95,7 +96,7 @@ impl<const C: usize, const M: usize> Offers<BeatOf<HeadE, C>> for SyncBridge<C, 
 impl<const C: usize, const M: usize> Offers<BeatOf<HeadA, C>> for ClientSide<C, M> {
     ghost CanOffer = { AreWidths C M };
 
-    ghost Becomes = { OffersNext side_sends_a };
+    ghost Becomes = { OffersNext (sends_a client_side) };
 
     fn offer_next(&mut self, beats: &[BeatOf<HeadA, C>], at: usize) -> Offered {
         next_offer!(self, beats, at, ready_a, offer_a, close_a)
@@ -105,7 +106,7 @@ impl<const C: usize, const M: usize> Offers<BeatOf<HeadA, C>> for ClientSide<C, 
 impl<const C: usize, const M: usize> Offers<BeatOf<HeadC, C>> for ClientSide<C, M> {
     ghost CanOffer = { AreWidths C M };
 
-    ghost Becomes = { OffersNext side_sends_c };
+    ghost Becomes = { OffersNext (sends_c client_side) };
 
     fn offer_next(&mut self, beats: &[BeatOf<HeadC, C>], at: usize) -> Offered {
         next_offer!(self, beats, at, ready_c, offer_c, close_c)
@@ -115,7 +116,7 @@ impl<const C: usize, const M: usize> Offers<BeatOf<HeadC, C>> for ClientSide<C, 
 impl<const C: usize, const M: usize> Offers<BeatOf<HeadE, C>> for ClientSide<C, M> {
     ghost CanOffer = { AreWidths C M };
 
-    ghost Becomes = { OffersNext side_sends_e };
+    ghost Becomes = { OffersNext (sends_e client_side) };
 
     fn offer_next(&mut self, beats: &[BeatOf<HeadE, C>], at: usize) -> Offered {
         next_offer!(self, beats, at, ready_e, offer_e, close_e)
@@ -125,7 +126,7 @@ impl<const C: usize, const M: usize> Offers<BeatOf<HeadE, C>> for ClientSide<C, 
 impl<const C: usize, const M: usize> Offers<BeatOf<HeadB, M>> for ManagerSide<C, M> {
     ghost CanOffer = { AreWidths C M };
 
-    ghost Becomes = { OffersNext side_sends_b };
+    ghost Becomes = { OffersNext (sends_b manager_side) };
 
     fn offer_next(&mut self, beats: &[BeatOf<HeadB, M>], at: usize) -> Offered {
         next_offer!(self, beats, at, ready_b, offer_b, close_b)
@@ -135,7 +136,7 @@ impl<const C: usize, const M: usize> Offers<BeatOf<HeadB, M>> for ManagerSide<C,
 impl<const C: usize, const M: usize> Offers<BeatOf<HeadD, M>> for ManagerSide<C, M> {
     ghost CanOffer = { AreWidths C M };
 
-    ghost Becomes = { OffersNext side_sends_d };
+    ghost Becomes = { OffersNext (sends_d manager_side) };
 
     fn offer_next(&mut self, beats: &[BeatOf<HeadD, M>], at: usize) -> Offered {
         next_offer!(self, beats, at, ready_d, offer_d, close_d)

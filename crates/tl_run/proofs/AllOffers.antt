@@ -1,12 +1,12 @@
 -- The outcome of the next beat of each channel of a bridge, which offers them one after another.
 use Rattle.tl_run.proofs.Names.{ℕ, refl, OffersNext, Offered}
-use Rattle.tl_run.proofs.Names.{bridge_sends_a, bridge_sends_b, bridge_sends_c, bridge_sends_d, bridge_sends_e, Beats, Bridge, Past, PerChannel, HasOffered}
+use Rattle.tl_run.proofs.Names.{Beats, Bridge, Past, PerChannel, HasOffered, sends_a, sends_b, sends_c, sends_d, sends_e, bridge_client, bridge_manager}
 use Rattle.tl_sides.specs.Bridges as bridge
 
 -- a bridge offers the next beat of each list, one after another
 pub all-offered : {C M : ℕ} (near : Beats C M) (n : PerChannel ℕ) (s t u v y z : Bridge C M) (o : PerChannel Offered) →
-    OffersNext bridge_sends_a near.a n.a s o.a t → OffersNext bridge_sends_c near.c n.c t o.c u → OffersNext bridge_sends_e near.e n.e u o.e v →
-    OffersNext bridge_sends_b near.b n.b v o.b y → OffersNext bridge_sends_d near.d n.d y o.d z →
+    OffersNext (sends_a bridge_client) near.a n.a s o.a t → OffersNext (sends_c bridge_client) near.c n.c t o.c u → OffersNext (sends_e bridge_client) near.e n.e u o.e v →
+    OffersNext (sends_b bridge_manager) near.b n.b v o.b y → OffersNext (sends_d bridge_manager) near.d n.d y o.d z →
     (x : Past C M) → bridge.StandsFor s x → HasOffered near n x z o
 all-offered near n s t u v y z o in_a in_c in_e in_b in_d x h =
     let a = in_a.does x h in

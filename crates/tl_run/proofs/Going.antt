@@ -5,7 +5,7 @@ use Rattle.tl_run.proofs.Names.{subst, ◌∙◌, arith, Rules, rules_a, rules_b
 use Rattle.tl_run.proofs.Names.{none_past, World, Ask, Answer, client_answer, manager_answer, manager_home, round, client_rests}
 use Rattle.tl_run.proofs.Names.{manager_rests, Beats, PerChannel, Bridge, Past, StandsFor, stops_alone, IsPart, Does, IsSent, IsAt, steps}
 use Rattle.tl_run.proofs.Names.{RestsIn, GoesAhead, GoesOn, passed_on, refused_by, again_count, out_count, pump_count}
-use Rattle.tl_run.proofs.Names.{bridge_sends_a, bridge_sends_b, bridge_sends_c, bridge_sends_d, bridge_sends_e}
+use Rattle.tl_run.proofs.Names.{sends_a, sends_b, sends_c, sends_d, sends_e, bridge_client, bridge_manager}
 use Rattle.tl_sides.specs.ChannelCalls.{passes_a, passes_b, passes_c, passes_d, passes_e}
 use Rattle.tl_run.specs.Inner.Going.{at_first, one_more, stopped, through}
 use Rattle.tl_run.proofs.Channels.{Going, HasGone, Passes, Stays, going_a, going_b, going_c, going_d, going_e}
@@ -254,26 +254,26 @@ module _ {C M : ℕ} {H : Type 0} {w v : ℕ} (k : Going C M (BeatOf H w)) (q : 
 -- so each of the five does
 module _ {C M : ℕ} (discarded : ℕ) where
   pub gone-a : (held : List (BeatOf HeadA C)) (at : ℕ) (s : Bridge C M) (later : ℕ) (t : Bridge C M) (o : Option SideFault) →
-      GoesAhead (OffersNext bridge_sends_a) passes_a discarded held at s later t o → HasGone going_a bridge_sends_a discarded held at s later t o
-  gone-a = has-gone going_a bridge_sends_a (λ s x. (λ h. h, λ h. h)) passes_a
+      GoesAhead (OffersNext (sends_a bridge_client)) passes_a discarded held at s later t o → HasGone going_a (sends_a bridge_client) discarded held at s later t o
+  gone-a = has-gone going_a (sends_a bridge_client) (λ s x. (λ h. h, λ h. h)) passes_a
       (λ t u p. (pump_count t.a, out_count t.a, again_count t.a, λ y x h. p _ h)) ahead-a discarded
 
   pub gone-b : (held : List (BeatOf HeadB M)) (at : ℕ) (s : Bridge C M) (later : ℕ) (t : Bridge C M) (o : Option SideFault) →
-      GoesAhead (OffersNext bridge_sends_b) passes_b discarded held at s later t o → HasGone going_b bridge_sends_b discarded held at s later t o
-  gone-b = has-gone going_b bridge_sends_b (λ s x. (λ h. h, λ h. h)) passes_b
+      GoesAhead (OffersNext (sends_b bridge_manager)) passes_b discarded held at s later t o → HasGone going_b (sends_b bridge_manager) discarded held at s later t o
+  gone-b = has-gone going_b (sends_b bridge_manager) (λ s x. (λ h. h, λ h. h)) passes_b
       (λ t u p. (pump_count t.b, out_count t.b, again_count t.b, λ y x h. p _ h)) ahead-b discarded
 
   pub gone-c : (held : List (BeatOf HeadC C)) (at : ℕ) (s : Bridge C M) (later : ℕ) (t : Bridge C M) (o : Option SideFault) →
-      GoesAhead (OffersNext bridge_sends_c) passes_c discarded held at s later t o → HasGone going_c bridge_sends_c discarded held at s later t o
-  gone-c = has-gone going_c bridge_sends_c (λ s x. (λ h. h, λ h. h)) passes_c
+      GoesAhead (OffersNext (sends_c bridge_client)) passes_c discarded held at s later t o → HasGone going_c (sends_c bridge_client) discarded held at s later t o
+  gone-c = has-gone going_c (sends_c bridge_client) (λ s x. (λ h. h, λ h. h)) passes_c
       (λ t u p. (pump_count t.c, out_count t.c, again_count t.c, λ y x h. p _ h)) ahead-c discarded
 
   pub gone-d : (held : List (BeatOf HeadD M)) (at : ℕ) (s : Bridge C M) (later : ℕ) (t : Bridge C M) (o : Option SideFault) →
-      GoesAhead (OffersNext bridge_sends_d) passes_d discarded held at s later t o → HasGone going_d bridge_sends_d discarded held at s later t o
-  gone-d = has-gone going_d bridge_sends_d (λ s x. (λ h. h, λ h. h)) passes_d
+      GoesAhead (OffersNext (sends_d bridge_manager)) passes_d discarded held at s later t o → HasGone going_d (sends_d bridge_manager) discarded held at s later t o
+  gone-d = has-gone going_d (sends_d bridge_manager) (λ s x. (λ h. h, λ h. h)) passes_d
       (λ t u p. (pump_count t.d, out_count t.d, again_count t.d, λ y x h. p _ h)) ahead-d discarded
 
   pub gone-e : (held : List (BeatOf HeadE C)) (at : ℕ) (s : Bridge C M) (later : ℕ) (t : Bridge C M) (o : Option SideFault) →
-      GoesAhead (OffersNext bridge_sends_e) passes_e discarded held at s later t o → HasGone going_e bridge_sends_e discarded held at s later t o
-  gone-e = has-gone going_e bridge_sends_e (λ s x. (λ h. h, λ h. h)) passes_e
+      GoesAhead (OffersNext (sends_e bridge_client)) passes_e discarded held at s later t o → HasGone going_e (sends_e bridge_client) discarded held at s later t o
+  gone-e = has-gone going_e (sends_e bridge_client) (λ s x. (λ h. h, λ h. h)) passes_e
       (λ t u p. (pump_count t.e, out_count t.e, again_count t.e, λ y x h. p _ h)) ahead-e discarded

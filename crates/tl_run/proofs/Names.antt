@@ -47,7 +47,8 @@ pub use Rattle.tl_settle.specs.Outcomes.{verdict_of, far_alone, verdict_alone, B
 pub use Rattle.tl_settle.specs.Rounds.{round, client_rests, manager_rests, Run, ClientMoves, ManagerMoves, client_takes, client_accepts}
 pub use Rattle.tl_settle.specs.Rounds.{manager_takes, manager_accepts, IsOver, IsSettledRun}
 pub use Rattle.tl_sides.proofs.BridgeSize.{bridge_small}
-pub use Rattle.tl_sides.specs.Bridges.{bridge_sends_a, bridge_sends_b, bridge_sends_c, bridge_sends_d, bridge_sends_e}
+pub use Rattle.tl_sides.specs.Bridges.{bridge_client, bridge_manager}
+pub use Rattle.tl_sides.specs.Ports.{sends_a, sends_b, sends_c, sends_d, sends_e}
 pub use Rattle.tl_sides.specs.Calls.{SendingChannel}
 pub use Rattle.tl_sides.specs.Bridges.{Bridge, Past, StandsFor, IsStanding, nothing_yet, fetch_count, pump_count, after_fetch, after_pump}
 pub use Rattle.tl_sides.specs.ChannelCalls.{again_count, out_count, passed_on}

@@ -1,5 +1,5 @@
 -- The properties that an offer, a close and a take keep for the box that they are made to.
-use Rattle.std.proofs.Common.{◌≡◌, ◌↔◌, ◌++◌, ◌∷◌, [], ℕ, true, false, List, Option, Some, Result, Ok, Err, length, take, drop, sym, subst, ap, ◌∙◌, append-nil}
+use Rattle.std.proofs.Common.{◌≡◌, ◌↔◌, ◌++◌, ◌∷◌, [], ℕ, true, false, List, Option, Some, Result, Ok, Err, length, take, drop, refl, sym, subst, ap, ◌∙◌, append-nil}
 use Rattle.std.specs.Prelude.{IfOk, IfErr, IfSome, IsOk, OnOk, OnErr, slice_get}
 use Rattle.tl_sides.proofs.Words.{Rules, rules_d, HeadD, BeatOf, left, IsPlaceOf, fault_after, homes_with, rest_of, due, Place, left-zero}
 use Rattle.tl_sides.proofs.Words.{Outgoing, HasSent, HasTaken, IsOpen, as_sent, World, offered, shut, drop-append_seam, Event, answered, manager_home}
@@ -79,7 +79,7 @@ module _ {Book K H : Type 0} {w v : ℕ} (k : Deciding Book H w) (AreHomes : Lis
     accepted = λ x h. tt;
     fault = λ x h. said.fault x.history b h.book (booked_checked x h);
     refused = ap (λ book. record { box = o; book = book }) said.refused;
-    rest = tt;
+    rest = refl;
   }
 
   pub book_accepts : {T : Type 0} (s' : Book) (given : T) (o' : Outgoing H v) → Admits k checked s (Ok given) s' →
@@ -98,7 +98,7 @@ module _ {Book K H : Type 0} {w v : ℕ} (k : Deciding Book H w) (AreHomes : Lis
     };
     fault = λ x h. tt;
     refused = tt;
-    rest = tt;
+    rest = refl;
   }
 
 -- two properties of a success show a third

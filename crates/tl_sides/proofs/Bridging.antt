@@ -8,8 +8,9 @@ use Rattle.tl_sides.proofs.Words.{stands_shut, Ask, Answer, manager_home, asked_
 use Rattle.tl_sides.proofs.Words.{answered_ask, SideFault, EndFault}
 use Rattle.tl_settle.specs.Books.{Client, Manager, KnowsClient, KnowsManager}
 use Rattle.tl_sides.specs.Bridges.{Bridge, Past, StandsFor, nothing_yet}
-use Rattle.tl_sides.specs.Bridges.{bridge_sends_a, bridge_sends_b, bridge_sends_c, bridge_sends_d, bridge_sends_e, bridge_takes_a, bridge_takes_b}
-use Rattle.tl_sides.specs.Bridges.{bridge_takes_c, bridge_takes_d, bridge_takes_e}
+use Rattle.tl_sides.specs.Bridges.{bridge_client, bridge_manager}
+use Rattle.tl_sides.specs.Ports.{sends_a, sends_b, sends_c, sends_d, sends_e, takes_a, takes_b}
+use Rattle.tl_sides.specs.Ports.{takes_c, takes_d, takes_e}
 use Rattle.tl_sides.specs.Bridges.{pump_count, fetch_count}
 use Rattle.tl_sides.specs.ChannelCalls as calls
 use Rattle.tl_sides.proofs.Passing.{is_pumped, is_fetched}
@@ -23,7 +24,7 @@ use Rattle.tl_sides.specs.ChannelCalls.{after_take_all}
 use Rattle.tl_sides.specs.Calls.{OffersBeat, ClosesChannel, TakesBeat}
 use Rattle.tl_sides.proofs.Lifting.{offer_lifted, close_lifted, take_lifted}
 use Rattle.tl_sides.specs.Ports.{ClientNow, ClientIsNew, ManagerNow, ManagerIsNew, Hither, Booked, outbox_sends, inbox_takes}
-use Rattle.tl_sides.specs.Ports.{sends_requests, sends_responses, takes_requests, takes_responses}
+use Rattle.tl_sides.specs.Ports.{took_from, sends_requests, sends_responses, takes_requests, takes_responses}
 use Rattle.tl_sides.specs.Joining.{pipe_of, bridge_of}
 use Rattle.tl_sides.specs.declared.sync_bridge.SyncBridge.TheInside.{Inside}
 use Rattle.tl_sides.proofs.BoxSteps.{still_open}
@@ -124,8 +125,8 @@ module _ {A : Type 0} {C M : ℕ} (q : Inside C M A) where
 
   -- an offer to an outbox is one to its bridge
   pub bridge_offers_a : (s : Booked (Outgoing HeadA M) Client) (y : BeatOf HeadA C) (r : Result (Unit {0}) SideFault) → IsOpen q.client.a →
-      OffersBeat sends_requests y (record { box = q.client.a; book = q.client.book }) r s → OffersBeat bridge_sends_a y (as_bridge q) r (with_request s)
-  bridge_offers_a s y r ready = offer_lifted sends_requests bridge_sends_a with_request
+      OffersBeat sends_requests y (record { box = q.client.a; book = q.client.book }) r s → OffersBeat (sends_a bridge_client) y (as_bridge q) r (with_request s)
+  bridge_offers_a s y r ready = offer_lifted sends_requests (sends_a bridge_client) with_request
       (λ x. record { history = x.client; crossing = away_of q.client.a x.a }) (record { box = q.client.a; book = q.client.book }) s
       (λ x h. record { box = record { sent = h.a.outbox; is = refl }; accepted = h.client_asked; homes = tt; book = h.client }) y r
       (λ x. refl) refl
@@ -136,22 +137,22 @@ module _ {A : Type 0} {C M : ℕ} (q : Inside C M A) where
       (obeys_ask x.client y h.client_obeys fine) refl (refl, refl))
 
   pub bridge_offers_b : (o : Outgoing HeadB C) (y : BeatOf HeadB M) (r : Result (Unit {0}) SideFault) → IsOpen q.manager.b →
-      OffersBeat (outbox_sends rules_b) y q.manager.b r o → OffersBeat bridge_sends_b y (as_bridge q) r (with_outbox_b o)
-  bridge_offers_b o y r ready = offer_lifted (outbox_sends rules_b) bridge_sends_b with_outbox_b (λ x. away_of q.manager.b x.b) q.manager.b o
+      OffersBeat (outbox_sends rules_b) y q.manager.b r o → OffersBeat (sends_b bridge_manager) y (as_bridge q) r (with_outbox_b o)
+  bridge_offers_b o y r ready = offer_lifted (outbox_sends rules_b) (sends_b bridge_manager) with_outbox_b (λ x. away_of q.manager.b x.b) q.manager.b o
       (λ x h. record { sent = h.b.outbox; is = refl }) y r (λ x. refl) refl
       (λ x h fine stands. with_b (as_bridge q) x h (pipe_of o q.b q.client.b) (offered rules_b y 0 x.b)
       (stands_offered rules_b masked_b (pipe_of q.manager.b q.b q.client.b) x.b y 0 o ready.0 ready.1 (still_open stands ready.1) stands.sent h.b))
 
   pub bridge_offers_c : (o : Outgoing HeadC M) (y : BeatOf HeadC C) (r : Result (Unit {0}) SideFault) → IsOpen q.client.c →
-      OffersBeat (outbox_sends rules_c) y q.client.c r o → OffersBeat bridge_sends_c y (as_bridge q) r (with_outbox_c o)
-  bridge_offers_c o y r ready = offer_lifted (outbox_sends rules_c) bridge_sends_c with_outbox_c (λ x. away_of q.client.c x.c) q.client.c o
+      OffersBeat (outbox_sends rules_c) y q.client.c r o → OffersBeat (sends_c bridge_client) y (as_bridge q) r (with_outbox_c o)
+  bridge_offers_c o y r ready = offer_lifted (outbox_sends rules_c) (sends_c bridge_client) with_outbox_c (λ x. away_of q.client.c x.c) q.client.c o
       (λ x h. record { sent = h.c.outbox; is = refl }) y r (λ x. refl) refl
       (λ x h fine stands. with_c (as_bridge q) x h (pipe_of o q.c q.manager.c) (offered rules_c y 0 x.c)
       (stands_offered rules_c masked_c (pipe_of q.client.c q.c q.manager.c) x.c y 0 o ready.0 ready.1 (still_open stands ready.1) stands.sent h.c))
 
   pub bridge_offers_d : (s : Booked (Outgoing HeadD C) Manager) (y : BeatOf HeadD M) (r : Result (Unit {0}) SideFault) → IsOpen q.manager.d →
-      OffersBeat sends_responses y (record { box = q.manager.d; book = q.manager.book }) r s → OffersBeat bridge_sends_d y (as_bridge q) r (with_response s)
-  bridge_offers_d s y r ready = offer_lifted sends_responses bridge_sends_d with_response
+      OffersBeat sends_responses y (record { box = q.manager.d; book = q.manager.book }) r s → OffersBeat (sends_d bridge_manager) y (as_bridge q) r (with_response s)
+  bridge_offers_d s y r ready = offer_lifted sends_responses (sends_d bridge_manager) with_response
       (λ x. record { history = x.manager; crossing = away_of q.manager.d x.d }) (record { box = q.manager.d; book = q.manager.book }) s
       (λ x h. record { box = record { sent = h.d.outbox; is = refl }; accepted = h.manager_answered; homes = h.homes; book = h.manager }) y r
       (λ x. refl) refl
@@ -163,97 +164,104 @@ module _ {A : Type 0} {C M : ℕ} (q : Inside C M A) where
       (obeys_answer x.manager y h.manager_obeys fine) refl refl)
 
   pub bridge_offers_e : (o : Outgoing HeadE M) (y : BeatOf HeadE C) (r : Result (Unit {0}) SideFault) → IsOpen q.client.e →
-      OffersBeat (outbox_sends rules_e) y q.client.e r o → OffersBeat bridge_sends_e y (as_bridge q) r (with_outbox_e o)
-  bridge_offers_e o y r ready = offer_lifted (outbox_sends rules_e) bridge_sends_e with_outbox_e (λ x. away_of q.client.e x.e) q.client.e o
+      OffersBeat (outbox_sends rules_e) y q.client.e r o → OffersBeat (sends_e bridge_client) y (as_bridge q) r (with_outbox_e o)
+  bridge_offers_e o y r ready = offer_lifted (outbox_sends rules_e) (sends_e bridge_client) with_outbox_e (λ x. away_of q.client.e x.e) q.client.e o
       (λ x h. record { sent = h.e.outbox; is = refl }) y r (λ x. refl) refl
       (λ x h fine stands. with_e (as_bridge q) x h (pipe_of o q.e q.manager.e) (offered rules_e y 0 x.e)
       (stands_offered rules_e masked_e (pipe_of q.client.e q.e q.manager.e) x.e y 0 o ready.0 ready.1 (still_open stands ready.1) stands.sent h.e))
 
   -- so is a take
   pub bridge_taken_a : (s : Booked (List (BeatOf HeadA M)) Manager) (r : Option (BeatOf HeadA M)) →
-      TakesBeat takes_requests (record { box = q.manager.a; book = q.manager.book }) r s → TakesBeat bridge_takes_a (as_bridge q) r (with_request_taken s)
-  bridge_taken_a s r = take_lifted takes_requests bridge_takes_a with_request_taken
+      TakesBeat takes_requests (record { box = q.manager.a; book = q.manager.book }) r s → TakesBeat (takes_a bridge_manager) (as_bridge q) r (with_request_taken s)
+  bridge_taken_a s r = take_lifted takes_requests (takes_a bridge_manager) with_request_taken
       (λ x. record { history = x.manager; received = x.a.taken ++ x.a.inbox }) (record { box = q.manager.a; book = q.manager.book }) s r
       (λ x h. (ap (λ z. x.a.taken ++ z) (sym h.a.inbox) ∙ ap (λ z. z ++ q.manager.a) (sym h.manager_asked), h.manager)) refl refl
       (λ k. ap (λ z. with_request_taken (record { box = z; book = s.book })) k)
-      (λ x h k stands. subst (λ z. StandsFor (with_request_taken (record { box = z; book = s.book })) (bridge_takes_a.after_take (as_bridge q) x)) (sym k)
+      (λ x h k stands. subst (λ z. StandsFor (with_request_taken (record { box = z; book = s.book })) ((takes_a bridge_manager).after_take (as_bridge q) x)) (sym k)
+      (subst (λ i. StandsFor (with_request_taken (record { box = drop 1 q.manager.a; book = s.book }))
+      (record x { manager = x.manager ++ map Ask (take 1 i); a = took_from i x.a })) (sym h.a.inbox)
       (manager_goes_on (as_bridge q) x h (pipe_of q.client.a q.a (drop 1 q.manager.a)) (pipe_of q.manager.d q.d q.client.d) s.book
       (x.manager ++ map Ask (take 1 x.a.inbox)) (took x.a) x.d (stands_took rules_a masked_a (pipe_of q.client.a q.a q.manager.a) x.a h.a) h.d
       (asked-all x.manager (take 1 x.a.inbox) ∙ ap (λ z. z ++ take 1 x.a.inbox) h.manager_asked)
       (answered_asks x.manager (take 1 x.a.inbox) ∙ h.manager_answered) (homes_asks x.manager (take 1 x.a.inbox) ∙ h.homes)
       (subst (λ z. KnowsManager s.book (x.manager ++ map Ask (take 1 z))) h.a.inbox stands.1)
-      (requests_taken (as_bridge q) x h (take 1 x.a.inbox) (first_of x.a.inbox)) refl refl))
+      (requests_taken (as_bridge q) x h (take 1 x.a.inbox) (first_of x.a.inbox)) refl refl)))
 
   pub bridge_taken_b : (i : List (BeatOf HeadB C)) (r : Option (BeatOf HeadB C)) → TakesBeat (inbox_takes rules_b) q.client.b r i →
-      TakesBeat bridge_takes_b (as_bridge q) r (with_inbox_b i)
-  bridge_taken_b i r = take_lifted (inbox_takes rules_b) bridge_takes_b with_inbox_b (λ x. hither_of x.b) q.client.b i r
+      TakesBeat (takes_b bridge_client) (as_bridge q) r (with_inbox_b i)
+  bridge_taken_b i r = take_lifted (inbox_takes rules_b) (takes_b bridge_client) with_inbox_b (λ x. hither_of x.b) q.client.b i r
       (λ x h. ap (λ z. x.b.taken ++ z) (sym h.b.inbox)) refl refl (λ k. ap with_inbox_b k)
-      (λ x h k stands. subst (λ z. StandsFor (with_inbox_b z) (bridge_takes_b.after_take (as_bridge q) x)) (sym k)
+      (λ x h k stands. subst (λ z. StandsFor (with_inbox_b z) ((takes_b bridge_client).after_take (as_bridge q) x)) (sym k)
+      (subst (λ i. StandsFor (with_inbox_b (drop 1 q.client.b)) (record x { b = took_from i x.b })) (sym h.b.inbox)
       (with_b (as_bridge q) x h (pipe_of q.manager.b q.b (drop 1 q.client.b)) (took x.b)
-      (stands_took rules_b masked_b (pipe_of q.manager.b q.b q.client.b) x.b h.b)))
+      (stands_took rules_b masked_b (pipe_of q.manager.b q.b q.client.b) x.b h.b))))
 
   pub bridge_taken_c : (i : List (BeatOf HeadC M)) (r : Option (BeatOf HeadC M)) → TakesBeat (inbox_takes rules_c) q.manager.c r i →
-      TakesBeat bridge_takes_c (as_bridge q) r (with_inbox_c i)
-  bridge_taken_c i r = take_lifted (inbox_takes rules_c) bridge_takes_c with_inbox_c (λ x. hither_of x.c) q.manager.c i r
+      TakesBeat (takes_c bridge_manager) (as_bridge q) r (with_inbox_c i)
+  bridge_taken_c i r = take_lifted (inbox_takes rules_c) (takes_c bridge_manager) with_inbox_c (λ x. hither_of x.c) q.manager.c i r
       (λ x h. ap (λ z. x.c.taken ++ z) (sym h.c.inbox)) refl refl (λ k. ap with_inbox_c k)
-      (λ x h k stands. subst (λ z. StandsFor (with_inbox_c z) (bridge_takes_c.after_take (as_bridge q) x)) (sym k)
+      (λ x h k stands. subst (λ z. StandsFor (with_inbox_c z) ((takes_c bridge_manager).after_take (as_bridge q) x)) (sym k)
+      (subst (λ i. StandsFor (with_inbox_c (drop 1 q.manager.c)) (record x { c = took_from i x.c })) (sym h.c.inbox)
       (with_c (as_bridge q) x h (pipe_of q.client.c q.c (drop 1 q.manager.c)) (took x.c)
-      (stands_took rules_c masked_c (pipe_of q.client.c q.c q.manager.c) x.c h.c)))
+      (stands_took rules_c masked_c (pipe_of q.client.c q.c q.manager.c) x.c h.c))))
 
   pub bridge_taken_d : (s : Booked (List (BeatOf HeadD C)) Client) (r : Option (BeatOf HeadD C)) →
-      TakesBeat takes_responses (record { box = q.client.d; book = q.client.book }) r s → TakesBeat bridge_takes_d (as_bridge q) r (with_response_taken s)
-  bridge_taken_d s r = take_lifted takes_responses bridge_takes_d with_response_taken
+      TakesBeat takes_responses (record { box = q.client.d; book = q.client.book }) r s → TakesBeat (takes_d bridge_client) (as_bridge q) r (with_response_taken s)
+  bridge_taken_d s r = take_lifted takes_responses (takes_d bridge_client) with_response_taken
       (λ x. record { history = x.client; received = x.d.taken ++ x.d.inbox }) (record { box = q.client.d; book = q.client.book }) s r
       (λ x h. (ap (λ z. x.d.taken ++ z) (sym h.d.inbox) ∙ ap (λ z. z ++ q.client.d) (sym h.client_answered), h.client)) refl refl
       (λ k. ap (λ z. with_response_taken (record { box = z; book = s.book })) k)
-      (λ x h k stands. subst (λ z. StandsFor (with_response_taken (record { box = z; book = s.book })) (bridge_takes_d.after_take (as_bridge q) x)) (sym k)
+      (λ x h k stands. subst (λ z. StandsFor (with_response_taken (record { box = z; book = s.book })) ((takes_d bridge_client).after_take (as_bridge q) x)) (sym k)
+      (subst (λ i. StandsFor (with_response_taken (record { box = drop 1 q.client.d; book = s.book }))
+      (record x { client = x.client ++ map Answer (take 1 i); d = took_from i x.d })) (sym h.d.inbox)
       (client_goes_on (as_bridge q) x h (pipe_of q.client.a q.a q.manager.a) (pipe_of q.manager.d q.d (drop 1 q.client.d)) s.book
       (x.client ++ map Answer (take 1 x.d.inbox)) x.a (took x.d) h.a (stands_took rules_d masked_d (pipe_of q.manager.d q.d q.client.d) x.d h.d)
       (asked_answers x.client (take 1 x.d.inbox) ∙ h.client_asked)
       (answered-all x.client (take 1 x.d.inbox) ∙ ap (λ z. z ++ take 1 x.d.inbox) h.client_answered)
       (subst (λ z. KnowsClient s.book (x.client ++ map Answer (take 1 z))) h.d.inbox stands.1)
-      (responses_taken (as_bridge q) x h (take 1 x.d.inbox) (first_of x.d.inbox)) refl (refl, refl)))
+      (responses_taken (as_bridge q) x h (take 1 x.d.inbox) (first_of x.d.inbox)) refl (refl, refl))))
 
   pub bridge_taken_e : (i : List (BeatOf HeadE M)) (r : Option (BeatOf HeadE M)) → TakesBeat (inbox_takes rules_e) q.manager.e r i →
-      TakesBeat bridge_takes_e (as_bridge q) r (with_inbox_e i)
-  bridge_taken_e i r = take_lifted (inbox_takes rules_e) bridge_takes_e with_inbox_e (λ x. hither_of x.e) q.manager.e i r
+      TakesBeat (takes_e bridge_manager) (as_bridge q) r (with_inbox_e i)
+  bridge_taken_e i r = take_lifted (inbox_takes rules_e) (takes_e bridge_manager) with_inbox_e (λ x. hither_of x.e) q.manager.e i r
       (λ x h. ap (λ z. x.e.taken ++ z) (sym h.e.inbox)) refl refl (λ k. ap with_inbox_e k)
-      (λ x h k stands. subst (λ z. StandsFor (with_inbox_e z) (bridge_takes_e.after_take (as_bridge q) x)) (sym k)
+      (λ x h k stands. subst (λ z. StandsFor (with_inbox_e z) ((takes_e bridge_manager).after_take (as_bridge q) x)) (sym k)
+      (subst (λ i. StandsFor (with_inbox_e (drop 1 q.manager.e)) (record x { e = took_from i x.e })) (sym h.e.inbox)
       (with_e (as_bridge q) x h (pipe_of q.client.e q.e (drop 1 q.manager.e)) (took x.e)
-      (stands_took rules_e masked_e (pipe_of q.client.e q.e q.manager.e) x.e h.e)))
+      (stands_took rules_e masked_e (pipe_of q.client.e q.e q.manager.e) x.e h.e))))
 
   -- and a close
   pub bridge_closes_a : (o : Outgoing HeadA M) (r : Result (Unit {0}) EndFault) → ClosesChannel (outbox_sends rules_a {w = C}) q.client.a r o →
-      ClosesChannel bridge_sends_a (as_bridge q) r (with_outbox_a o)
-  bridge_closes_a o r = close_lifted (outbox_sends rules_a) bridge_sends_a with_outbox_a (λ x. away_of q.client.a x.a) q.client.a o
+      ClosesChannel (sends_a bridge_client) (as_bridge q) r (with_outbox_a o)
+  bridge_closes_a o r = close_lifted (outbox_sends rules_a) (sends_a bridge_client) with_outbox_a (λ x. away_of q.client.a x.a) q.client.a o
       (λ x h. record { sent = h.a.outbox; is = refl }) r refl (λ x h. refl) refl refl
       (λ x h over. with_a (as_bridge q) x h (pipe_of (record q.client.a { closed = true }) q.a q.manager.a) (record x.a { closed = true })
       (stands_shut rules_a masked_a (pipe_of q.client.a q.a q.manager.a) x.a over h.a) (refl, refl))
 
   pub bridge_closes_b : (o : Outgoing HeadB C) (r : Result (Unit {0}) EndFault) → ClosesChannel (outbox_sends rules_b {w = M}) q.manager.b r o →
-      ClosesChannel bridge_sends_b (as_bridge q) r (with_outbox_b o)
-  bridge_closes_b o r = close_lifted (outbox_sends rules_b) bridge_sends_b with_outbox_b (λ x. away_of q.manager.b x.b) q.manager.b o
+      ClosesChannel (sends_b bridge_manager) (as_bridge q) r (with_outbox_b o)
+  bridge_closes_b o r = close_lifted (outbox_sends rules_b) (sends_b bridge_manager) with_outbox_b (λ x. away_of q.manager.b x.b) q.manager.b o
       (λ x h. record { sent = h.b.outbox; is = refl }) r refl (λ x h. refl) refl refl
       (λ x h over. with_b (as_bridge q) x h (pipe_of (record q.manager.b { closed = true }) q.b q.client.b) (record x.b { closed = true })
       (stands_shut rules_b masked_b (pipe_of q.manager.b q.b q.client.b) x.b over h.b))
 
   pub bridge_closes_c : (o : Outgoing HeadC M) (r : Result (Unit {0}) EndFault) → ClosesChannel (outbox_sends rules_c {w = C}) q.client.c r o →
-      ClosesChannel bridge_sends_c (as_bridge q) r (with_outbox_c o)
-  bridge_closes_c o r = close_lifted (outbox_sends rules_c) bridge_sends_c with_outbox_c (λ x. away_of q.client.c x.c) q.client.c o
+      ClosesChannel (sends_c bridge_client) (as_bridge q) r (with_outbox_c o)
+  bridge_closes_c o r = close_lifted (outbox_sends rules_c) (sends_c bridge_client) with_outbox_c (λ x. away_of q.client.c x.c) q.client.c o
       (λ x h. record { sent = h.c.outbox; is = refl }) r refl (λ x h. refl) refl refl
       (λ x h over. with_c (as_bridge q) x h (pipe_of (record q.client.c { closed = true }) q.c q.manager.c) (record x.c { closed = true })
       (stands_shut rules_c masked_c (pipe_of q.client.c q.c q.manager.c) x.c over h.c))
 
   pub bridge_closes_d : (o : Outgoing HeadD C) (r : Result (Unit {0}) EndFault) → ClosesChannel (outbox_sends rules_d {w = M}) q.manager.d r o →
-      ClosesChannel bridge_sends_d (as_bridge q) r (with_outbox_d o)
-  bridge_closes_d o r = close_lifted (outbox_sends rules_d) bridge_sends_d with_outbox_d (λ x. away_of q.manager.d x.d) q.manager.d o
+      ClosesChannel (sends_d bridge_manager) (as_bridge q) r (with_outbox_d o)
+  bridge_closes_d o r = close_lifted (outbox_sends rules_d) (sends_d bridge_manager) with_outbox_d (λ x. away_of q.manager.d x.d) q.manager.d o
       (λ x h. record { sent = h.d.outbox; is = refl }) r refl (λ x h. refl) refl refl
       (λ x h over. with_d (as_bridge q) x h (pipe_of (record q.manager.d { closed = true }) q.d q.client.d) (record x.d { closed = true })
       (stands_shut rules_d masked_d (pipe_of q.manager.d q.d q.client.d) x.d over h.d) (refl, refl, refl))
 
   pub bridge_closes_e : (o : Outgoing HeadE M) (r : Result (Unit {0}) EndFault) → ClosesChannel (outbox_sends rules_e {w = C}) q.client.e r o →
-      ClosesChannel bridge_sends_e (as_bridge q) r (with_outbox_e o)
-  bridge_closes_e o r = close_lifted (outbox_sends rules_e) bridge_sends_e with_outbox_e (λ x. away_of q.client.e x.e) q.client.e o
+      ClosesChannel (sends_e bridge_client) (as_bridge q) r (with_outbox_e o)
+  bridge_closes_e o r = close_lifted (outbox_sends rules_e) (sends_e bridge_client) with_outbox_e (λ x. away_of q.client.e x.e) q.client.e o
       (λ x h. record { sent = h.e.outbox; is = refl }) r refl (λ x h. refl) refl refl
       (λ x h over. with_e (as_bridge q) x h (pipe_of (record q.client.e { closed = true }) q.e q.manager.e) (record x.e { closed = true })
       (stands_shut rules_e masked_e (pipe_of q.client.e q.e q.manager.e) x.e over h.e))

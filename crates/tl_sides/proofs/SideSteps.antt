@@ -17,8 +17,9 @@ use Rattle.tl_sides.specs.Sides.{ClientState, ManagerState, ClientPast, ManagerP
 use Rattle.tl_sides.specs.Sides.{client_state_of, manager_state_of, client_pumps, manager_pumps}
 use Rattle.tl_settle.specs.Books.{Client, Manager, KnowsClient, KnowsManager}
 use Rattle.tl_sides.specs.Sides.{client_takes_b, client_takes_d, manager_takes_a, manager_takes_c, manager_takes_e}
-use Rattle.tl_sides.specs.Sides.{side_sends_a, side_sends_b, side_sends_c, side_sends_d, side_sends_e, side_takes_a, side_takes_b, side_takes_c}
-use Rattle.tl_sides.specs.Sides.{side_takes_d, side_takes_e}
+use Rattle.tl_sides.specs.Sides.{client_side, manager_side}
+use Rattle.tl_sides.specs.Ports.{sends_a, sends_b, sends_c, sends_d, sends_e, takes_a, takes_b, takes_c}
+use Rattle.tl_sides.specs.Ports.{takes_d, takes_e}
 use Rattle.tl_sides.specs.declared.client_side.ClientSide.TheInside as client
 use Rattle.tl_sides.specs.declared.manager_side.ManagerSide.TheInside as manager
 use Rattle.tl_sides.proofs.BridgeSteps.{asked_answers, answered_asks, homes_asks}
@@ -72,11 +73,11 @@ module _ {A : Type 0} {C M : ℕ} (q : client.Inside C M A) where
 
   -- an offer to an outbox is one to the side
   pub side_offers_a : (s : Booked (Outgoing HeadA M) Client) (y : BeatOf HeadA C) (r : Result (Unit {0}) SideFault) → IsOpen q.port.a →
-      OffersBeat sends_requests y (record { box = q.port.a; book = q.port.book }) r s → OffersBeat side_sends_a y (client_side_of q) r (request_sent s)
-  side_offers_a s y r ready = offer_lifted sends_requests side_sends_a request_sent
+      OffersBeat sends_requests y (record { box = q.port.a; book = q.port.book }) r s → OffersBeat (sends_a client_side) y (client_side_of q) r (request_sent s)
+  side_offers_a s y r ready = offer_lifted sends_requests (sends_a client_side) request_sent
       (λ x. record { history = x.history; crossing = away_of q.port.a x.a }) (record { box = q.port.a; book = q.port.book }) s
       (λ x h. record { box = record { sent = h.a.pipe.outbox; is = refl }; accepted = h.accepted; homes = tt; book = h.book }) y r
-      (λ x. refl) (refl, refl)
+      (λ x. refl) refl
       (λ x h fine stands. (record {
         a = sends_offered rules_a masked_a (sending_of q.port.a q.a) x.a y 0 s.box ready.0 ready.1 (still_open stands.box ready.1) stands.box.sent h.a;
         b = h.b;
@@ -89,9 +90,9 @@ module _ {A : Type 0} {C M : ℕ} (q : client.Inside C M A) where
       }))
 
   pub side_offers_c : (o : Outgoing HeadC M) (y : BeatOf HeadC C) (r : Result (Unit {0}) SideFault) → IsOpen q.port.c →
-      OffersBeat (outbox_sends rules_c) y q.port.c r o → OffersBeat side_sends_c y (client_side_of q) r (outbox_c o)
-  side_offers_c o y r ready = offer_lifted (outbox_sends rules_c) side_sends_c outbox_c (λ x. away_of q.port.c x.c) q.port.c o
-      (λ x h. record { sent = h.c.pipe.outbox; is = refl }) y r (λ x. refl) (refl, refl)
+      OffersBeat (outbox_sends rules_c) y q.port.c r o → OffersBeat (sends_c client_side) y (client_side_of q) r (outbox_c o)
+  side_offers_c o y r ready = offer_lifted (outbox_sends rules_c) (sends_c client_side) outbox_c (λ x. away_of q.port.c x.c) q.port.c o
+      (λ x h. record { sent = h.c.pipe.outbox; is = refl }) y r (λ x. refl) refl
       (λ x h fine stands. (record {
         a = h.a;
         b = h.b;
@@ -104,9 +105,9 @@ module _ {A : Type 0} {C M : ℕ} (q : client.Inside C M A) where
       }))
 
   pub side_offers_e : (o : Outgoing HeadE M) (y : BeatOf HeadE C) (r : Result (Unit {0}) SideFault) → IsOpen q.port.e →
-      OffersBeat (outbox_sends rules_e) y q.port.e r o → OffersBeat side_sends_e y (client_side_of q) r (outbox_e o)
-  side_offers_e o y r ready = offer_lifted (outbox_sends rules_e) side_sends_e outbox_e (λ x. away_of q.port.e x.e) q.port.e o
-      (λ x h. record { sent = h.e.pipe.outbox; is = refl }) y r (λ x. refl) (refl, refl)
+      OffersBeat (outbox_sends rules_e) y q.port.e r o → OffersBeat (sends_e client_side) y (client_side_of q) r (outbox_e o)
+  side_offers_e o y r ready = offer_lifted (outbox_sends rules_e) (sends_e client_side) outbox_e (λ x. away_of q.port.e x.e) q.port.e o
+      (λ x h. record { sent = h.e.pipe.outbox; is = refl }) y r (λ x. refl) refl
       (λ x h fine stands. (record {
         a = h.a;
         b = h.b;
@@ -120,10 +121,10 @@ module _ {A : Type 0} {C M : ℕ} (q : client.Inside C M A) where
 
   -- so is a take
   pub side_taken_b : (i : List (BeatOf HeadB C)) (r : Option (BeatOf HeadB C)) → TakesBeat (inbox_takes rules_b) q.port.b r i →
-      TakesBeat side_takes_b (client_side_of q) r (inbox_b i)
-  side_taken_b i r = take_lifted (inbox_takes rules_b) side_takes_b inbox_b
+      TakesBeat (takes_b client_side) (client_side_of q) r (inbox_b i)
+  side_taken_b i r = take_lifted (inbox_takes rules_b) (takes_b client_side) inbox_b
       (λ x. record { received = received (taking_of q.port.b q.b.half); taken = x.b }) q.port.b i r (λ x h. h.b) refl refl (λ k. ap inbox_b k)
-      (λ x h k stands. subst (λ z. ClientStandsFor (inbox_b z) ((side_takes_b {A = A}).after_take (client_side_of q) x)) (sym k)
+      (λ x h k stands. subst (λ z. ClientStandsFor (inbox_b z) ((takes_b (client_side {A = A})).after_take (client_side_of q) x)) (sym k)
       (record {
         a = h.a;
         b = h.b ∙ sym (cut_moves 1 x.b q.port.b);
@@ -136,11 +137,11 @@ module _ {A : Type 0} {C M : ℕ} (q : client.Inside C M A) where
       }))
 
   pub side_taken_d : (s : Booked (List (BeatOf HeadD C)) Client) (r : Option (BeatOf HeadD C)) →
-      TakesBeat takes_responses (record { box = q.port.d; book = q.port.book }) r s → TakesBeat side_takes_d (client_side_of q) r (response_taken s)
-  side_taken_d s r = take_lifted takes_responses side_takes_d response_taken
+      TakesBeat takes_responses (record { box = q.port.d; book = q.port.book }) r s → TakesBeat (takes_d client_side) (client_side_of q) r (response_taken s)
+  side_taken_d s r = take_lifted takes_responses (takes_d client_side) response_taken
       (λ x. record { history = x.history; received = received (taking_of q.port.d q.d.half) }) (record { box = q.port.d; book = q.port.book }) s r
       (λ x h. (h.d, h.book)) refl refl (λ k. ap (λ z. response_taken (record { box = z; book = s.book })) k)
-      (λ x h k stands. subst (λ z. ClientStandsFor (response_taken (record { box = z; book = s.book })) ((side_takes_d {A = A}).after_take (client_side_of q) x)) (sym k)
+      (λ x h k stands. subst (λ z. ClientStandsFor (response_taken (record { box = z; book = s.book })) ((takes_d (client_side {A = A})).after_take (client_side_of q) x)) (sym k)
       (record {
         a = h.a;
         b = h.b;
@@ -155,8 +156,8 @@ module _ {A : Type 0} {C M : ℕ} (q : client.Inside C M A) where
 
   -- and a close
   pub side_closes_a : (o : Outgoing HeadA M) (r : Result (Unit {0}) EndFault) → ClosesChannel (outbox_sends rules_a {w = C}) q.port.a r o →
-      ClosesChannel side_sends_a (client_side_of q) r (outbox_a o)
-  side_closes_a o r = close_lifted (outbox_sends rules_a) side_sends_a outbox_a (λ x. away_of q.port.a x.a) q.port.a o
+      ClosesChannel (sends_a client_side) (client_side_of q) r (outbox_a o)
+  side_closes_a o r = close_lifted (outbox_sends rules_a) (sends_a client_side) outbox_a (λ x. away_of q.port.a x.a) q.port.a o
       (λ x h. record { sent = h.a.pipe.outbox; is = refl }) r refl (λ x h. refl) refl refl
       (λ x h over. (record {
         a = sends_shut rules_a masked_a (sending_of q.port.a q.a) x.a over h.a;
@@ -170,8 +171,8 @@ module _ {A : Type 0} {C M : ℕ} (q : client.Inside C M A) where
       }))
 
   pub side_closes_c : (o : Outgoing HeadC M) (r : Result (Unit {0}) EndFault) → ClosesChannel (outbox_sends rules_c {w = C}) q.port.c r o →
-      ClosesChannel side_sends_c (client_side_of q) r (outbox_c o)
-  side_closes_c o r = close_lifted (outbox_sends rules_c) side_sends_c outbox_c (λ x. away_of q.port.c x.c) q.port.c o
+      ClosesChannel (sends_c client_side) (client_side_of q) r (outbox_c o)
+  side_closes_c o r = close_lifted (outbox_sends rules_c) (sends_c client_side) outbox_c (λ x. away_of q.port.c x.c) q.port.c o
       (λ x h. record { sent = h.c.pipe.outbox; is = refl }) r refl (λ x h. refl) refl refl
       (λ x h over. (record {
         a = h.a;
@@ -185,8 +186,8 @@ module _ {A : Type 0} {C M : ℕ} (q : client.Inside C M A) where
       }))
 
   pub side_closes_e : (o : Outgoing HeadE M) (r : Result (Unit {0}) EndFault) → ClosesChannel (outbox_sends rules_e {w = C}) q.port.e r o →
-      ClosesChannel side_sends_e (client_side_of q) r (outbox_e o)
-  side_closes_e o r = close_lifted (outbox_sends rules_e) side_sends_e outbox_e (λ x. away_of q.port.e x.e) q.port.e o
+      ClosesChannel (sends_e client_side) (client_side_of q) r (outbox_e o)
+  side_closes_e o r = close_lifted (outbox_sends rules_e) (sends_e client_side) outbox_e (λ x. away_of q.port.e x.e) q.port.e o
       (λ x h. record { sent = h.e.pipe.outbox; is = refl }) r refl (λ x h. refl) refl refl
       (λ x h over. (record {
         a = h.a;
@@ -240,9 +241,9 @@ module _ {A : Type 0} {C M : ℕ} (q : manager.Inside C M A) where
 
   -- an offer to an outbox is one to the side
   pub side_offers_b : (o : Outgoing HeadB C) (y : BeatOf HeadB M) (r : Result (Unit {0}) SideFault) → IsOpen q.port.b →
-      OffersBeat (outbox_sends rules_b) y q.port.b r o → OffersBeat side_sends_b y (manager_side_of q) r (outbox_b o)
-  side_offers_b o y r ready = offer_lifted (outbox_sends rules_b) side_sends_b outbox_b (λ x. away_of q.port.b x.b) q.port.b o
-      (λ x h. record { sent = h.b.pipe.outbox; is = refl }) y r (λ x. refl) (refl, refl)
+      OffersBeat (outbox_sends rules_b) y q.port.b r o → OffersBeat (sends_b manager_side) y (manager_side_of q) r (outbox_b o)
+  side_offers_b o y r ready = offer_lifted (outbox_sends rules_b) (sends_b manager_side) outbox_b (λ x. away_of q.port.b x.b) q.port.b o
+      (λ x h. record { sent = h.b.pipe.outbox; is = refl }) y r (λ x. refl) refl
       (λ x h fine stands. (record {
         a = h.a;
         b = sends_offered rules_b masked_b (sending_of q.port.b q.b) x.b y 0 o ready.0 ready.1 (still_open stands ready.1) stands.sent h.b;
@@ -256,11 +257,11 @@ module _ {A : Type 0} {C M : ℕ} (q : manager.Inside C M A) where
       }))
 
   pub side_offers_d : (s : Booked (Outgoing HeadD C) Manager) (y : BeatOf HeadD M) (r : Result (Unit {0}) SideFault) → IsOpen q.port.d →
-      OffersBeat sends_responses y (record { box = q.port.d; book = q.port.book }) r s → OffersBeat side_sends_d y (manager_side_of q) r (response_sent s)
-  side_offers_d s y r ready = offer_lifted sends_responses side_sends_d response_sent
+      OffersBeat sends_responses y (record { box = q.port.d; book = q.port.book }) r s → OffersBeat (sends_d manager_side) y (manager_side_of q) r (response_sent s)
+  side_offers_d s y r ready = offer_lifted sends_responses (sends_d manager_side) response_sent
       (λ x. record { history = x.history; crossing = away_of q.port.d x.d }) (record { box = q.port.d; book = q.port.book }) s
       (λ x h. record { box = record { sent = h.d.pipe.outbox; is = refl }; accepted = h.accepted; homes = h.homes; book = h.book }) y r
-      (λ x. refl) (refl, refl)
+      (λ x. refl) refl
       (λ x h fine stands. (record {
         a = subst (λ z. Takes (taking_of q.port.a q.a.half) z) (sym (asked_answer x.history y)) h.a;
         b = h.b;
@@ -276,11 +277,11 @@ module _ {A : Type 0} {C M : ℕ} (q : manager.Inside C M A) where
 
   -- so is a take
   pub side_taken_a : (s : Booked (List (BeatOf HeadA M)) Manager) (r : Option (BeatOf HeadA M)) →
-      TakesBeat takes_requests (record { box = q.port.a; book = q.port.book }) r s → TakesBeat side_takes_a (manager_side_of q) r (request_taken s)
-  side_taken_a s r = take_lifted takes_requests side_takes_a request_taken
+      TakesBeat takes_requests (record { box = q.port.a; book = q.port.book }) r s → TakesBeat (takes_a manager_side) (manager_side_of q) r (request_taken s)
+  side_taken_a s r = take_lifted takes_requests (takes_a manager_side) request_taken
       (λ x. record { history = x.history; received = received (taking_of q.port.a q.a.half) }) (record { box = q.port.a; book = q.port.book }) s r
       (λ x h. (h.a, h.book)) refl refl (λ k. ap (λ z. request_taken (record { box = z; book = s.book })) k)
-      (λ x h k stands. subst (λ z. ManagerStandsFor (request_taken (record { box = z; book = s.book })) ((side_takes_a {A = A}).after_take (manager_side_of q) x)) (sym k)
+      (λ x h k stands. subst (λ z. ManagerStandsFor (request_taken (record { box = z; book = s.book })) ((takes_a (manager_side {A = A})).after_take (manager_side_of q) x)) (sym k)
       (record {
         a = h.a ∙ sym (cut_moves 1 (asked x.history) q.port.a) ∙ ap (λ z. z ++ drop 1 q.port.a) (sym (asked-all x.history (take 1 q.port.a)));
         b = h.b;
@@ -294,10 +295,10 @@ module _ {A : Type 0} {C M : ℕ} (q : manager.Inside C M A) where
       }))
 
   pub side_taken_c : (i : List (BeatOf HeadC M)) (r : Option (BeatOf HeadC M)) → TakesBeat (inbox_takes rules_c) q.port.c r i →
-      TakesBeat side_takes_c (manager_side_of q) r (inbox_c i)
-  side_taken_c i r = take_lifted (inbox_takes rules_c) side_takes_c inbox_c
+      TakesBeat (takes_c manager_side) (manager_side_of q) r (inbox_c i)
+  side_taken_c i r = take_lifted (inbox_takes rules_c) (takes_c manager_side) inbox_c
       (λ x. record { received = received (taking_of q.port.c q.c.half); taken = x.c }) q.port.c i r (λ x h. h.c) refl refl (λ k. ap inbox_c k)
-      (λ x h k stands. subst (λ z. ManagerStandsFor (inbox_c z) ((side_takes_c {A = A}).after_take (manager_side_of q) x)) (sym k)
+      (λ x h k stands. subst (λ z. ManagerStandsFor (inbox_c z) ((takes_c (manager_side {A = A})).after_take (manager_side_of q) x)) (sym k)
       (record {
         a = h.a;
         b = h.b;
@@ -311,10 +312,10 @@ module _ {A : Type 0} {C M : ℕ} (q : manager.Inside C M A) where
       }))
 
   pub side_taken_e : (i : List (BeatOf HeadE M)) (r : Option (BeatOf HeadE M)) → TakesBeat (inbox_takes rules_e) q.port.e r i →
-      TakesBeat side_takes_e (manager_side_of q) r (inbox_e i)
-  side_taken_e i r = take_lifted (inbox_takes rules_e) side_takes_e inbox_e
+      TakesBeat (takes_e manager_side) (manager_side_of q) r (inbox_e i)
+  side_taken_e i r = take_lifted (inbox_takes rules_e) (takes_e manager_side) inbox_e
       (λ x. record { received = received (taking_of q.port.e q.e.half); taken = x.e }) q.port.e i r (λ x h. h.e) refl refl (λ k. ap inbox_e k)
-      (λ x h k stands. subst (λ z. ManagerStandsFor (inbox_e z) ((side_takes_e {A = A}).after_take (manager_side_of q) x)) (sym k)
+      (λ x h k stands. subst (λ z. ManagerStandsFor (inbox_e z) ((takes_e (manager_side {A = A})).after_take (manager_side_of q) x)) (sym k)
       (record {
         a = h.a;
         b = h.b;
@@ -329,8 +330,8 @@ module _ {A : Type 0} {C M : ℕ} (q : manager.Inside C M A) where
 
   -- and a close
   pub side_closes_b : (o : Outgoing HeadB C) (r : Result (Unit {0}) EndFault) → ClosesChannel (outbox_sends rules_b {w = M}) q.port.b r o →
-      ClosesChannel side_sends_b (manager_side_of q) r (outbox_b o)
-  side_closes_b o r = close_lifted (outbox_sends rules_b) side_sends_b outbox_b (λ x. away_of q.port.b x.b) q.port.b o
+      ClosesChannel (sends_b manager_side) (manager_side_of q) r (outbox_b o)
+  side_closes_b o r = close_lifted (outbox_sends rules_b) (sends_b manager_side) outbox_b (λ x. away_of q.port.b x.b) q.port.b o
       (λ x h. record { sent = h.b.pipe.outbox; is = refl }) r refl (λ x h. refl) refl refl
       (λ x h over. (record {
         a = h.a;
@@ -345,8 +346,8 @@ module _ {A : Type 0} {C M : ℕ} (q : manager.Inside C M A) where
       }))
 
   pub side_closes_d : (o : Outgoing HeadD C) (r : Result (Unit {0}) EndFault) → ClosesChannel (outbox_sends rules_d {w = M}) q.port.d r o →
-      ClosesChannel side_sends_d (manager_side_of q) r (outbox_d o)
-  side_closes_d o r = close_lifted (outbox_sends rules_d) side_sends_d outbox_d (λ x. away_of q.port.d x.d) q.port.d o
+      ClosesChannel (sends_d manager_side) (manager_side_of q) r (outbox_d o)
+  side_closes_d o r = close_lifted (outbox_sends rules_d) (sends_d manager_side) outbox_d (λ x. away_of q.port.d x.d) q.port.d o
       (λ x h. record { sent = h.d.pipe.outbox; is = refl }) r refl (λ x h. refl) refl refl
       (λ x h over. (record {
         a = h.a;

@@ -1,14 +1,14 @@
 -- The logical view of the bridge of both sides in one thread: five crossings, and the history of A and D at each side.
 -- A, C and E cross from the client's side, at width C, to the manager's, at width M; B and D cross back (this project's
 -- choice).
-use Rattle.std.proofs.Common.{◌≡◌, ◌-◌, ◌+◌, ◌++◌, ℕ, true, List, [], length, map, take, drop, min, refl}
+use Rattle.std.proofs.Common.{◌≡◌, ◌-◌, ◌+◌, ℕ, List, [], length, min, refl}
 use Rattle.tl_sides.specs.Words.{rules_a, rules_b, rules_c, rules_d, rules_e, HeadA, HeadB, HeadC, HeadD, HeadE, World, empty, pushed}
-use Rattle.tl_sides.specs.Words.{popped, took, inbox_room, Pipe, Standing, Event, Ask, Answer, asked, answered, client_answer, manager_answer}
-use Rattle.tl_sides.specs.Words.{manager_home, manager_homes}
+use Rattle.tl_sides.specs.Words.{popped, inbox_room, Outgoing, Pipe, outbox_of, Standing, Event, asked, answered, manager_homes}
 use Rattle.tl_ring.specs.Pipe as piping
 use Rattle.tl_settle.specs.Books.{Client, Manager, KnowsClient, KnowsManager}
 use Rattle.tl_settle.specs.Obeying.{ObeysRules}
-use Rattle.tl_sides.specs.Calls.{SendingChannel, TakingChannel, alone, coupled}
+use Rattle.tl_sides.specs.Calls.{Holds}
+use Rattle.tl_sides.specs.Ports.{ClientNow, ManagerNow, PortPast}
 
 -- the current state of a bridge, without its history
 pub record Bridge (C M : ℕ) : Type 0 where
@@ -53,6 +53,10 @@ pub record StandsFor {C M : ℕ} (s : Bridge C M) (x : Past C M) : Type 0 where
   pub client_obeys : ObeysRules x.client
   pub manager_obeys : ObeysRules x.manager
 
+-- a pipe with another sender's part
+abbrev pub with_outbox : {H : Type 0} {v : ℕ} → Outgoing H v → Pipe H v → Pipe H v
+with_outbox o p = record p { converter = o.converter; stage = o.stage; closed = o.closed }
+
 -- the number of beats that a pump moves, and that a fetch moves
 abbrev pub pump_count : {H : Type 0} {v : ℕ} → Pipe H v → ℕ
 pump_count p = min (length p.stage) (p.room - length p.ring)
@@ -79,81 +83,43 @@ module _ {C M : ℕ} where
     e = empty room;
   }
 
-  -- The channels that a bridge sends from one of its sides. An accepted beat of A is a request in the client's history,
-  -- and one of D a response in the manager's. The home of a message of D is the address of its request, outstanding at
-  -- that moment, and 0 for ReleaseAck.
-  abbrev pub bridge_sends_a : SendingChannel (Bridge C M) (Past C M) HeadA C M
-  bridge_sends_a = coupled rules_a StandsFor (λ x. x.a) (λ y x. record x { a = y }) (λ _. refl) (λ s. s.a.closed)
-      (λ s. record s { a = record s.a { closed = true } })
-      (λ s s'. s' ≡ record s { a = s'.a; client = s'.client }) (λ _. refl) (λ _. refl)
-      Ask (λ x. x.client) (λ es x. record x { client = es }) (λ _. refl) client_answer (λ _ _. 0)
-
-  abbrev pub bridge_sends_b : SendingChannel (Bridge C M) (Past C M) HeadB M C
-  bridge_sends_b = alone rules_b StandsFor (λ x. x.b) (λ y x. record x { b = y }) (λ _. refl) (λ s. s.b.closed)
-      (λ s. record s { b = record s.b { closed = true } })
-      (λ s s'. s' ≡ record s { b = s'.b }) (λ _. refl) (λ _. refl)
-
-  abbrev pub bridge_sends_c : SendingChannel (Bridge C M) (Past C M) HeadC C M
-  bridge_sends_c = alone rules_c StandsFor (λ x. x.c) (λ y x. record x { c = y }) (λ _. refl) (λ s. s.c.closed)
-      (λ s. record s { c = record s.c { closed = true } })
-      (λ s s'. s' ≡ record s { c = s'.c }) (λ _. refl) (λ _. refl)
-
-  abbrev pub bridge_sends_d : SendingChannel (Bridge C M) (Past C M) HeadD M C
-  bridge_sends_d = coupled rules_d StandsFor (λ x. x.d) (λ y x. record x { d = y }) (λ _. refl) (λ s. s.d.closed)
-      (λ s. record s { d = record s.d { closed = true } })
-      (λ s s'. s' ≡ record s { d = s'.d; manager = s'.manager }) (λ _. refl) (λ _. refl)
-      Answer (λ x. x.manager) (λ es x. record x { manager = es }) (λ _. refl) manager_answer (λ es b. manager_home es b.head)
-
-  abbrev pub bridge_sends_e : SendingChannel (Bridge C M) (Past C M) HeadE C M
-  bridge_sends_e = alone rules_e StandsFor (λ x. x.e) (λ y x. record x { e = y }) (λ _. refl) (λ s. s.e.closed)
-      (λ s. record s { e = record s.e { closed = true } })
-      (λ s s'. s' ≡ record s { e = s'.e }) (λ _. refl) (λ _. refl)
-
-  -- the channels that it takes at the other side: a beat taken of A is a request in the manager's history, and one of D
-  -- a response in the client's
-  abbrev pub bridge_takes_a : TakingChannel (Bridge C M) (Past C M) HeadA M
-  bridge_takes_a = record {
-    rules = rules_a;
+  -- the port of each side in a bridge
+  abbrev pub bridge_client : Holds (Bridge C M) (Past C M) (ClientNow C M) (PortPast C M C)
+  bridge_client = record {
     Stands = StandsFor;
-    inbox = λ s. s.a.inbox;
-    after_take = λ _ x. record x { manager = x.manager ++ map Ask (take 1 x.a.inbox); a = took x.a };
-    Keeps = λ s s'. s' ≡ record s { a = record s.a { inbox = drop 1 s.a.inbox }; manager = s'.manager };
+    port = λ s. record { a = outbox_of s.a; b = s.b.inbox; c = outbox_of s.c; d = s.d.inbox; e = outbox_of s.e; book = s.client };
+    with_port = λ p s. record s {
+      a = with_outbox p.a s.a;
+      b = record s.b { inbox = p.b };
+      c = with_outbox p.c s.c;
+      d = record s.d { inbox = p.d };
+      e = with_outbox p.e s.e;
+      client = p.book;
+    };
+    past = λ x. record { history = x.client; a = x.a; b = x.b; c = x.c; d = x.d; e = x.e };
+    with_past = λ y x. record x { client = y.history; a = y.a; b = y.b; c = y.c; d = y.d; e = y.e };
+    same_port = λ _. refl;
+    same_past = λ _. refl;
+    new_port = λ _ _. refl;
   }
 
-  abbrev pub bridge_takes_b : TakingChannel (Bridge C M) (Past C M) HeadB C
-  bridge_takes_b = record {
-    rules = rules_b;
+  abbrev pub bridge_manager : Holds (Bridge C M) (Past C M) (ManagerNow C M) (PortPast C M M)
+  bridge_manager = record {
     Stands = StandsFor;
-    inbox = λ s. s.b.inbox;
-    after_take = λ _ x. record x { b = took x.b };
-    Keeps = λ s s'. s' ≡ record s { b = record s.b { inbox = drop 1 s.b.inbox } };
-  }
-
-  abbrev pub bridge_takes_c : TakingChannel (Bridge C M) (Past C M) HeadC M
-  bridge_takes_c = record {
-    rules = rules_c;
-    Stands = StandsFor;
-    inbox = λ s. s.c.inbox;
-    after_take = λ _ x. record x { c = took x.c };
-    Keeps = λ s s'. s' ≡ record s { c = record s.c { inbox = drop 1 s.c.inbox } };
-  }
-
-  abbrev pub bridge_takes_d : TakingChannel (Bridge C M) (Past C M) HeadD C
-  bridge_takes_d = record {
-    rules = rules_d;
-    Stands = StandsFor;
-    inbox = λ s. s.d.inbox;
-    after_take = λ _ x. record x { client = x.client ++ map Answer (take 1 x.d.inbox); d = took x.d };
-    Keeps = λ s s'. s' ≡ record s { d = record s.d { inbox = drop 1 s.d.inbox }; client = s'.client };
-  }
-
-  abbrev pub bridge_takes_e : TakingChannel (Bridge C M) (Past C M) HeadE M
-  bridge_takes_e = record {
-    rules = rules_e;
-    Stands = StandsFor;
-    inbox = λ s. s.e.inbox;
-    after_take = λ _ x. record x { e = took x.e };
-    Keeps = λ s s'. s' ≡ record s { e = record s.e { inbox = drop 1 s.e.inbox } };
+    port = λ s. record { a = s.a.inbox; b = outbox_of s.b; c = s.c.inbox; d = outbox_of s.d; e = s.e.inbox; book = s.manager };
+    with_port = λ p s. record s {
+      a = record s.a { inbox = p.a };
+      b = with_outbox p.b s.b;
+      c = record s.c { inbox = p.c };
+      d = with_outbox p.d s.d;
+      e = record s.e { inbox = p.e };
+      manager = p.book;
+    };
+    past = λ x. record { history = x.manager; a = x.a; b = x.b; c = x.c; d = x.d; e = x.e };
+    with_past = λ y x. record x { manager = y.history; a = y.a; b = y.b; c = y.c; d = y.d; e = y.e };
+    same_port = λ _. refl;
+    same_past = λ _. refl;
+    new_port = λ _ _. refl;
   }
 
   -- a bridge pumps, or fetches, on all channels

@@ -1,6 +1,6 @@
 -- The effect of an offer, a close and a take on the holder of a channel: a port, a bridge in one thread, or a side in a
 -- thread of its own (this project's choice).
-use Rattle.std.proofs.Common.{◌≡◌, ◌↔◌, ◌++◌, ◌∙◌, ℕ, Bool, true, Option, None, Some, List, [], ◌∷◌, Result, map, refl, ap, append-nil}
+use Rattle.std.proofs.Common.{◌≡◌, ◌↔◌, ◌++◌, ◌∙◌, ℕ, Bool, true, Option, None, Some, List, [], ◌∷◌, Result, map, refl, sym, ap, append-nil}
 use Rattle.std.specs.Prelude.{IsOk, IfErr, IfSome, OnOk, OnErr, slice_get}
 use Rattle.tl_sides.specs.Words.{IsLawfulBeat, Rules, BeatOf, SideFault, rest_of, World, offered, shut, EndFault}
 use Rattle.tl_sides.specs.Crossings.{stops_alone}
@@ -76,35 +76,75 @@ pub record TakesBeat {S P H : Type 0} {w : ℕ} (k : TakingChannel S P H w) (s :
   pub taken : (x : P) → k.Stands s x → k.Stands s' (k.after_take s x)
   pub rest : k.Keeps s s'
 
-module _ {S P H : Type 0} {w v : ℕ} (r : Rules H) (Stands : S → P → Type 0) (crossing : P → World H w v) (put : World H w v → P → P)
-    (kept : (x : P) → put (crossing x) x ≡ x) (closed : S → Bool) (as_closed : S → S) (Keeps : S → S → Type 0)
-    (keeps_same : (s : S) → Keeps s s) (keeps_closed : (s : S) → Keeps s (as_closed s)) where
-  -- a channel that does not depend on another channel
+-- where a port N with pasts Q stands in its holder S, which represents pasts P
+pub record Holds (S P N Q : Type 0) : Type 1 where
+  pub Stands : S → P → Type 0
+  pub port : S → N
+  pub with_port : N → S → S
+  pub past : P → Q
+  pub with_past : Q → P → P
+  -- a holder is unchanged by its own port, and its past by the port's own; a port that is put into a holder is there
+  pub same_port : (s : S) → with_port (port s) s ≡ s
+  pub same_past : (x : P) → with_past (past x) x ≡ x
+  pub new_port : (p : N) (s : S) → port (with_port p s) ≡ p
+
+-- a port is its own holder
+abbrev pub itself : {N Q : Type 0} → (N → Q → Type 0) → Holds N Q N Q
+itself Stands = record {
+  Stands = Stands;
+  port = λ p. p;
+  with_port = λ p _. p;
+  past = λ x. x;
+  with_past = λ x _. x;
+  same_port = λ _. refl;
+  same_past = λ _. refl;
+  new_port = λ _ _. refl;
+}
+
+-- a channel that a port sends, in its holder; `changed p p'` is p with those parts of p' that an offer and a close may change
+module _ {S P N Q H : Type 0} {w v : ℕ} (h : Holds S P N Q) (r : Rules H) (crossing : Q → World H w v) (put : World H w v → Q → Q)
+    (kept : (x : Q) → put (crossing x) x ≡ x) (closed : N → Bool) (as_closed : N → N) (changed : N → N → N)
+    (changed_same : (p : N) → changed p p ≡ p) (changed_closed : (p : N) → changed p (as_closed p) ≡ as_closed p) where
+  -- it does not depend on another channel
   abbrev pub alone : SendingChannel S P H w v
   alone = record {
     rules = r;
-    Stands = Stands;
-    crossing = crossing;
-    put = put;
+    Stands = h.Stands;
+    crossing = λ x. crossing (h.past x);
+    put = λ y x. h.with_past (put y (h.past x)) x;
     note = λ _ x. x;
-    stops = λ x. stops_alone r (crossing x).accepted;
+    stops = λ x. stops_alone r (crossing (h.past x)).accepted;
     home = λ _ _. 0;
-    closed = closed;
-    as_closed = as_closed;
-    Keeps = Keeps;
+    closed = λ s. closed (h.port s);
+    as_closed = λ s. h.with_port (as_closed (h.port s)) s;
+    Keeps = λ s s'. s' ≡ h.with_port (changed (h.port s) (h.port s')) s;
     noted = λ _. refl;
-    kept = kept;
-    keeps_same = keeps_same;
-    keeps_closed = keeps_closed;
+    kept = λ x. ap (λ y. h.with_past y x) (kept (h.past x)) ∙ h.same_past x;
+    keeps_same = λ s. sym (ap (λ p. h.with_port p s) (changed_same (h.port s)) ∙ h.same_port s);
+    keeps_closed = λ s. sym (ap (λ p. h.with_port (changed (h.port s) p) s) (h.new_port (as_closed (h.port s)) s) ∙
+        ap (λ p. h.with_port p s) (changed_closed (h.port s)));
   }
 
-  -- a channel whose faults and homes depend on a history, in which each accepted beat is an event
-  abbrev pub coupled : {E : Type 0} (event : BeatOf H w → E) (history : P → List E) (tell : List E → P → P) →
-      ((x : P) → tell (history x) x ≡ x) →
+  -- its faults and homes depend on a history, in which each accepted beat is an event
+  abbrev pub coupled : {E : Type 0} (event : BeatOf H w → E) (history : Q → List E) (tell : List E → Q → Q) →
+      ((x : Q) → tell (history x) x ≡ x) →
       (stops : List E → BeatOf H w → Option SideFault) (home : List E → BeatOf H w → ℕ) → SendingChannel S P H w v
   coupled event history tell told stops home = record alone {
-    note = λ bs x. tell (history x ++ map event bs) x;
-    stops = λ x. stops (history x);
-    home = λ x. home (history x);
-    noted = λ x. ap (λ q. tell q x) (append-nil (history x)) ∙ told x;
+    note = λ bs x. h.with_past (tell (history (h.past x) ++ map event bs) (h.past x)) x;
+    stops = λ x. stops (history (h.past x));
+    home = λ x. home (history (h.past x));
+    noted = λ x. ap (λ es. h.with_past (tell es (h.past x)) x) (append-nil (history (h.past x))) ∙
+        ap (λ y. h.with_past y x) (told (h.past x)) ∙ h.same_past x;
   }
+
+-- a channel that a port takes, in its holder; `changed p p'` is p with its inbox's first beat taken, and those parts of
+-- p' that a take may change
+abbrev pub taking : {S P N Q H : Type 0} {w : ℕ} → Holds S P N Q → Rules H → (inbox : N → List (BeatOf H w)) → (after_take : N → Q → Q) →
+    (changed : N → N → N) → TakingChannel S P H w
+taking h r inbox after_take changed = record {
+  rules = r;
+  Stands = h.Stands;
+  inbox = λ s. inbox (h.port s);
+  after_take = λ s x. h.with_past (after_take (h.port s) (h.past x)) x;
+  Keeps = λ s s'. s' ≡ h.with_port (changed (h.port s) (h.port s')) s;
+}

@@ -1,15 +1,14 @@
 -- The logical view of each side of the bridge. A, C and E cross from the client's side, at width C, to the manager's,
 -- at width M; B and D cross back. A side represents only its own past: only a meeting shows how far the beats that it
 -- sent have come, and which ones will arrive (this project's choice).
-use Rattle.std.proofs.Common.{◌≡◌, ◌++◌, ℕ, List, [], map, take, refl}
+use Rattle.std.proofs.Common.{◌≡◌, ◌++◌, ℕ, List, [], map, refl}
 use Rattle.tl_sides.specs.Words.{rules_a, rules_b, rules_c, rules_d, rules_e, ChA, ChB, ChC, ChD, ChE, HeadA, HeadB, HeadC, HeadD, HeadE, BeatOf}
-use Rattle.tl_sides.specs.Words.{World, empty, Sending, Taking, SendHalf, TakeHalf, sending_of, taking_of, Sends, Takes, Meets, ArePair}
-use Rattle.tl_sides.specs.Words.{SameSend, SameTake, known_free, closing, took_first, Event, Ask, Answer, asked, answered, client_answer}
-use Rattle.tl_sides.specs.Words.{manager_answer, manager_home, manager_homes}
+use Rattle.tl_sides.specs.Words.{Outgoing, World, empty, Sending, Taking, SendHalf, TakeHalf, as_pipe, outbox_of, sending_of, taking_of, Sends, Takes}
+use Rattle.tl_sides.specs.Words.{Meets, ArePair, SameSend, SameTake, known_free, Event, Ask, Answer, asked, answered, manager_homes}
 use Rattle.tl_settle.specs.Books.{Client, Manager, KnowsClient, KnowsManager}
 use Rattle.tl_settle.specs.Obeying.{RequestsObey, ResponsesObey}
-use Rattle.tl_sides.specs.Calls.{SendingChannel, TakingChannel, alone, coupled}
-use Rattle.tl_sides.specs.Ports.{ClientNow, ManagerNow}
+use Rattle.tl_sides.specs.Calls.{Holds}
+use Rattle.tl_sides.specs.Ports.{ClientNow, ManagerNow, PortPast}
 use Rattle.tl_sides.specs.Ends.{after_pump, IsIdle}
 
 -- the current state of a side, without its history: the ends of its channels, and its book
@@ -28,6 +27,14 @@ pub record ManagerState (A : Type 0) (C M : ℕ) : Type 0 where
   pub d : Sending ChD A HeadD C
   pub e : Taking ChE A HeadE M
   pub book : Manager
+
+-- the outbox of a sending end
+abbrev pub box_of : {K A H : Type 0} {v : ℕ} → Sending K A H v → Outgoing H v
+box_of s = outbox_of (as_pipe s)
+
+-- the past of a channel of which only the taken beats are known
+abbrev pub only_taken : {H : Type 0} {w v : ℕ} → List (BeatOf H v) → World H w v
+only_taken bs = record (empty 0) { taken = bs }
 
 -- a side consists of its port and its halves of the five rings
 abbrev pub client_state_of : {A : Type 0} {C M : ℕ} → ClientNow C M → SendHalf ChA A HeadA M → TakeHalf ChB A HeadB C → SendHalf ChC A HeadC M →
@@ -121,82 +128,31 @@ module _ {C M : ℕ} where
   manager_takes_e bs x = record x { e = x.e ++ bs }
 
 module _ {A : Type 0} {C M : ℕ} where
-  -- The channels that each side sends. Its half of a ring is unchanged. The home of a message of D is the address of its
-  -- request, outstanding at that moment, and 0 for ReleaseAck.
-  abbrev pub side_sends_a : SendingChannel (ClientState A C M) (ClientPast C M) HeadA C M
-  side_sends_a = coupled rules_a ClientStandsFor (λ x. x.a) (λ y x. record x { a = y }) (λ _. refl) (λ s. s.a.closed)
-      (λ s. record s { a = closing s.a })
-      (λ s s'. (s'.a.producer ≡ s.a.producer) × (s' ≡ record s { a = s'.a; book = s'.book })) (λ _. (refl, refl)) (λ _. (refl, refl))
-      Ask (λ x. x.history) (λ es x. record x { history = es }) (λ _. refl) client_answer (λ _ _. 0)
-
-  abbrev pub side_sends_b : SendingChannel (ManagerState A C M) (ManagerPast C M) HeadB M C
-  side_sends_b = alone rules_b ManagerStandsFor (λ x. x.b) (λ y x. record x { b = y }) (λ _. refl) (λ s. s.b.closed)
-      (λ s. record s { b = closing s.b })
-      (λ s s'. (s'.b.producer ≡ s.b.producer) × (s' ≡ record s { b = s'.b })) (λ _. (refl, refl)) (λ _. (refl, refl))
-
-  abbrev pub side_sends_c : SendingChannel (ClientState A C M) (ClientPast C M) HeadC C M
-  side_sends_c = alone rules_c ClientStandsFor (λ x. x.c) (λ y x. record x { c = y }) (λ _. refl) (λ s. s.c.closed)
-      (λ s. record s { c = closing s.c })
-      (λ s s'. (s'.c.producer ≡ s.c.producer) × (s' ≡ record s { c = s'.c })) (λ _. (refl, refl)) (λ _. (refl, refl))
-
-  abbrev pub side_sends_d : SendingChannel (ManagerState A C M) (ManagerPast C M) HeadD M C
-  side_sends_d = coupled rules_d ManagerStandsFor (λ x. x.d) (λ y x. record x { d = y }) (λ _. refl) (λ s. s.d.closed)
-      (λ s. record s { d = closing s.d })
-      (λ s s'. (s'.d.producer ≡ s.d.producer) × (s' ≡ record s { d = s'.d; book = s'.book })) (λ _. (refl, refl)) (λ _. (refl, refl))
-      Answer (λ x. x.history) (λ es x. record x { history = es }) (λ _. refl) manager_answer (λ es b. manager_home es b.head)
-
-  abbrev pub side_sends_e : SendingChannel (ClientState A C M) (ClientPast C M) HeadE C M
-  side_sends_e = alone rules_e ClientStandsFor (λ x. x.e) (λ y x. record x { e = y }) (λ _. refl) (λ s. s.e.closed)
-      (λ s. record s { e = closing s.e })
-      (λ s s'. (s'.e.producer ≡ s.e.producer) × (s' ≡ record s { e = s'.e })) (λ _. (refl, refl)) (λ _. (refl, refl))
-
-  -- the channels that it takes
-  abbrev pub side_takes_a : TakingChannel (ManagerState A C M) (ManagerPast C M) HeadA M
-  side_takes_a = record {
-    rules = rules_a;
-    Stands = ManagerStandsFor;
-    inbox = λ s. s.a.inbox;
-    after_take = λ s. manager_takes_a (take 1 s.a.inbox);
-    Keeps = λ s s'. s' ≡ record s { a = took_first s.a; book = s'.book };
-  }
-
-  abbrev pub side_takes_b : TakingChannel (ClientState A C M) (ClientPast C M) HeadB C
-  side_takes_b = record {
-    rules = rules_b;
+  -- The port in a side. Its halves of the rings are unchanged by an offer, a close and a take.
+  abbrev pub client_side : Holds (ClientState A C M) (ClientPast C M) (ClientNow C M) (PortPast C M C)
+  client_side = record {
     Stands = ClientStandsFor;
-    inbox = λ s. s.b.inbox;
-    after_take = λ s. client_takes_b (take 1 s.b.inbox);
-    Keeps = λ s s'. s' ≡ record s { b = took_first s.b };
+    port = λ s. record { a = box_of s.a; b = s.b.inbox; c = box_of s.c; d = s.d.inbox; e = box_of s.e; book = s.book };
+    with_port = λ p s. client_state_of p s.a.producer s.b.consumer s.c.producer s.d.consumer s.e.producer;
+    past = λ x. record { history = x.history; a = x.a; b = only_taken x.b; c = x.c; d = only_taken (answered x.history); e = x.e };
+    with_past = λ y _. record { history = y.history; a = y.a; b = y.b.taken; c = y.c; e = y.e };
+    same_port = λ _. refl;
+    same_past = λ _. refl;
+    new_port = λ _ _. refl;
   }
 
-  abbrev pub side_takes_c : TakingChannel (ManagerState A C M) (ManagerPast C M) HeadC M
-  side_takes_c = record {
-    rules = rules_c;
+  abbrev pub manager_side : Holds (ManagerState A C M) (ManagerPast C M) (ManagerNow C M) (PortPast C M M)
+  manager_side = record {
     Stands = ManagerStandsFor;
-    inbox = λ s. s.c.inbox;
-    after_take = λ s. manager_takes_c (take 1 s.c.inbox);
-    Keeps = λ s s'. s' ≡ record s { c = took_first s.c };
+    port = λ s. record { a = s.a.inbox; b = box_of s.b; c = s.c.inbox; d = box_of s.d; e = s.e.inbox; book = s.book };
+    with_port = λ p s. manager_state_of p s.a.consumer s.b.producer s.c.consumer s.d.producer s.e.consumer;
+    past = λ x. record { history = x.history; a = only_taken (asked x.history); b = x.b; c = only_taken x.c; d = x.d; e = only_taken x.e };
+    with_past = λ y _. record { history = y.history; b = y.b; c = y.c.taken; d = y.d; e = y.e.taken };
+    same_port = λ _. refl;
+    same_past = λ _. refl;
+    new_port = λ _ _. refl;
   }
 
-  abbrev pub side_takes_d : TakingChannel (ClientState A C M) (ClientPast C M) HeadD C
-  side_takes_d = record {
-    rules = rules_d;
-    Stands = ClientStandsFor;
-    inbox = λ s. s.d.inbox;
-    after_take = λ s. client_takes_d (take 1 s.d.inbox);
-    Keeps = λ s s'. s' ≡ record s { d = took_first s.d; book = s'.book };
-  }
-
-  abbrev pub side_takes_e : TakingChannel (ManagerState A C M) (ManagerPast C M) HeadE M
-  side_takes_e = record {
-    rules = rules_e;
-    Stands = ManagerStandsFor;
-    inbox = λ s. s.e.inbox;
-    after_take = λ s. manager_takes_e (take 1 s.e.inbox);
-    Keeps = λ s s'. s' ≡ record s { e = took_first s.e };
-  }
-
-module _ {A : Type 0} {C M : ℕ} where
   -- a side pumps: each crossing advances by the number of beats that left its stage
   abbrev pub client_pumps : (before after : ClientState A C M) → ClientPast C M → ClientPast C M
   client_pumps s s' x = record x {

@@ -8,7 +8,8 @@ ghost use Rattle.tl_sides.specs.Calls.{OffersBeat, ClosesChannel, TakesBeat};
 ghost use Rattle.tl_sides.specs.Ends.{Pumps, Fetches, IsIdle, pump_count, fetch_count};
 ghost use Rattle.tl_sides.specs.Receipts.{ClientIsSentOut, ClientLeaves, LeftShowsClient, AreManagersReceipts, ShowsManager, ManagerIsShown, CountClient, client_totals};
 ghost use Rattle.tl_sides.specs.Sides.{ClientPast, ClientStandsFor, ManagerPast, ManagerState, AreSides, client_pumps, client_takes_b, client_takes_d};
-ghost use Rattle.tl_sides.specs.Sides.{side_sends_a, side_sends_c, side_sends_e, side_takes_b, side_takes_d};
+ghost use Rattle.tl_sides.specs.Sides.{client_side};
+ghost use Rattle.tl_sides.specs.Ports.{sends_a, sends_c, sends_e, takes_b, takes_d};
 
 use crate::client_port::ClientPort;
 use crate::offering::{offer_alone, offer_request};
@@ -85,7 +86,7 @@ impl<const C: usize, const M: usize, A: Allocator> ClientSide<C, M, A> {
         requires near { IsWidth C }
         requires far { IsWidth M }
         requires ready { IsReady (as_pipe self.old.a) }
-        ensures { OffersBeat side_sends_a beat.entry self.old result self.new }
+        ensures { OffersBeat (sends_a client_side) beat.entry self.old result self.new }
     {
         offer_request(&mut self.port.book, &mut self.port.a, &beat)
     }
@@ -99,7 +100,7 @@ impl<const C: usize, const M: usize, A: Allocator> ClientSide<C, M, A> {
         requires near { IsWidth C }
         requires far { IsWidth M }
         requires ready { IsReady (as_pipe self.old.c) }
-        ensures { OffersBeat side_sends_c beat.entry self.old result self.new }
+        ensures { OffersBeat (sends_c client_side) beat.entry self.old result self.new }
     {
         offer_alone(&mut self.port.c, &beat)
     }
@@ -110,7 +111,7 @@ impl<const C: usize, const M: usize, A: Allocator> ClientSide<C, M, A> {
         requires near { IsWidth C }
         requires far { IsWidth M }
         requires ready { IsReady (as_pipe self.old.e) }
-        ensures { OffersBeat side_sends_e beat.entry self.old result self.new }
+        ensures { OffersBeat (sends_e client_side) beat.entry self.old result self.new }
     {
         offer_alone(&mut self.port.e, &beat)
     }
@@ -118,7 +119,7 @@ impl<const C: usize, const M: usize, A: Allocator> ClientSide<C, M, A> {
     /// Removes and returns the first beat of B's inbox, which is lawful at `C` bytes. Returns
     /// `None` if and only if the inbox is empty.
     pub fn take_b(&mut self) -> Option<BeatOf<HeadB, C>>
-        ensures { TakesBeat side_takes_b self.old result self.new }
+        ensures { TakesBeat (takes_b client_side) self.old result self.new }
     {
         self.port.b.take()
     }
@@ -128,7 +129,7 @@ impl<const C: usize, const M: usize, A: Allocator> ClientSide<C, M, A> {
     /// message except ReleaseAck, frees its source. Requires: `C` is a width.
     pub fn take_d(&mut self) -> Option<BeatOf<HeadD, C>>
         requires far { IsWidth C }
-        ensures { TakesBeat side_takes_d self.old result self.new }
+        ensures { TakesBeat (takes_d client_side) self.old result self.new }
     {
         take_response(&mut self.port.book, &mut self.port.d)
     }
@@ -167,7 +168,7 @@ impl<const C: usize, const M: usize, A: Allocator> ClientSide<C, M, A> {
     ///
     /// Errors: `MidBurst` if and only if a burst is unfinished; nothing changes then.
     pub fn close_a(&mut self) -> Result<(), EndFault>
-        ensures { ClosesChannel side_sends_a self.old result self.new }
+        ensures { ClosesChannel (sends_a client_side) self.old result self.new }
     {
         self.port.a.close()
     }
@@ -177,7 +178,7 @@ impl<const C: usize, const M: usize, A: Allocator> ClientSide<C, M, A> {
     ///
     /// Errors: `MidBurst` if and only if a burst is unfinished; nothing changes then.
     pub fn close_c(&mut self) -> Result<(), EndFault>
-        ensures { ClosesChannel side_sends_c self.old result self.new }
+        ensures { ClosesChannel (sends_c client_side) self.old result self.new }
     {
         self.port.c.close()
     }
@@ -187,7 +188,7 @@ impl<const C: usize, const M: usize, A: Allocator> ClientSide<C, M, A> {
     ///
     /// Errors: `MidBurst` if and only if a burst is unfinished; nothing changes then.
     pub fn close_e(&mut self) -> Result<(), EndFault>
-        ensures { ClosesChannel side_sends_e self.old result self.new }
+        ensures { ClosesChannel (sends_e client_side) self.old result self.new }
     {
         self.port.e.close()
     }

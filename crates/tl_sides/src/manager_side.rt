@@ -8,7 +8,8 @@ ghost use Rattle.tl_sides.specs.Calls.{OffersBeat, ClosesChannel, TakesBeat};
 ghost use Rattle.tl_sides.specs.Ends.{Pumps, Fetches, IsIdle, pump_count, fetch_count};
 ghost use Rattle.tl_sides.specs.Receipts.{ManagerIsSentOut, ManagerLeaves, LeftShowsManager, AreClientsReceipts, ShowsClient, ClientIsShown, CountManager, manager_totals};
 ghost use Rattle.tl_sides.specs.Sides.{ManagerPast, ManagerStandsFor, ClientPast, ClientState, AreSides, manager_pumps, manager_takes_a, manager_takes_c, manager_takes_e};
-ghost use Rattle.tl_sides.specs.Sides.{side_sends_b, side_sends_d, side_takes_a, side_takes_c, side_takes_e};
+ghost use Rattle.tl_sides.specs.Sides.{manager_side};
+ghost use Rattle.tl_sides.specs.Ports.{sends_b, sends_d, takes_a, takes_c, takes_e};
 
 use crate::manager_port::ManagerPort;
 use crate::offering::{offer_alone, offer_response};
@@ -77,7 +78,7 @@ impl<const C: usize, const M: usize, A: Allocator> ManagerSide<C, M, A> {
         requires near { IsWidth M }
         requires far { IsWidth C }
         requires ready { IsReady (as_pipe self.old.b) }
-        ensures { OffersBeat side_sends_b beat.entry self.old result self.new }
+        ensures { OffersBeat (sends_b manager_side) beat.entry self.old result self.new }
     {
         offer_alone(&mut self.port.b, &beat)
     }
@@ -94,7 +95,7 @@ impl<const C: usize, const M: usize, A: Allocator> ManagerSide<C, M, A> {
         requires near { IsWidth M }
         requires far { IsWidth C }
         requires ready { IsReady (as_pipe self.old.d) }
-        ensures { OffersBeat side_sends_d beat.entry self.old result self.new }
+        ensures { OffersBeat (sends_d manager_side) beat.entry self.old result self.new }
     {
         offer_response(&mut self.port.book, &mut self.port.d, &beat)
     }
@@ -104,7 +105,7 @@ impl<const C: usize, const M: usize, A: Allocator> ManagerSide<C, M, A> {
     /// may respond from now on. Requires: `M` is a width.
     pub fn take_a(&mut self) -> Option<BeatOf<HeadA, M>>
         requires far { IsWidth M }
-        ensures { TakesBeat side_takes_a self.old result self.new }
+        ensures { TakesBeat (takes_a manager_side) self.old result self.new }
     {
         take_request(&mut self.port.book, &mut self.port.a)
     }
@@ -112,7 +113,7 @@ impl<const C: usize, const M: usize, A: Allocator> ManagerSide<C, M, A> {
     /// Removes and returns the first beat of C's inbox, which is lawful at `M` bytes. Returns
     /// `None` if and only if the inbox is empty.
     pub fn take_c(&mut self) -> Option<BeatOf<HeadC, M>>
-        ensures { TakesBeat side_takes_c self.old result self.new }
+        ensures { TakesBeat (takes_c manager_side) self.old result self.new }
     {
         self.port.c.take()
     }
@@ -120,7 +121,7 @@ impl<const C: usize, const M: usize, A: Allocator> ManagerSide<C, M, A> {
     /// Removes and returns the first beat of E's inbox, which is lawful at `M` bytes. Returns
     /// `None` if and only if the inbox is empty.
     pub fn take_e(&mut self) -> Option<BeatOf<HeadE, M>>
-        ensures { TakesBeat side_takes_e self.old result self.new }
+        ensures { TakesBeat (takes_e manager_side) self.old result self.new }
     {
         self.port.e.take()
     }
@@ -166,7 +167,7 @@ impl<const C: usize, const M: usize, A: Allocator> ManagerSide<C, M, A> {
     ///
     /// Errors: `MidBurst` if and only if a burst is unfinished; nothing changes then.
     pub fn close_b(&mut self) -> Result<(), EndFault>
-        ensures { ClosesChannel side_sends_b self.old result self.new }
+        ensures { ClosesChannel (sends_b manager_side) self.old result self.new }
     {
         self.port.b.close()
     }
@@ -176,7 +177,7 @@ impl<const C: usize, const M: usize, A: Allocator> ManagerSide<C, M, A> {
     ///
     /// Errors: `MidBurst` if and only if a burst is unfinished; nothing changes then.
     pub fn close_d(&mut self) -> Result<(), EndFault>
-        ensures { ClosesChannel side_sends_d self.old result self.new }
+        ensures { ClosesChannel (sends_d manager_side) self.old result self.new }
     {
         self.port.d.close()
     }

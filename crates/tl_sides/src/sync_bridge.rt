@@ -7,8 +7,9 @@ ghost use Rattle.tl_ring.specs.Pipe.{IsReady};
 ghost use Rattle.circular_buffer.specs.Buffer.{buffer};
 ghost use Rattle.tl_sides.specs.Bridges.{Past, StandsFor, IsStanding, nothing_yet, all_pumped, all_fetched, after_pump, after_fetch};
 ghost use Rattle.tl_settle.specs.Books.{KnowsClient, KnowsManager};
-ghost use Rattle.tl_sides.specs.Bridges.{bridge_sends_a, bridge_sends_b, bridge_sends_c, bridge_sends_d, bridge_sends_e};
-ghost use Rattle.tl_sides.specs.Bridges.{bridge_takes_a, bridge_takes_b, bridge_takes_c, bridge_takes_d, bridge_takes_e};
+ghost use Rattle.tl_sides.specs.Bridges.{bridge_client, bridge_manager};
+ghost use Rattle.tl_sides.specs.Ports.{sends_a, sends_b, sends_c, sends_d, sends_e};
+ghost use Rattle.tl_sides.specs.Ports.{takes_a, takes_b, takes_c, takes_d, takes_e};
 ghost use Rattle.tl_sides.specs.Calls.{OffersBeat, ClosesChannel, TakesBeat};
 ghost use Rattle.tl_sides.specs.Separate.{each_pumped, each_fetched};
 
@@ -165,7 +166,7 @@ impl<const C: usize, const M: usize, A: Allocator> SyncBridge<C, M, A> {
         requires client { IsWidth C }
         requires manager { IsWidth M }
         requires ready { IsReady self.old.a }
-        ensures { OffersBeat bridge_sends_a beat.entry self.old result self.new }
+        ensures { OffersBeat (sends_a bridge_client) beat.entry self.old result self.new }
     {
         offer_request(&mut self.client.book, &mut self.client.a, &beat)
     }
@@ -179,7 +180,7 @@ impl<const C: usize, const M: usize, A: Allocator> SyncBridge<C, M, A> {
         requires client { IsWidth C }
         requires manager { IsWidth M }
         requires ready { IsReady self.old.b }
-        ensures { OffersBeat bridge_sends_b beat.entry self.old result self.new }
+        ensures { OffersBeat (sends_b bridge_manager) beat.entry self.old result self.new }
     {
         offer_alone(&mut self.manager.b, &beat)
     }
@@ -193,7 +194,7 @@ impl<const C: usize, const M: usize, A: Allocator> SyncBridge<C, M, A> {
         requires client { IsWidth C }
         requires manager { IsWidth M }
         requires ready { IsReady self.old.c }
-        ensures { OffersBeat bridge_sends_c beat.entry self.old result self.new }
+        ensures { OffersBeat (sends_c bridge_client) beat.entry self.old result self.new }
     {
         offer_alone(&mut self.client.c, &beat)
     }
@@ -209,7 +210,7 @@ impl<const C: usize, const M: usize, A: Allocator> SyncBridge<C, M, A> {
         requires client { IsWidth C }
         requires manager { IsWidth M }
         requires ready { IsReady self.old.d }
-        ensures { OffersBeat bridge_sends_d beat.entry self.old result self.new }
+        ensures { OffersBeat (sends_d bridge_manager) beat.entry self.old result self.new }
     {
         offer_response(&mut self.manager.book, &mut self.manager.d, &beat)
     }
@@ -220,7 +221,7 @@ impl<const C: usize, const M: usize, A: Allocator> SyncBridge<C, M, A> {
         requires client { IsWidth C }
         requires manager { IsWidth M }
         requires ready { IsReady self.old.e }
-        ensures { OffersBeat bridge_sends_e beat.entry self.old result self.new }
+        ensures { OffersBeat (sends_e bridge_client) beat.entry self.old result self.new }
     {
         offer_alone(&mut self.client.e, &beat)
     }
@@ -230,7 +231,7 @@ impl<const C: usize, const M: usize, A: Allocator> SyncBridge<C, M, A> {
     /// respond from now on. Requires: `M` is a width.
     pub fn take_a(&mut self) -> Option<Beat<ChA, M>>
         requires far { IsWidth M }
-        ensures { TakesBeat bridge_takes_a self.old result self.new }
+        ensures { TakesBeat (takes_a bridge_manager) self.old result self.new }
     {
         take_request(&mut self.manager.book, &mut self.manager.a)
     }
@@ -238,7 +239,7 @@ impl<const C: usize, const M: usize, A: Allocator> SyncBridge<C, M, A> {
     /// Removes and returns the first beat of B's inbox, for the client's side. Returns `None` if
     /// and only if the inbox is empty.
     pub fn take_b(&mut self) -> Option<Beat<ChB, C>>
-        ensures { TakesBeat bridge_takes_b self.old result self.new }
+        ensures { TakesBeat (takes_b bridge_client) self.old result self.new }
     {
         self.client.b.take()
     }
@@ -246,7 +247,7 @@ impl<const C: usize, const M: usize, A: Allocator> SyncBridge<C, M, A> {
     /// Removes and returns the first beat of C's inbox, for the manager's side. Returns `None` if
     /// and only if the inbox is empty.
     pub fn take_c(&mut self) -> Option<Beat<ChC, M>>
-        ensures { TakesBeat bridge_takes_c self.old result self.new }
+        ensures { TakesBeat (takes_c bridge_manager) self.old result self.new }
     {
         self.manager.c.take()
     }
@@ -256,7 +257,7 @@ impl<const C: usize, const M: usize, A: Allocator> SyncBridge<C, M, A> {
     /// ReleaseAck, frees its source. Requires: `C` is a width.
     pub fn take_d(&mut self) -> Option<Beat<ChD, C>>
         requires far { IsWidth C }
-        ensures { TakesBeat bridge_takes_d self.old result self.new }
+        ensures { TakesBeat (takes_d bridge_client) self.old result self.new }
     {
         take_response(&mut self.client.book, &mut self.client.d)
     }
@@ -264,7 +265,7 @@ impl<const C: usize, const M: usize, A: Allocator> SyncBridge<C, M, A> {
     /// Removes and returns the first beat of E's inbox, for the manager's side. Returns `None` if
     /// and only if the inbox is empty.
     pub fn take_e(&mut self) -> Option<Beat<ChE, M>>
-        ensures { TakesBeat bridge_takes_e self.old result self.new }
+        ensures { TakesBeat (takes_e bridge_manager) self.old result self.new }
     {
         self.manager.e.take()
     }
@@ -274,7 +275,7 @@ impl<const C: usize, const M: usize, A: Allocator> SyncBridge<C, M, A> {
     ///
     /// Errors: `MidBurst` if and only if a burst is unfinished; nothing changes then.
     pub fn close_a(&mut self) -> Result<(), EndFault>
-        ensures { ClosesChannel bridge_sends_a self.old result self.new }
+        ensures { ClosesChannel (sends_a bridge_client) self.old result self.new }
     {
         self.client.a.close()
     }
@@ -284,7 +285,7 @@ impl<const C: usize, const M: usize, A: Allocator> SyncBridge<C, M, A> {
     ///
     /// Errors: `MidBurst` if and only if a burst is unfinished; nothing changes then.
     pub fn close_b(&mut self) -> Result<(), EndFault>
-        ensures { ClosesChannel bridge_sends_b self.old result self.new }
+        ensures { ClosesChannel (sends_b bridge_manager) self.old result self.new }
     {
         self.manager.b.close()
     }
@@ -294,7 +295,7 @@ impl<const C: usize, const M: usize, A: Allocator> SyncBridge<C, M, A> {
     ///
     /// Errors: `MidBurst` if and only if a burst is unfinished; nothing changes then.
     pub fn close_c(&mut self) -> Result<(), EndFault>
-        ensures { ClosesChannel bridge_sends_c self.old result self.new }
+        ensures { ClosesChannel (sends_c bridge_client) self.old result self.new }
     {
         self.client.c.close()
     }
@@ -304,7 +305,7 @@ impl<const C: usize, const M: usize, A: Allocator> SyncBridge<C, M, A> {
     ///
     /// Errors: `MidBurst` if and only if a burst is unfinished; nothing changes then.
     pub fn close_d(&mut self) -> Result<(), EndFault>
-        ensures { ClosesChannel bridge_sends_d self.old result self.new }
+        ensures { ClosesChannel (sends_d bridge_manager) self.old result self.new }
     {
         self.manager.d.close()
     }
@@ -314,7 +315,7 @@ impl<const C: usize, const M: usize, A: Allocator> SyncBridge<C, M, A> {
     ///
     /// Errors: `MidBurst` if and only if a burst is unfinished; nothing changes then.
     pub fn close_e(&mut self) -> Result<(), EndFault>
-        ensures { ClosesChannel bridge_sends_e self.old result self.new }
+        ensures { ClosesChannel (sends_e bridge_client) self.old result self.new }
     {
         self.client.e.close()
     }

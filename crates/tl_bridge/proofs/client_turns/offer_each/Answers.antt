@@ -1,5 +1,5 @@
 use Rattle.std.proofs.Common.{refl}
-use Rattle.tl_bridge.proofs.Words.{side_sends_a, side_sends_c, side_sends_e, of-list, lives-long}
+use Rattle.tl_bridge.proofs.Words.{of-list, lives-long, sends_a, sends_c, sends_e, client_side}
 use Rattle.tl_bridge.proofs.SideEnds.{client-ends-then, ends-a, ends-c, ends-e}
 use Rattle.tl_bridge.proofs.client_turns.offer_each.Goals as goal
 
@@ -17,9 +17,9 @@ returns-clause-others g c = (refl, refl)
 
 pub returns-clause-offers : goal.returns-clause-offers
 returns-clause-offers g c = λ x h.
-    let a = (of-list side_sends_a c.deref.ensures.value c.offer_next-a.ensures).does x h in
-    let c' = (of-list side_sends_c c.deref-2.ensures.value c.offer_next-c.ensures).does _ a.2 in
-    let e = (of-list side_sends_e c.deref-3.ensures.value c.offer_next-e.ensures).does _ c'.2 in
+    let a = (of-list (sends_a client_side) c.deref.ensures.value c.offer_next-a.ensures).does x h in
+    let c' = (of-list (sends_c client_side) c.deref-2.ensures.value c.offer_next-c.ensures).does _ a.2 in
+    let e = (of-list (sends_e client_side) c.deref-3.ensures.value c.offer_next-e.ensures).does _ c'.2 in
     record {
       past = _;
       stands = e.2;

@@ -1,5 +1,5 @@
 use Rattle.std.proofs.Common.{refl}
-use Rattle.tl_bridge.proofs.Words.{side_sends_b, side_sends_d, of-list, lives-long}
+use Rattle.tl_bridge.proofs.Words.{of-list, lives-long, sends_b, sends_d, manager_side}
 use Rattle.tl_bridge.proofs.SideEnds.{manager-ends-then, ends-b, ends-d}
 use Rattle.tl_bridge.proofs.manager_turns.offer_each.Goals as goal
 
@@ -14,8 +14,8 @@ returns-clause-others g c = (refl, refl, refl)
 
 pub returns-clause-offers : goal.returns-clause-offers
 returns-clause-offers g c = λ x h.
-    let b = (of-list side_sends_b c.deref.ensures.value c.offer_next-b.ensures).does x h in
-    let d = (of-list side_sends_d c.deref-2.ensures.value c.offer_next-d.ensures).does _ b.2 in
+    let b = (of-list (sends_b manager_side) c.deref.ensures.value c.offer_next-b.ensures).does x h in
+    let d = (of-list (sends_d manager_side) c.deref-2.ensures.value c.offer_next-d.ensures).does _ b.2 in
     record {
       past = _;
       stands = d.2;

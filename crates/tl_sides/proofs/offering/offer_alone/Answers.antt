@@ -13,7 +13,7 @@ returns-in-Err g c =
       accepted = λ x h. tt;
       fault = λ x h. ap (λ o. option_map_or (λ fault. Some (Beat fault)) o None) (c.in-Err.ensures.first_fault x.accepted x.homes x.taken h.sent);
       refused = refl;
-      rest = tt;
+      rest = refl;
     }
 
 pub returns : goal.returns
@@ -25,5 +25,5 @@ returns g c = record {
       (c.offer_at.ensures.accepted x.accepted x.homes x.taken h.sent);
   fault = λ x h. tt;
   refused = tt;
-  rest = tt;
+  rest = refl;
 }

@@ -1,4 +1,4 @@
-use Rattle.tl_offer.proofs.Names.{there_is, refl, arith, slice_get_past, slice_get_read, client_small, side_sends_c}
+use Rattle.tl_offer.proofs.Names.{there_is, refl, arith, slice_get_past, slice_get_read, client_small, sends_c, client_side}
 use Rattle.tl_offer.proofs.NextOffers.{waits, answers, closes}
 use Rattle.tl_offer.proofs.OfferSteps.{fails}
 use Rattle.tl_ring.proofs.FieldSizes.{beat_small}
@@ -9,11 +9,11 @@ close_c-requires g c = client_small g.row.C g.row.M c.requires.client c.requires
 
 pub returns-then-at-beats : goal.returns-then-at-beats
 returns-then-at-beats g c = rw c.from_close.ensures
-    (closes side_sends_c _ _ _ (slice_get_past c.args.beats.now c.args.at c.if-at-beats.true) c.close_c.result _ c.close_c.ensures)
+    (closes (sends_c client_side) _ _ _ (slice_get_past c.args.beats.now c.args.at c.if-at-beats.true) c.close_c.result _ c.close_c.ensures)
 
 pub returns-then-not-ready_c : goal.returns-then-not-ready_c
 returns-then-not-ready_c g c =
-    waits side_sends_c c.args.self.now _ (λ x h. h.c.pipe) (fails c.ready_c.result c.ready_c.ensures c.if-not-ready_c.true) _ _ _
+    waits (sends_c client_side) c.args.self.now _ (λ x h. h.c.pipe) (fails c.ready_c.result c.ready_c.ensures c.if-not-ready_c.true) _ _ _
     (there_is c.args.beats.now c.args.at c.if-at-beats.false).1
 
 pub bounds-beats-at : goal.bounds-beats-at
@@ -29,6 +29,6 @@ offer_c-requires g c = (
 )
 
 pub returns : goal.returns
-returns g c = rw c.from_offer.ensures (answers side_sends_c _ _ _ _
+returns g c = rw c.from_offer.ensures (answers (sends_c client_side) _ _ _ _
     (slice_get_read c.args.beats.now _ c.args.at c.index-beats-at.result refl c.if-at-beats.false c.index-beats-at.is) _ (λ x h. h.c.pipe)
     (c.ready_c.ensures.0 c.if-not-ready_c.false) c.offer_c.result _ c.offer_c.ensures)

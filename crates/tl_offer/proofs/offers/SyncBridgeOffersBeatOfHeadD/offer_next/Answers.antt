@@ -1,4 +1,4 @@
-use Rattle.tl_offer.proofs.Names.{there_is, refl, arith, slice_get_past, slice_get_read, bridge_small, bridge_sends_d}
+use Rattle.tl_offer.proofs.Names.{there_is, refl, arith, slice_get_past, slice_get_read, bridge_small, sends_d, bridge_manager}
 use Rattle.tl_offer.proofs.NextOffers.{waits, answers, closes}
 use Rattle.tl_offer.proofs.OfferSteps.{fails}
 use Rattle.tl_ring.proofs.FieldSizes.{beat_small}
@@ -9,11 +9,11 @@ close_d-requires g c = bridge_small g.row.C g.row.M c.requires.client c.requires
 
 pub returns-then-at-beats : goal.returns-then-at-beats
 returns-then-at-beats g c = rw c.from_close.ensures
-    (closes bridge_sends_d _ _ _ (slice_get_past c.args.beats.now c.args.at c.if-at-beats.true) c.close_d.result _ c.close_d.ensures)
+    (closes (sends_d bridge_manager) _ _ _ (slice_get_past c.args.beats.now c.args.at c.if-at-beats.true) c.close_d.result _ c.close_d.ensures)
 
 pub returns-then-not-ready_d : goal.returns-then-not-ready_d
 returns-then-not-ready_d g c =
-    waits bridge_sends_d c.args.self.now _ (λ x h. h.d) (fails c.ready_d.result c.ready_d.ensures c.if-not-ready_d.true) _ _ _
+    waits (sends_d bridge_manager) c.args.self.now _ (λ x h. h.d) (fails c.ready_d.result c.ready_d.ensures c.if-not-ready_d.true) _ _ _
     (there_is c.args.beats.now c.args.at c.if-at-beats.false).1
 
 pub bounds-beats-at : goal.bounds-beats-at
@@ -29,6 +29,6 @@ offer_d-requires g c = (
 )
 
 pub returns : goal.returns
-returns g c = rw c.from_offer.ensures (answers bridge_sends_d _ _ _ _
+returns g c = rw c.from_offer.ensures (answers (sends_d bridge_manager) _ _ _ _
     (slice_get_read c.args.beats.now _ c.args.at c.index-beats-at.result refl c.if-at-beats.false c.index-beats-at.is) _ (λ x h. h.d)
     (c.ready_d.ensures.0 c.if-not-ready_d.false) c.offer_d.result _ c.offer_d.ensures)
