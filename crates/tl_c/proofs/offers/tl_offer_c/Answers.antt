@@ -27,7 +27,7 @@ returns c =
     record {
       offer = offers_later (as_pipe c.offer_held-deref.result.now.side.c) c.offer_held-deref.result.now
           (λ x s. (s.c.pipe.stage, s.c.pipe.closed)) was is c.if-offer_held.ensures;
-      kept = kept _ was is (client_same _, (refl, refl)) c.offer_held-take.ensures.number c.offer_held-put.ensures.number;
+      kept = kept _ was is (client_same _, refl) c.offer_held-take.ensures.number c.offer_held-put.ensures.number;
     }
 
 pub returns-2 : goal.returns-2
