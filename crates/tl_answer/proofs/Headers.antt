@@ -1,6 +1,6 @@
 -- The header of a text, and a text without one.
 use Rattle.tl_answer.proofs.Names.{◌≡◌, ◌≢◌, ◌≤◌, ◌∷◌, [], ◌||◌, ℕ, Bool, true, false, List, length, None, Some, if◌then◌else◌, refl, ap}
-use Rattle.tl_answer.proofs.Names.{◌∙◌, subst, ◌==◌, eqb-true, IsWidth, each_width, body, cut, onto_first, is_newline, header_of, HasHeader}
+use Rattle.tl_answer.proofs.Names.{◌∙◌, ◌==◌, eqb-true, IsWidth, each_width, body, cut, onto_first, is_newline, header_of, HasHeader}
 use Rattle.tl_answer.proofs.Names.{faults_after, faults_of_lines, IsFirstFault, Line, Script, IsScriptOf, most_bytes}
 use Rattle.tl_answer.proofs.Names.{HasShortLists, beat_of_a, beat_of_b, beat_of_c, beat_of_d, beat_of_e}
 use Rattle.tl_lanes.specs.declared.limits.TheConstants.{WIDEST}
@@ -58,18 +58,6 @@ widest text version client manager is =
       last_width client (width_of version client both.1),
       last_width manager (width_of version manager both.2),
     )
-
-pub last_manager : (text : List ℕ) (version client manager : ℕ) → HasHeader text version client manager →
-    manager ≢ 1 → manager ≢ 2 → manager ≢ 4 → manager ≢ 8 → manager ≢ 16 → manager ≢ 32 → manager ≢ 64 → HasHeader text version client WIDEST
-last_manager text version client manager is n1 n2 n4 n8 n16 n32 n64 =
-    subst (λ w. HasHeader text version client w)
-    (last_width manager (width_of version manager (known (body text) (header version client manager) is).2) n1 n2 n4 n8 n16 n32 n64) is
-
-pub last_client : (text : List ℕ) (version client manager : ℕ) → HasHeader text version client manager →
-    client ≢ 1 → client ≢ 2 → client ≢ 4 → client ≢ 8 → client ≢ 16 → client ≢ 32 → client ≢ 64 → HasHeader text version WIDEST manager
-last_client text version client manager is n1 n2 n4 n8 n16 n32 n64 =
-    subst (λ w. HasHeader text version w manager)
-    (last_width client (width_of version client (known (body text) (header version client manager) is).1) n1 n2 n4 n8 n16 n32 n64) is
 
 -- the lists of a trace that is not too long are not too long
 pub short : (C M : ℕ) (lines : List Line) → length lines ≤ most_bytes → (s : Script C M) → IsScriptOf lines s → HasShortLists s

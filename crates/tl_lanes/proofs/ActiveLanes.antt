@@ -35,10 +35,6 @@ pub lane-from_is_active : (a z w l : ℕ) → is_active a z w l ≡ true → IsA
 lane-from_is_active a z w l e =
     lane-from_any a z w l (Any-from_list_any (λ i. lane_of a i w == l) (range_with_len 0 (bytes_per_beat z w)) e)
 
--- the test is true if and only if a lane is active
-pub is_active-true : (a z w l : ℕ) → (is_active a z w l ≡ true) ↔ IsActive a z w l
-is_active-true a z w l = (lane-from_is_active a z w l, λ (i, lt, e). is_active-from_lane a z w l i lt e)
-
 not_true : (b : Bool) → (b ≡ true → ⊥) → b ≡ false
 not_true true never = absurd (never refl)
 not_true false never = refl

@@ -1,14 +1,11 @@
 -- The laws of the traits of A and D, stated for their rules.
-use Rattle.tl_settle.proofs.Names.{◌≡◌, ℕ, true, false, Bool, refl, subst, ◌==◌, ◌&&◌, rules_a, rules_d, HeadA, HeadD, equal_true}
+use Rattle.tl_settle.proofs.Names.{◌≡◌, ℕ, true, false, Bool, refl, subst, ◌==◌, rules_a, rules_d, HeadA, HeadD, equal_true}
 use Rattle.std.specs.Bool.{beq}
 use Rattle.tl_burst.proofs.FaultsExact.{ChannelLaws}
 use Rattle.tl_msg.specs.Kinds.{column_a, column_d, kind_at}
 use Rattle.tl_msg.specs.Tables.{is_aligned}
 use Rattle.tl_msg.specs.Laws.{small_fault, partial_carries_of, partial_not_d}
 use Rattle.tl_settle.proofs.SameHeads.{same_a, same_d}
-
-both_true : (x y : Bool) → x ≡ true → y ≡ true → (x && y) ≡ true
-both_true x y e f = rw (e, f) refl
 
 self : (n : ℕ) → (n == n) ≡ true
 self n = equal_true n n refl
