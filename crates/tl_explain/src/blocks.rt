@@ -29,7 +29,7 @@ fn write_page<W: Write>(page: &mut TextBuf, writer: &mut W) -> Result<(), TextFa
 impl Story {
     /// Returns whether there is a block of sentences, none of which can still be removed.
     fn has_block(&self) -> bool {
-        self.page.len() >= BLOCK && !self.entry.is_held()
+        self.page.text.len() >= BLOCK && !self.entry.is_held()
     }
 
     /// Writes the text so far, if it fills a block; for a page, writes nothing. Errors: `Write`.

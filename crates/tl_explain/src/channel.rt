@@ -56,22 +56,14 @@ fn pass<K: Channel, const W: usize, const V: usize>(
     }
 }
 
-/// Writes the line of this beat. Returns false if that fails.
-fn write_line<K: Describe, const W: usize>(
-    out: &mut Vec<u8>,
-    beat: &Beat<K, W>,
-    version: u8,
-) -> bool {
-    // (tested here as well)
-    is_width(W) && write_far::<K, W>(out, slice::from_ref(beat), version).is_ok()
-}
-
-/// Keeps the line of this beat instead of the one kept before.
-fn keep_line<K: Describe, const W: usize>(story: &mut Story, beat: &Beat<K, W>) {
+/// Keeps the lines of these beats instead of those kept before.
+fn keep_lines<K: Describe, const W: usize>(story: &mut Story, beats: &[Beat<K, W>]) {
     let version = story.walk.version;
-    story.line.clear();
-    let is_kept = write_line::<K, W>(&mut story.line, beat, version);
-    story.page.out_of_memory |= !is_kept;
+    story.lines.clear();
+    // (tested here as well)
+    let are_kept = is_width(W) && write_far::<K, W>(&mut story.lines, beats, version).is_ok();
+    story.page.out_of_memory |= !are_kept;
+    story.begin_lines(beats.len());
 }
 
 /// Adds the beats of a line: the near beat, and the far beats that it completed.
@@ -81,22 +73,21 @@ fn put_beats<K: Describe, const W: usize, const V: usize>(
     beat: &Beat<K, W>,
     far: &[Beat<K, V>],
 ) {
-    if story.look.page {
-        keep_line::<K, W>(story, beat);
-    }
     let has_lanes = story.has_lanes();
     if has_lanes {
+        keep_lines::<K, W>(story, slice::from_ref(beat));
         story.put_beat(record, &record.near_beat(W), &beat.lanes);
     }
+    keep_lines::<K, V>(story, far);
     for number in 0..far.len() {
         let beat = &far[number];
-        keep_line::<K, V>(story, beat);
         if has_lanes {
             let fields = beat_fields_of::<K, V>(beat, story.walk.version);
             story.put_beat(record, &record.far_beat(number, &fields, V), &beat.lanes);
         } else {
             story.put_far_line();
         }
+        story.end_line();
     }
 }
 

@@ -9,7 +9,7 @@ ghost use Rattle.tl_answer.specs.Answer.{far_header, report, is_done};
 ghost use Rattle.tl_answer.specs.Texts.{IsAnswer};
 ghost use Rattle.tl_stream.specs.Inputs.{most_bytes};
 ghost use Rattle.tl_stream.specs.declared.fault.TextFault.TheVariants.{OutOfMemory as NoMemory, Write as WriteFault};
-ghost use Rattle.tl_explain.specs.Explained.{Explains, ShowsAnswer, IsUntold};
+ghost use Rattle.tl_explain.specs.Explained.{Explains, IsUntold};
 ghost use Rattle.tl_explain.specs.Inner.Explanation.{Continues, Tells};
 
 use crate::channel::tell;
@@ -21,13 +21,13 @@ use crate::walk::Walk;
 use arrayvec::ArrayVec;
 use std::alloc::{AllocError, Global};
 use std::io::Write;
-use tl_answer::{Answer, TextFault, at_width, check_of, write_all};
+use tl_answer::{Answer, TextFault, at_widths, check_of, known_header, write_all};
 use tl_check::verdicts_of;
 use tl_convert::Converter;
 use tl_lanes::WIDEST;
 use tl_msg::{Beat, ChA, ChB, ChC, ChD, ChE, Verdict};
 use tl_remarks::notes_of;
-use tl_trace::{Header, Script, TraceFault, TraceKind, header_of_text, read_script};
+use tl_trace::{Header, Script, read_script};
 
 /// Describes the outcome of the beats of a script, and writes it in blocks; for a page, writes
 /// nothing. Each channel has a converter, and a list for the far beats of one near beat. A beat of
@@ -81,87 +81,9 @@ fn held_in<const C: usize, const M: usize>(
     let busy = waiting_source::<ChA, C>(on_a, &script.a);
     let missing = waiting_source::<ChD, M>(on_d, &script.d);
     HeldPair {
-        request: held_of::<ChA, C>(letters, b'A', on_a, &script.a, missing),
-        response: held_of::<ChD, M>(letters, b'D', on_d, &script.d, busy),
+        request: held_of::<ChA, C>(letters, on_a, &script.a, missing),
+        response: held_of::<ChD, M>(letters, on_d, &script.d, busy),
     }
-}
-
-/// Creates the story of this script's text; no line has been written yet. All memory that it needs
-/// is allocated here, except for a page. Errors: `AllocError` if the allocator fails.
-#[inline(never)]
-fn story_of<const C: usize, const M: usize>(
-    alloc: Global,
-    text: &[u8],
-    script: &Script<C, M>,
-    verdicts: &[Verdict; 5],
-    version: u8,
-    look: &DisplayOptions,
-    times: &[u8],
-) -> Result<Story, AllocError>
-    requires { IsWidth C × IsWidth M }
-{
-    let header = Header {
-        version,
-        client: C,
-        manager: M,
-    };
-    let letters = letters_of(alloc, text, &header)?;
-    let (remarks, in_order) = (look.remarks, look.in_order);
-    let noted = notes_of::<C, M>(alloc, &letters, script, verdicts, remarks, in_order);
-    let held = held_in::<C, M>(&letters, script, verdicts);
-    let walk = Walk::new(
-        alloc, &header, verdicts, letters, noted, held, in_order, times,
-    )?;
-    Story::new(alloc, walk, look)
-}
-
-/// The verdicts of the channels of a script, from A to E, and the answer of a check.
-#[derive(Drop)]
-struct Checked {
-    verdicts: [Verdict; 5],
-    answer: Answer,
-}
-
-/// Returns these verdicts and the answer that reports them. Errors: `OutOfMemory`.
-#[inline(never)]
-fn with_answer(
-    alloc: Global,
-    verdicts: [Verdict; 5],
-    version: u8,
-    client: usize,
-    manager: usize,
-) -> Result<Checked, TextFault>
-    ensures text { IfOk result (λ made. made.answer.text.items
-        ≡ far_header version client manager ++ report verdicts) }
-    ensures done { IfOk result (λ made. made.answer.all_done ≡ list_all is_done verdicts) }
-    ensures err { IfErr result (λ fault. fault ≡ NoMemory) }
-{
-    let Ok(answer) = check_of(alloc, &verdicts, version, client, manager) else {
-        return Err(TextFault::OutOfMemory);
-    };
-    Ok(Checked { verdicts, answer })
-}
-
-/// Returns the verdicts and the answer for the text of this script, in this version. Errors:
-/// `OutOfMemory`.
-#[inline(never)]
-fn answer_to<const C: usize, const M: usize>(
-    alloc: Global,
-    text: &[u8],
-    script: &Script<C, M>,
-    version: u8,
-) -> Result<Checked, TextFault>
-    requires { IsWidth C × IsWidth M × (length text.now ≤ most_bytes) ×
-        TellsScript version text.now script.now }
-    ensures ok { IfOk result (λ made.
-        IsAnswer text.now true made.answer.text.items made.answer.all_done) }
-    ensures err { IfErr result (λ fault. fault ≡ NoMemory) }
-{
-    let _text = text;
-    let Ok(verdicts) = verdicts_of::<C, M>(alloc, script) else {
-        return Err(TextFault::OutOfMemory);
-    };
-    with_answer(alloc, verdicts, version, C, M)
 }
 
 /// The part of a text's story that is not written yet, and the answer of a check.
@@ -172,8 +94,8 @@ pub struct Explanation {
 }
 
 /// Creates the story and the answer for the text of this script, in this version; no line has been
-/// written yet. Errors: `OutOfMemory`. Any allocation failure is reported here or, if beats are
-/// drawn, before the first write.
+/// written yet. All memory that they need is allocated here, except for a page. Errors:
+/// `OutOfMemory`.
 #[inline(never)]
 fn begin<const C: usize, const M: usize>(
     alloc: Global,
@@ -189,31 +111,22 @@ fn begin<const C: usize, const M: usize>(
         IsAnswer text.now true made.answer.text.items made.answer.all_done) }
     ensures err { IfErr result (λ fault. fault ≡ NoMemory) }
 {
-    let Checked { verdicts, answer } = answer_to::<C, M>(alloc, text, script, version)?;
-    let Ok(story) = story_of::<C, M>(alloc, text, script, &verdicts, version, look, times) else {
-        return Err(TextFault::OutOfMemory);
+    let verdicts = verdicts_of::<C, M>(alloc, script)?;
+    let answer = check_of(alloc, &verdicts, version, C, M)?;
+    let header = Header {
+        version,
+        client: C,
+        manager: M,
     };
+    let letters = letters_of(alloc, text, &header)?;
+    let (remarks, in_order) = (look.remarks, look.in_order);
+    let noted = notes_of::<C, M>(alloc, &letters, script, &verdicts, remarks, in_order);
+    let held = held_in::<C, M>(&letters, script, &verdicts);
+    let walk = Walk::new(
+        alloc, &header, &verdicts, letters, noted, held, in_order, times,
+    )?;
+    let story = Story::new(alloc, walk, look)?;
     Ok(Explanation { story, answer })
-}
-
-/// Explains the text of this script, in this version.
-#[inline(never)]
-fn with_script<W: Write, const C: usize, const M: usize>(
-    alloc: Global,
-    text: &[u8],
-    script: &Script<C, M>,
-    version: u8,
-    look: &DisplayOptions,
-    times: &[u8],
-    writer: &mut W,
-) -> Result<Explanation, TextFault>
-    requires { IsWidth C × IsWidth M × (length text.now ≤ most_bytes) ×
-        TellsScript version text.now script.now }
-    ensures { Tells look.now.page text.now (W.contents writer.old) (W.contents writer.new) result }
-{
-    let mut telling = begin::<C, M>(alloc, text, script, version, look, times)?;
-    tell_all::<W, C, M>(&mut telling.story, script, look.page, writer)?;
-    Ok(telling)
 }
 
 /// Explains a text whose header has this version and these widths.
@@ -230,29 +143,9 @@ fn with_widths<W: Write, const C: usize, const M: usize>(
     ensures { Tells look.now.page text.now (W.contents writer.old) (W.contents writer.new) result }
 {
     let script = read_script::<C, M>(alloc, text, version)?;
-    let telling = with_script::<W, C, M>(alloc, text, &script, version, look, times, writer);
-    drop(script);
-    telling
-}
-
-/// Explains a text whose header has this version and these widths: `C` bytes for the client, and
-/// `manager` bytes for the manager.
-fn with_client<W: Write, const C: usize>(
-    alloc: Global,
-    text: &[u8],
-    version: u8,
-    manager: usize,
-    look: &DisplayOptions,
-    times: &[u8],
-    writer: &mut W,
-) -> Result<Explanation, TextFault>
-    requires { HasHeader text.now version C manager × (length text.now ≤ most_bytes) }
-    ensures { Tells look.now.page text.now (W.contents writer.old) (W.contents writer.new) result }
-{
-    at_width!(
-        manager,
-        with_widths::<W, C, _>(alloc, text, version, look, times, writer)
-    )
+    let mut telling = begin::<C, M>(alloc, text, &script, version, look, times)?;
+    tell_all::<W, C, M>(&mut telling.story, &script, look.page, writer)?;
+    Ok(telling)
 }
 
 /// Explains a text, and writes the sentences in blocks; for a page, writes nothing.
@@ -269,23 +162,13 @@ pub fn explanation_of<W: Write>(
     requires few { length text.now ≤ most_bytes }
     ensures { Tells look.now.page text.now (W.contents writer.old) (W.contents writer.new) result }
 {
-    let Some(header) = header_of_text(text) else {
-        return Err(TextFault::from(TraceFault {
-            line: 1,
-            kind: TraceKind::Header,
-        }));
+    let header = match known_header(text) {
+        Ok(header) => header,
+        Err(fault) => return Err(fault),
     };
-    at_width!(
-        header.client,
-        with_client::<W, _>(
-            alloc,
-            text,
-            header.version,
-            header.manager,
-            look,
-            times,
-            writer
-        )
+    at_widths!(
+        header,
+        with_widths::<W, _, _>(alloc, text, header.version, look, times, writer)
     )
 }
 
@@ -321,31 +204,4 @@ pub fn explain_to<W: Write>(
     let telling = explanation_of::<W>(alloc, text, &look, times, writer)?;
     write_all(writer, &telling.answer.text)?;
     Ok(telling.answer.all_done)
-}
-
-/// Writes the outcome of each line of a text as JSON Lines: an object for each line that is shown,
-/// in the order of the lines, and one for the whole trace. Returns true if and only if all five
-/// channels are done. Errors: as for `explain_to`.
-pub fn records_to<W: Write>(
-    alloc: Global,
-    text: &[u8],
-    look: &DisplayOptions,
-    times: &[u8],
-    writer: &mut W,
-) -> Result<bool, TextFault>
-    requires few { length text.now ≤ most_bytes }
-    ensures ok { IfOk result
-        (ShowsAnswer text.now (W.contents writer.old) (W.contents writer.new)) }
-    ensures err { IfErr result
-        (IsUntold false text.now (W.contents writer.old) (W.contents writer.new)) }
-{
-    let look = DisplayOptions {
-        page: false,
-        json: true,
-        colour: false,
-        ..*look
-    };
-    let telling = explanation_of::<W>(alloc, text, &look, times, writer)?;
-    let all_done = telling.answer.all_done;
-    Ok(all_done)
 }

@@ -28,38 +28,31 @@ fn param_fault(params: u8) -> &'static str {
     }
 }
 
-/// Returns the sentence on a wrong field of a beat, except the mask, and the pieces that replace
-/// each `#` in it.
-fn field_fault(beat: &BeatFields, fault: BeatFault) -> (&'static str, [Piece<'static>; 3]) {
-    let none = Text("");
+/// Writes the sentence on a wrong field of a beat, except the mask.
+fn put_field(out: &mut TextBuf, beat: &BeatFields, fault: BeatFault) {
     match fault {
         BeatFault::Opcode => {
             let opcode = Number(beat.opcode as u64);
-            (
-                opcode_fault(beat.letter),
-                [opcode, Letter(beat.letter), none],
-            )
+            out.say(opcode_fault(beat.letter), &[opcode, Letter(beat.letter)]);
         }
         BeatFault::Param => {
             let params = beat.kind.map_or(0, Kind::params);
             let (param, most) = (Number(beat.param as u64), params.saturating_sub(1));
-            (
-                param_fault(params),
-                [param, name_of(beat), Number(most as u64)],
-            )
+            let pieces = [param, name_of(beat), Number(most as u64)];
+            out.say(param_fault(params), &pieces);
         }
-        BeatFault::Size => {
-            let rule = "the size is #, but it may be at most 12: a message has at most 4096 bytes";
-            (rule, [Number(beat.size as u64), none, none])
-        }
-        BeatFault::Unaligned => {
-            let rule = "the address # is not a multiple of the message's #";
-            (rule, [Address(beat.address), Length(beat.size), none])
-        }
-        _ => {
-            let rule = "corrupt is 1, but # carries no data, so it has to be 0";
-            (rule, [name_of(beat), none, none])
-        }
+        BeatFault::Size => out.say(
+            "the size is #, but it may be at most 12: a message has at most 4096 bytes",
+            &[Number(beat.size as u64)],
+        ),
+        BeatFault::Unaligned => out.say(
+            "the address # is not a multiple of the message's #",
+            &[Address(beat.address), Length(beat.size)],
+        ),
+        _ => out.say(
+            "corrupt is 1, but # carries no data, so it has to be 0",
+            &[name_of(beat)],
+        ),
     }
 }
 
@@ -87,65 +80,37 @@ fn put_mask(out: &mut TextBuf, beat: &BeatFields, w: usize) {
     put_lanes(out, lanes);
 }
 
-/// The fields of a head. All beats of a burst repeat them.
-const FIELDS: [&str; 7] = [
-    "the opcode",
-    "the param",
-    "the size",
-    "the source",
-    "the address",
-    "the sink",
-    "denied",
-];
-
-/// Returns the same fields of a beat.
-fn fields_of(beat: &BeatFields) -> [u64; 7] {
-    [
-        beat.opcode as u64,
-        beat.param as u64,
-        beat.size as u64,
-        beat.source as u64,
-        beat.address,
-        beat.sink as u64,
-        beat.denied as u64,
-    ]
-}
-
-/// Returns the index of the first field that has changed; the index of the last field if none
-/// before it has.
-fn changed_field(is: [u64; 7], was: [u64; 7]) -> usize {
-    for at in 0..6 {
-        if is[at] != was[at] {
-            return at;
-        }
-    }
-    6
-}
-
-/// Returns the field at this index in words.
-fn field_at(at: usize, fields: [u64; 7], version: u8) -> Piece<'static> {
-    let field = fields.get(at).copied().unwrap_or(0);
-    match at {
-        3 | 5 => Id((field % 65_536) as u16, version),
-        4 => Address(field),
-        _ => Number(field),
+/// Returns the first field of a head in which two beats of a burst differ, and its two values.
+fn changed_field(is: &BeatFields, was: &BeatFields) -> [Piece<'static>; 3] {
+    let number = |name, is: u8, was: u8| [Text(name), Number(is as u64), Number(was as u64)];
+    let id = |name, of: u16, was_of: u16| [Text(name), Id(of, is.version), Id(was_of, is.version)];
+    if is.opcode != was.opcode {
+        number("the opcode", is.opcode, was.opcode)
+    } else if is.param != was.param {
+        number("the param", is.param, was.param)
+    } else if is.size != was.size {
+        number("the size", is.size, was.size)
+    } else if is.source != was.source {
+        id("the source", is.source, was.source)
+    } else if is.address != was.address {
+        [
+            Text("the address"),
+            Address(is.address),
+            Address(was.address),
+        ]
+    } else if is.sink != was.sink {
+        id("the sink", is.sink, was.sink)
+    } else {
+        number("denied", is.denied as u8, was.denied as u8)
     }
 }
 
 /// Writes which field of a beat differs from that of its burst's first beat, its value, and the
 /// first one.
 fn put_change(out: &mut TextBuf, beat: &BeatFields, first: &LineRecord) {
-    let (is, was) = (fields_of(beat), fields_of(&first.beat));
-    let at = changed_field(is, was);
-    out.say(
-        "inside the burst that # begins, # is # and was #",
-        &[
-            Line(first.line),
-            Text(FIELDS.get(at).copied().unwrap_or("")),
-            field_at(at, is, beat.version),
-            field_at(at, was, beat.version),
-        ],
-    );
+    let [field, is, was] = changed_field(beat, &first.beat);
+    let pieces = [Line(first.line), field, is, was];
+    out.say("inside the burst that # begins, # is # and was #", &pieces);
 }
 
 /// Returns a beat's source.
@@ -226,18 +191,12 @@ fn put_mismatch(out: &mut TextBuf, walk: &Walk, beat: &BeatFields) {
 
 /// Writes why the beat of a channel with these fields was not accepted.
 pub fn put_fault(out: &mut TextBuf, walk: &Walk, beat: &BeatFields, fault: SideFault) {
-    let channel = walk.channel_of(beat.letter);
     match fault {
-        SideFault::Beat(BeatFault::Mask) => put_mask(out, beat, channel.w),
-        SideFault::Beat(BeatFault::HeadChanged) => put_change(
-            out,
-            beat,
-            &walk.first_of(beat.letter),
-        ),
-        SideFault::Beat(fault) => {
-            let (sentence, pieces) = field_fault(beat, fault);
-            out.say(sentence, &pieces);
+        SideFault::Beat(BeatFault::Mask) => put_mask(out, beat, walk.channel_of(beat.letter).w),
+        SideFault::Beat(BeatFault::HeadChanged) => {
+            put_change(out, beat, &walk.first_of(beat.letter));
         }
+        SideFault::Beat(fault) => put_field(out, beat, fault),
         SideFault::SourceBusy => put_busy(out, walk, beat),
         SideFault::NoRequest => put_no_request(out, walk, beat),
         SideFault::SizeMismatch => put_mismatch(out, walk, beat),

@@ -45,18 +45,16 @@ pub fn line_of(letters: &[u8], letter: u8, before: usize) -> u64 {
 #[inline(never)]
 pub fn held_of<K: Describe, const W: usize>(
     letters: &[u8],
-    letter: u8,
     verdict: &Verdict,
     beats: &[Beat<K, W>],
     source: Option<SourceId>,
 ) -> Option<Held> {
-    for at in accepted(verdict)..beats.len() {
-        let seen = K::seen(beats[at].head);
-        let may_pair = (letter != b'D') | seen.answers_request();
-        if may_pair & (Some(seen.source) == source) {
-            let line = line_of(letters, letter, at);
-            return Some(Held { line, letter });
-        }
-    }
-    None
+    let (letter, before) = (K::LETTER, accepted(verdict));
+    let rest = beats.get(before..).unwrap_or(&[]);
+    let offset = rest.iter().position(|beat| {
+        let seen = K::seen(beat.head);
+        (letter != b'D' || seen.answers_request()) && Some(seen.source) == source
+    })?;
+    let line = line_of(letters, letter, before.saturating_add(offset));
+    Some(Held { line, letter })
 }

@@ -1,14 +1,25 @@
 //! Output as JSON Lines: an object for the outcome of each line of a trace, and one for the whole
-//! trace.
+//! trace; or an object for the fault of a text that is not a valid trace.
+ghost use Rattle.std.specs.Prelude.{◌≤◌, false, length, IfOk, IfErr};
+ghost use Rattle.tl_stream.specs.Inputs.{most_bytes};
+ghost use Rattle.tl_explain.specs.Explained.{ShowsAnswer, IsUntold};
+
 use crate::beat_outcome::BeatOutcome;
+use crate::display_options::DisplayOptions;
+use crate::explain::explanation_of;
 use crate::faults::put_fault as put_fault_sentence;
 use crate::links::Links;
 use crate::picture::{Cell, Picture};
 use crate::record::{BeatRecord, LineRecord};
+use crate::unreadable::{SHOWN, form_at, line_at, put_fault as put_trace_fault};
 use crate::walk::{Position, Walk};
+use std::alloc::{AllocError, Global};
+use std::io::Write;
+use tl_answer::TextFault;
 use tl_msg::{SideFault, Verdict};
 use tl_remarks::Piece::{Address, Byte, Letter, Name, Number, Text};
 use tl_remarks::{BeatFields, Piece, Remark, TextBuf, put_sentence_of};
+use tl_trace::{TraceFault, TraceKind};
 
 /// Writes bytes as a JSON string. A byte that is not printable ASCII is written as the character
 /// with its number.
@@ -292,4 +303,66 @@ pub fn put_summary(out: &mut TextBuf, walk: &Walk) {
         put_verdict(out, walk, channel);
     }
     out.put_text("}}\n");
+}
+
+/// Writes the outcome of each line of a text as JSON Lines: an object for each line that is shown,
+/// in the order of the lines, and one for the whole trace. Returns true if and only if all five
+/// channels are done. Errors: as for `explain_to`.
+pub fn records_to<W: Write>(
+    alloc: Global,
+    text: &[u8],
+    look: &DisplayOptions,
+    times: &[u8],
+    writer: &mut W,
+) -> Result<bool, TextFault>
+    requires few { length text.now ≤ most_bytes }
+    ensures ok { IfOk result
+        (ShowsAnswer text.now (W.contents writer.old) (W.contents writer.new)) }
+    ensures err { IfErr result
+        (IsUntold false text.now (W.contents writer.old) (W.contents writer.new)) }
+{
+    let look = DisplayOptions {
+        page: false,
+        json: true,
+        colour: false,
+        ..*look
+    };
+    let telling = explanation_of::<W>(alloc, text, &look, times, writer)?;
+    let all_done = telling.answer.all_done;
+    Ok(all_done)
+}
+
+/// Writes the first bytes of a line as a string.
+fn put_line_string(out: &mut TextBuf, line: &[u8]) {
+    put_string(out, line.get(..SHOWN).unwrap_or(line));
+}
+
+/// Returns the fault of a text that is not a valid trace as a line of JSON. Errors: `AllocError` if
+/// the allocator fails. The object has
+/// - the line, number and name of the fault, and what was expected;
+/// - the place in the line, counted from 0, and the first bytes of the line;
+/// - the form of the line, if its length is wrong.
+pub fn fault_record(alloc: Global, text: &[u8], fault: &TraceFault) -> Result<Vec<u8>, AllocError> {
+    let line = line_at(text, fault.line);
+    let form = form_at(text, fault.line, line);
+    let form = form.as_slice().trim_ascii_end();
+    let mut said = TextBuf::new(alloc, false);
+    let at = put_trace_fault(&mut said, alloc, text, line, form, fault.kind);
+    let mut out = TextBuf::new(alloc, false);
+    let number = fault.number() as u64;
+    out.say(
+        "{\"line\":#,\"fault\":{\"number\":#,\"name\":\"#\",\"said\":",
+        &[Number(fault.line), Number(number), Text(fault.name())],
+    );
+    put_string(&mut out, &said.text);
+    let place = Number(at.min(SHOWN) as u64);
+    out.say("},\"place\":#,\"text\":", &[place]);
+    put_line_string(&mut out, line);
+    if let TraceKind::Length = fault.kind {
+        out.put_text(",\"form\":");
+        put_line_string(&mut out, form);
+    }
+    out.put_text("}\n");
+    out.out_of_memory |= said.out_of_memory;
+    out.into_text()
 }

@@ -1,7 +1,7 @@
 //! The lines of a trace by their letters.
 ghost use Rattle.tl_lanes.specs.Lanes.{IsWidth};
 
-use crate::walk::place;
+use crate::walk::{LETTERS, place};
 use arrayvec::ArrayVec;
 use std::alloc::{AllocError, Global};
 use tl_answer::at_width;
@@ -32,21 +32,10 @@ pub fn form_of(letter: u8, header: &Header) -> ArrayVec<u8, LONGEST_LINE> {
     at_width!(width, form_on::<_>(letter, header.version))
 }
 
-/// Returns the length of the lines with this letter in a trace with this header, with their LF.
-fn length_of(letter: u8, header: &Header) -> usize {
-    form_of(letter, header).len().max(1)
-}
-
 /// Returns the first letters of the lines of a trace with this header, from line 2 on. Errors:
 /// `AllocError` if the allocator fails.
 pub fn letters_of(alloc: Global, text: &[u8], header: &Header) -> Result<Vec<u8>, AllocError> {
-    let lengths = [
-        length_of(b'A', header),
-        length_of(b'B', header),
-        length_of(b'C', header),
-        length_of(b'D', header),
-        length_of(b'E', header),
-    ];
+    let lengths = LETTERS.map(|letter| form_of(letter, header).len().max(1));
     let mut letters = Vec::new(alloc);
     let mut at = line_end(text, 0).saturating_add(1);
     for _ in 0..text.len() {

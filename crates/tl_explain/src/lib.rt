@@ -31,7 +31,8 @@ mod walk;
 pub use beat_outcome::BeatOutcome;
 pub use display_options::{DisplayOptions, LineFilter};
 pub use entry::Entry;
-pub use explain::{explain_to, records_to};
+pub use explain::explain_to;
+pub use json::{fault_record, records_to};
 pub use links::Links;
 pub use meanings::{FAULTS, meaning};
 pub use page_model::{Drawn, PageModel, page_model_of};
@@ -41,5 +42,5 @@ pub use sentences::{
     put_cuts, put_fate, put_fields, put_name, put_place, put_remarks, put_sentence,
 };
 pub use times::{TimesFault, TimesKind, check_times};
-pub use unreadable::{fault_record, show_fault};
+pub use unreadable::show_fault;
 pub use walk::{LETTERS, Position, Walk};

@@ -51,20 +51,24 @@ fn put_version(out: &mut TextBuf, alloc: Global, header: &Header, letter: u8, li
     is_like
 }
 
-/// Returns the width of the bus on which the line has the form of its channel; 0 if there is none.
-fn width_of(out: &mut TextBuf, alloc: Global, header: &Header, letter: u8, line: &[u8]) -> usize {
-    for power in 0..=WIDEST_POWER {
-        let width = 1usize << power;
-        let other = Header {
-            client: width,
-            manager: width,
-            ..*header
-        };
-        if fits(out, alloc, &other, letter, line) {
-            return width;
-        }
-    }
-    0
+/// Returns the width of the bus on which the line has the form of its channel, if there is one.
+fn width_of(
+    out: &mut TextBuf,
+    alloc: Global,
+    header: &Header,
+    letter: u8,
+    line: &[u8],
+) -> Option<usize> {
+    (0..=WIDEST_POWER)
+        .map(|power| 1usize << power)
+        .find(|width| {
+            let other = Header {
+                client: *width,
+                manager: *width,
+                ..*header
+            };
+            fits(out, alloc, &other, letter, line)
+        })
 }
 
 /// Returns the side that sends on the channel with this letter, and its width.
@@ -78,10 +82,9 @@ fn side_of(header: &Header, letter: u8) -> (&'static str, usize) {
 /// Writes that the line has the form of its channel at another width, if that is so, and whether
 /// the header gave this width in bits. Returns whether the line has that form.
 fn put_width(out: &mut TextBuf, alloc: Global, header: &Header, letter: u8, line: &[u8]) -> bool {
-    let width = width_of(out, alloc, header, letter, line);
-    if width == 0 {
+    let Some(width) = width_of(out, alloc, header, letter, line) else {
         return false;
-    }
+    };
     let (side, said) = side_of(header, letter);
     let why = if width.saturating_mul(8) == said {
         ": the widths of the header are bytes, and not bits"
@@ -97,13 +100,13 @@ fn put_width(out: &mut TextBuf, alloc: Global, header: &Header, letter: u8, line
 
 /// Writes that the line has the form of another channel, if that is so. Returns whether it is.
 fn put_channel(out: &mut TextBuf, alloc: Global, header: &Header, line: &[u8]) -> bool {
-    for letter in LETTERS {
-        if fits(out, alloc, header, *letter, line) {
-            out.say("; it has the form of a line of #", &[Letter(*letter)]);
-            return true;
-        }
+    let other = LETTERS
+        .iter()
+        .find(|letter| fits(out, alloc, header, **letter, line));
+    if let Some(letter) = other {
+        out.say("; it has the form of a line of #", &[Letter(*letter)]);
     }
-    false
+    other.is_some()
 }
 
 /// Writes that the line has the form of another version, width or channel, if that is so. Returns

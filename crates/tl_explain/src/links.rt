@@ -14,10 +14,6 @@ pub struct Links {
     pub exchange: u64,
 }
 
-/// The largest number of messages in an exchange: a request, its response, and the acknowledgement
-/// of that.
-const LONGEST_EXCHANGE: usize = 3;
-
 /// Returns the index of a line among those from line 2 on.
 pub fn index_of(line: u64) -> usize {
     (line as usize).wrapping_sub(2)
@@ -26,18 +22,6 @@ pub fn index_of(line: u64) -> usize {
 /// Returns the messages that belong to the one that begins in this line.
 pub fn links_at(links: &[Links], line: u64) -> Links {
     links.get(index_of(line)).copied().unwrap_or_default()
-}
-
-/// Returns the number of the exchange of the message that begins in this line, from 1 in the order
-/// of first lines; 0 if there is none.
-pub fn exchange_of(links: &[Links], line: u64) -> u64 {
-    let mut first = links_at(links, line);
-    for _ in 1..LONGEST_EXCHANGE {
-        if first.asked_in != 0 {
-            first = links_at(links, first.asked_in);
-        }
-    }
-    first.exchange
 }
 
 /// Records which messages and responses belong together.
@@ -51,18 +35,6 @@ fn link_all(links: &mut [Links], exchanges: &[Exchange]) {
         }
         if let Some(answer) = links.get_mut(index_of(exchange.answer)) {
             answer.asked_in = exchange.ask.line;
-        }
-    }
-}
-
-/// Records the addresses of the requests of A with which the bridge matches responses.
-fn note_homes(links: &mut [Links], exchanges: &[Exchange]) {
-    for exchange in exchanges {
-        if let (b'A', Some(answer)) = (
-            exchange.ask.letter,
-            links.get_mut(index_of(exchange.answer)),
-        ) {
-            answer.home = exchange.ask.address;
         }
     }
 }
@@ -83,6 +55,10 @@ pub fn links_of(
         &noted.exchanges
     };
     link_all(links.as_mut_slice(), matched);
-    note_homes(links.as_mut_slice(), &noted.exchanges);
+    for Exchange { ask, answer } in &noted.exchanges {
+        if let (b'A', Some(answer)) = (ask.letter, links.get_mut(index_of(*answer))) {
+            answer.home = ask.address;
+        }
+    }
     Ok(links)
 }

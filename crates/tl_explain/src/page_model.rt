@@ -8,7 +8,7 @@ ghost use Rattle.tl_explain.specs.Explained.{IsUntold};
 use crate::display_options::DisplayOptions;
 use crate::entry::Entry;
 use crate::explain::{Explanation, explanation_of};
-use crate::links::{Links, exchange_of, index_of, links_at};
+use crate::links::{Links, index_of, links_at};
 use crate::picture::Picture;
 use crate::record::{BeatRecord, Span};
 use crate::walk::Walk;
@@ -80,6 +80,22 @@ impl Kept {
             self.out_of_memory |= self.entries.push(entry).is_err();
         }
     }
+}
+
+/// The largest number of messages in an exchange: a request, its response, and the acknowledgement
+/// of that.
+const LONGEST_EXCHANGE: usize = 3;
+
+/// Returns the number of the exchange of the message that begins in this line, from 1 in the order
+/// of first lines; 0 if there is none.
+pub fn exchange_of(links: &[Links], line: u64) -> u64 {
+    let mut first = links_at(links, line);
+    for _ in 1..LONGEST_EXCHANGE {
+        if first.asked_in != 0 {
+            first = links_at(links, first.asked_in);
+        }
+    }
+    first.exchange
 }
 
 /// The contents of a page on a trace.

@@ -6,36 +6,6 @@ use tl_remarks::TextBuf;
 const HEADER: &str =
     "expected the header 'tilelink-trace V client C manager M', where V is the version, 1 or 2, and C and M are bytes, each 1, 2, 4, 8, 16, 32, 64 or, in version 2, 128";
 
-/// The texts on a line 1 that begins with a beat or with a comment.
-const BEAT: &str = "; the header is missing: this is the line of a beat";
-
-const COMMENT: &str = "; a trace has no comments";
-
-/// Beginnings of a line 1 that is not a valid header for a known reason, with the reason.
-const NO_HEADERS: &[(&[u8], &str)] = &[
-    (
-        b"\xef\xbb\xbf",
-        "; the text begins with a byte order mark (ef bb bf), and a trace is plain ASCII",
-    ),
-    (
-        b"\xff\xfe",
-        "; the text begins with the byte order mark of UTF-16 (ff fe), and a trace is plain ASCII",
-    ),
-    (
-        b"\xfe\xff",
-        "; the text begins with the byte order mark of UTF-16 (fe ff), and a trace is plain ASCII",
-    ),
-    (b"A ", BEAT),
-    (b"B ", BEAT),
-    (b"C ", BEAT),
-    (b"D ", BEAT),
-    (b"E ", BEAT),
-    (b"#", COMMENT),
-    (b"/", COMMENT),
-    (b";", COMMENT),
-    (b"tilelink-far", "; this is an answer, and no trace"),
-];
-
 /// The fields of a line of A or B, of C, of D and of E, from the channel's letter on.
 const MASKED: &[&str] = &[
     "channel", "opcode", "param", "size", "source", "address", "mask", "data", "corrupt",
@@ -91,12 +61,8 @@ fn fields_of(form: &[u8]) -> &'static [&'static str] {
 
 /// Returns the name of the field at a position of a form.
 fn field_at(form: &[u8], at: usize) -> &'static str {
-    let mut field = 0usize;
-    for byte in form.get(..at).unwrap_or(form) {
-        if *byte == b' ' {
-            field = field.saturating_add(1);
-        }
-    }
+    let before = form.get(..at).unwrap_or(form);
+    let field = before.iter().filter(|byte| **byte == b' ').count();
     fields_of(form).get(field).copied().unwrap_or("line")
 }
 
@@ -139,15 +105,19 @@ pub fn put_no_channel(out: &mut TextBuf, line: &[u8]) {
 /// shows that.
 pub fn put_no_header(out: &mut TextBuf, line: &[u8]) {
     out.put_text(HEADER);
-    for (begin, why) in NO_HEADERS {
-        if line.starts_with(begin) {
-            return out.put_text(why);
-        }
-    }
-    match line.last() {
-        Some(last) => put_blank_end(out, *last),
-        None => out.put_text("; the first line is blank"),
-    }
+    out.put_text(match line {
+        [] => "; the first line is blank",
+        [0xef, 0xbb, 0xbf, ..] =>
+            "; the text begins with a byte order mark (ef bb bf), and a trace is plain ASCII",
+        [0xff, 0xfe, ..] =>
+            "; the text begins with the byte order mark of UTF-16 (ff fe), and a trace is plain ASCII",
+        [0xfe, 0xff, ..] =>
+            "; the text begins with the byte order mark of UTF-16 (fe ff), and a trace is plain ASCII",
+        [b'A'..=b'E', b' ', ..] => "; the header is missing: this is the line of a beat",
+        [b'#' | b'/' | b';', ..] => "; a trace has no comments",
+        _ if line.starts_with(b"tilelink-far") => "; this is an answer, and no trace",
+        [.., last] => return put_blank_end(out, *last),
+    });
 }
 
 /// Writes that a line ends with an invisible byte, if it does.

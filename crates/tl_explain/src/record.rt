@@ -72,15 +72,6 @@ pub fn bytes_of(beat: &BeatFields, w: usize) -> usize
     beat_bytes(beat.size, w).max(1)
 }
 
-/// Returns the lane of byte `first_byte` of a message at this address, on a bus of `w` bytes.
-fn lane_of(home: u64, first_byte: usize, w: usize) -> usize {
-    if is_width(w) {
-        lane(home, first_byte, w)
-    } else {
-        0
-    }
-}
-
 impl LineRecord {
     /// Returns whether its channel stops at the beat, which breaks a rule or waits.
     pub fn is_fault(&self) -> bool {
@@ -112,7 +103,11 @@ impl LineRecord {
             message: self.message,
             home: self.home,
             first_byte,
-            first_lane: lane_of(self.home.unwrap_or(0), first_byte, w),
+            first_lane: if is_width(w) {
+                lane(self.home.unwrap_or(0), first_byte, w)
+            } else {
+                0
+            },
             bytes: 1usize.wrapping_shl(fields.size as u32).min(w),
         }
     }

@@ -126,16 +126,12 @@ pub fn put_fate(out: &mut TextBuf, walk: &Walk, record: &LineRecord) {
             }
         }
         BeatOutcome::Refused(fault) => {
-            put_refused(out, walk, record, fault, Coloured(Colour::Red, "refused"));
+            let word = Coloured(Colour::Red, "refused");
+            put_refused(out, walk, record, fault, word);
         }
         BeatOutcome::Waiting(fault) => {
-            put_refused(
-                out,
-                walk,
-                record,
-                fault,
-                Coloured(Colour::Yellow, "waiting"),
-            );
+            let word = Coloured(Colour::Yellow, "waiting");
+            put_refused(out, walk, record, fault, word);
         }
         BeatOutcome::NotOffered => {
             out.put_text("not offered, since ");

@@ -6,10 +6,11 @@ use crate::entry::Entry;
 use crate::json::{begin_object, put_json_beat, put_json_remarks, put_summary};
 use crate::page_model::Kept;
 use crate::picture::put_picture;
-use crate::record::{BeatRecord, LineRecord};
+use crate::record::{BeatRecord, LineRecord, Span};
 use crate::sentences::{put_cuts, put_remarks, put_sentence};
 use crate::walk::Walk;
 use std::alloc::{AllocError, Global};
+use tl_lanes::WIDEST;
 use tl_remarks::TextBuf;
 use tl_trace::LONGEST_LINE;
 
@@ -24,8 +25,9 @@ pub struct Story {
     /// position of their sentence in the output.
     pub entry: Entry,
     from: usize,
-    /// The text of a beat, as a line of a trace.
-    pub line: Vec<u8>,
+    /// The texts of beats, as lines of a trace, and the position of the current one.
+    pub lines: Vec<u8>,
+    line: Span,
     /// What a page shows.
     pub kept: Kept,
 }
@@ -41,12 +43,13 @@ impl Story {
             page: TextBuf::new(alloc, look.colour),
             entry: Entry::default(),
             from: 0,
-            line: Vec::new(alloc),
+            lines: Vec::new(alloc),
+            line: Span::default(),
             kept: Kept::new(alloc),
         };
         if !look.page {
             story.page.text.reserve(BLOCK_CAPACITY)?;
-            story.line.reserve(LONGEST_LINE)?;
+            story.lines.reserve(WIDEST * LONGEST_LINE)?;
         }
         Ok(story)
     }
@@ -59,7 +62,7 @@ impl Story {
             return true;
         }
         if self.entry.takes(record) {
-            self.page.truncate(self.from);
+            self.page.text.truncate(self.from);
             self.entry.add(record);
             return false;
         }
@@ -67,7 +70,7 @@ impl Story {
         if self.look.page || matches!(record.fate, BeatOutcome::NotOffered) {
             self.entry.add(record);
             self.entry.beats.from = self.kept.len();
-            self.from = self.page.len();
+            self.from = self.page.text.len();
         }
         if !self.look.page {
             put_sentence(&mut self.page, &self.walk, record);
@@ -101,19 +104,37 @@ impl Story {
         self.look.page | self.look.json | self.look.lanes
     }
 
-    /// Adds the text of a far beat, which is in `line`.
-    pub fn put_far_line(&mut self) {
-        self.page.put_text("    ");
-        self.page.put_bytes(&self.line);
+    /// Begins at the first of `count` lines in `lines`, which have the same length.
+    pub fn begin_lines(&mut self, count: usize) {
+        let to = self.lines.len() / count.max(1);
+        self.line = Span { from: 0, to };
     }
 
-    /// Adds a beat of a line, whose text is in `line`, with these lanes.
+    /// Advances to the next line in `lines`.
+    pub fn end_line(&mut self) {
+        let Span { from, to } = self.line;
+        self.line = Span {
+            from: to,
+            to: to.saturating_add(to.saturating_sub(from)),
+        };
+    }
+
+    /// Adds the text of the current far beat.
+    pub fn put_far_line(&mut self) {
+        let Span { from, to } = self.line;
+        self.page.put_text("    ");
+        self.page.put_bytes(self.lines.get(from..to).unwrap_or(&[]));
+    }
+
+    /// Adds the current beat of a line, with these lanes.
     pub fn put_beat(&mut self, record: &LineRecord, beat: &BeatRecord, lanes: &[u8]) {
+        let Span { from, to } = self.line;
+        let text = self.lines.get(from..to).unwrap_or(&[]);
         if self.look.page {
-            return self.kept.add_beat(beat, lanes, &self.line);
+            return self.kept.add_beat(beat, lanes, text);
         }
         if self.look.json {
-            return put_json_beat(&mut self.page, record, beat, lanes, &self.line);
+            return put_json_beat(&mut self.page, record, beat, lanes, text);
         }
         if beat.is_far {
             self.put_far_line();

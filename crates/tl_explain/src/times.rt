@@ -9,6 +9,9 @@ use tl_trace::line_end;
 /// The largest number of digits of a time before its decimal point, and after it.
 const MOST_DIGITS: usize = 18;
 
+/// The factor that makes a time with that many digits after its decimal point an integer.
+const SCALE: u128 = 1_000_000_000_000_000_000;
+
 /// The largest number of characters of a time's unit, including the space before it.
 const LONGEST_UNIT: usize = 3;
 
@@ -49,43 +52,24 @@ impl TimesFault {
     }
 }
 
-/// Returns the number of digits at the beginning of a text.
-fn digits_at_front(text: &[u8]) -> usize {
-    for at in 0..text.len() {
-        if !text[at].is_ascii_digit() {
-            return at;
-        }
-    }
-    text.len()
-}
-
 /// Returns the digits at the beginning of a text, and the rest of it.
 fn split_digits(text: &[u8]) -> (&[u8], &[u8]) {
-    let digits = digits_at_front(text);
-    (
-        text.get(..digits).unwrap_or(&[]),
-        text.get(digits..).unwrap_or(&[]),
-    )
+    let digits = text.iter().take_while(|byte| byte.is_ascii_digit()).count();
+    text.split_at_checked(digits).unwrap_or((text, &[]))
 }
 
 /// Returns whether a text is empty or a unit, such as ` ns`.
 fn is_unit(text: &[u8]) -> bool {
     let letters = text.strip_prefix(b" ").unwrap_or(text);
-    let mut are_letters = text.len() <= LONGEST_UNIT;
-    for letter in letters {
-        are_letters &= letter.is_ascii_alphabetic();
-    }
-    are_letters
+    text.len() <= LONGEST_UNIT && letters.iter().all(|byte| byte.is_ascii_alphabetic())
 }
 
 /// Returns the number in the first `places` digits, followed by zeros if there are fewer.
 fn number_of(digits: &[u8], places: usize) -> u128 {
-    let mut number = 0u128;
-    for at in 0..places {
+    (0..places).fold(0u128, |number, at| {
         let digit = digits.get(at).copied().unwrap_or(b'0').wrapping_sub(b'0');
-        number = number.saturating_mul(10).saturating_add(digit as u128);
-    }
-    number
+        number.saturating_mul(10).saturating_add(digit as u128)
+    })
 }
 
 /// Returns a time, multiplied by 10^18, without its unit. Returns `None` if the text is not a time.
@@ -96,48 +80,39 @@ fn time_of(text: &[u8]) -> Option<u128> {
     if !has_digits || !is_unit(unit) {
         return None;
     }
-    let mut scaled = number_of(whole, whole.len());
-    for _ in 0..MOST_DIGITS {
-        scaled = scaled.saturating_mul(10);
-    }
+    let scaled = number_of(whole, whole.len()).saturating_mul(SCALE);
     Some(scaled.saturating_add(number_of(fraction, MOST_DIGITS)))
 }
 
-/// Returns the time in the line from `at` to `end`, which follows a line with the time `last`.
-/// Errors:
+/// Returns the time in a line, which follows a line with the time `last`. Errors:
 /// - `TooFew` if there is no such line;
 /// - `NoTime` if the line is not a time or has no LF;
 /// - `Earlier` if its time is before `last`.
-fn time_behind(text: &[u8], end: usize, at: usize, last: u128) -> Result<u128, TimesKind> {
-    if at >= text.len() {
-        return Err(TimesKind::TooFew);
-    }
-    match (time_of(text.get(at..end).unwrap_or(&[])), text.get(end)) {
-        (Some(time), Some(_)) if time < last => Err(TimesKind::Earlier),
-        (Some(time), Some(_)) => Ok(time),
-        _ => Err(TimesKind::NoTime),
+fn time_in(line: Option<&[u8]>, last: u128) -> Result<u128, TimesKind> {
+    let line = line.ok_or(TimesKind::TooFew)?;
+    match line.strip_suffix(b"\n").and_then(time_of) {
+        Some(time) if time < last => Err(TimesKind::Earlier),
+        Some(time) => Ok(time),
+        None => Err(TimesKind::NoTime),
     }
 }
 
 /// Checks that a text has a line with a time for each of `beats` beats, that no time is before that
 /// of the line above, and that nothing follows. Errors: the first wrong line, and the reason.
 pub fn check_times(text: &[u8], beats: usize) -> Result<(), TimesFault> {
-    let (mut at, mut last, mut line) = (0, 0, 0u64);
+    let mut lines = text.split_inclusive(|byte| *byte == b'\n');
+    let (mut last, mut line) = (0, 1u64);
     for _ in 0..beats {
+        last = time_in(lines.next(), last).map_err(|kind| TimesFault { line, kind })?;
         line = line.saturating_add(1);
-        let end = line_end(text, at.min(text.len()));
-        match time_behind(text, end, at, last) {
-            Ok(time) => last = time,
-            Err(kind) => return Err(TimesFault { line, kind }),
-        }
-        at = end.saturating_add(1);
     }
-    if at < text.len() {
-        let line = line.saturating_add(1);
-        let kind = TimesKind::TooMany;
-        return Err(TimesFault { line, kind });
+    match lines.next() {
+        Some(_) => Err(TimesFault {
+            line,
+            kind: TimesKind::TooMany,
+        }),
+        None => Ok(()),
     }
-    Ok(())
 }
 
 /// The times of a trace's beats, and the position of the current one.

@@ -1,6 +1,5 @@
 //! A text that is not a valid trace: its first faulty line, the place of the fault, and what was
 //! expected.
-use crate::json::put_string;
 use crate::letters::form_of;
 use crate::likeness::{header_page, is_trace, put_length};
 use crate::places::{put_expected, put_no_channel, put_no_header, put_range};
@@ -13,7 +12,7 @@ use tl_trace::{Header, LONGEST_LINE, TraceFault, TraceKind, header_of_text, line
 
 /// The number of bytes of a line that are shown: the length of the longest line of a trace, so that
 /// the position of a beat's fault is among them.
-const SHOWN: usize = LONGEST_LINE;
+pub const SHOWN: usize = LONGEST_LINE;
 
 /// The number of possible widths of a bus: the powers of two from 1 on.
 const WIDTHS: u32 = WIDEST_POWER + 1;
@@ -22,14 +21,9 @@ const WIDTHS: u32 = WIDEST_POWER + 1;
 const DIGITS: &[u8; 16] = b"0123456789abcdef";
 
 /// Returns the line with this number, without its LF.
-fn line_at(text: &[u8], number: u64) -> &[u8] {
-    let mut rest = text;
-    for _ in 1..number {
-        let end = line_end(rest, 0);
-        rest = rest.get(end.saturating_add(1)..).unwrap_or(&[]);
-    }
-    let end = line_end(rest, 0);
-    &rest[..end]
+pub fn line_at(text: &[u8], number: u64) -> &[u8] {
+    let mut lines = text.split(|byte| *byte == b'\n');
+    lines.nth(number.saturating_sub(1) as usize).unwrap_or(&[])
 }
 
 /// A trace of one line, for trying bytes in it.
@@ -46,7 +40,7 @@ impl Trial {
         let mut trace = TextBuf::new(alloc, false);
         trace.put_bytes(header);
         trace.put_bytes(b"\n");
-        let start = trace.len();
+        let start = trace.text.len();
         trace.put_bytes(form);
         trace.put_bytes(b"\n");
         Trial { trace, start }
@@ -73,25 +67,15 @@ impl Trial {
 
     /// Returns the largest digit that is allowed at this position.
     fn largest_digit(&mut self, alloc: Global, at: usize) -> u8 {
-        let mut largest = b'0';
-        for digit in DIGITS {
-            if self.takes(alloc, at, *digit) {
-                largest = *digit;
-            }
-        }
-        largest
+        let mut digits = DIGITS.iter().rev();
+        let largest = digits.find(|digit| self.takes(alloc, at, **digit));
+        largest.copied().unwrap_or(b'0')
     }
 }
 
 /// Returns the length of the common beginning of a line and a text.
 fn same_bytes(line: &[u8], text: &[u8]) -> usize {
-    let most = line.len().min(text.len());
-    for at in 0..most {
-        if line[at] != text[at] {
-            return at;
-        }
-    }
-    most
+    line.iter().zip(text).take_while(|(a, b)| a == b).count()
 }
 
 /// Returns the length of the longest common beginning of a line and a valid header.
@@ -137,21 +121,6 @@ fn put_marked(out: &mut TextBuf, line: &[u8], at: usize) {
     out.put_text("^\n");
 }
 
-/// Returns the first position at which a line does not fit this form, and the largest digit that is
-/// allowed there.
-fn bad_place(
-    out: &mut TextBuf,
-    alloc: Global,
-    text: &[u8],
-    line: &[u8],
-    form: &[u8],
-) -> (usize, u8) {
-    let mut trial = Trial::new(alloc, line_at(text, 1), form);
-    out.out_of_memory |= trial.trace.out_of_memory;
-    let at = trial.bad_place(alloc, line, form.len());
-    (at, trial.largest_digit(alloc, at))
-}
-
 /// Returns the position of a line's fault, and the largest digit that is allowed there. The form is
 /// empty if the line has none.
 fn place_of(
@@ -165,12 +134,17 @@ fn place_of(
     match kind {
         TraceKind::Header => (header_place(out, alloc, line), 0),
         TraceKind::NoEnd if form.is_empty() => (line.len(), 0),
-        _ => bad_place(out, alloc, text, line, form),
+        _ => {
+            let mut trial = Trial::new(alloc, line_at(text, 1), form);
+            out.out_of_memory |= trial.trace.out_of_memory;
+            let at = trial.bad_place(alloc, line, form.len());
+            (at, trial.largest_digit(alloc, at))
+        }
     }
 }
 
 /// Writes what was expected in a line of this form. Returns the position of its fault.
-fn put_fault(
+pub fn put_fault(
     out: &mut TextBuf,
     alloc: Global,
     text: &[u8],
@@ -192,46 +166,11 @@ fn put_fault(
 
 /// Returns the form of a line's channel. Empty if the line is the first one or its channel is not
 /// known.
-fn form_at(text: &[u8], number: u64, line: &[u8]) -> ArrayVec<u8, LONGEST_LINE> {
+pub fn form_at(text: &[u8], number: u64, line: &[u8]) -> ArrayVec<u8, LONGEST_LINE> {
     match (header_of_text(text), line.first()) {
         (Some(header), Some(letter)) if number != 1 => form_of(*letter, &header),
         _ => ArrayVec::new(),
     }
-}
-
-/// Writes the first bytes of a line as a string.
-fn put_line_string(out: &mut TextBuf, line: &[u8]) {
-    put_string(out, line.get(..SHOWN).unwrap_or(line));
-}
-
-/// Returns the fault of a text that is not a valid trace as a line of JSON. Errors: `AllocError` if
-/// the allocator fails. The object has
-/// - the line, number and name of the fault, and what was expected;
-/// - the place in the line, counted from 0, and the first bytes of the line;
-/// - the form of the line, if its length is wrong.
-pub fn fault_record(alloc: Global, text: &[u8], fault: &TraceFault) -> Result<Vec<u8>, AllocError> {
-    let line = line_at(text, fault.line);
-    let form = form_at(text, fault.line, line);
-    let form = form.as_slice().trim_ascii_end();
-    let mut said = TextBuf::new(alloc, false);
-    let at = put_fault(&mut said, alloc, text, line, form, fault.kind);
-    let mut out = TextBuf::new(alloc, false);
-    let number = fault.number() as u64;
-    out.say(
-        "{\"line\":#,\"fault\":{\"number\":#,\"name\":\"#\",\"said\":",
-        &[Number(fault.line), Number(number), Text(fault.name())],
-    );
-    put_string(&mut out, &said.text);
-    let place = Number(at.min(SHOWN) as u64);
-    out.say("},\"place\":#,\"text\":", &[place]);
-    put_line_string(&mut out, line);
-    if let TraceKind::Length = fault.kind {
-        out.put_text(",\"form\":");
-        put_line_string(&mut out, form);
-    }
-    out.put_text("}\n");
-    out.out_of_memory |= said.out_of_memory;
-    out.into_text()
 }
 
 /// Returns the fault of a text that is not a valid trace in words: what was expected, the faulty

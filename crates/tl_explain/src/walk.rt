@@ -32,11 +32,7 @@ pub struct Position {
     pub near: usize,
     pub far: u64,
     pub messages: u64,
-    /// For the last message: the bytes in a near beat and in a far beat, the number of its beats, and
-    /// the number of those that were accepted.
-    near_bytes: usize,
-    far_bytes: usize,
-    beats: u64,
+    /// The number of beats of the last message that were accepted.
     pub accepted: u64,
 }
 
@@ -59,32 +55,8 @@ impl Position {
             near: 0,
             far: 0,
             messages: 0,
-            near_bytes: 1,
-            far_bytes: 1,
-            beats: 1,
             accepted: 0,
         }
-    }
-
-    /// Records how a beat was accepted that is beat `index` of its message and completed `count` far
-    /// beats.
-    fn accept(&mut self, record: &mut LineRecord, index: u32, count: usize) {
-        if index == 0 {
-            self.messages = self.messages.saturating_add(1);
-            self.near_bytes = bytes_of(&record.beat, self.w);
-            self.far_bytes = bytes_of(&record.beat, self.v);
-            self.beats = record.beat.beats(self.w) as u64;
-        }
-        record.index = index as u64;
-        record.beats = self.beats;
-        record.first_byte = (index as usize).saturating_mul(self.near_bytes);
-        record.far = self.far;
-        record.far_count = count as u64;
-        let end = record.first_byte.saturating_add(self.near_bytes);
-        record.staged = end % self.far_bytes.max(1);
-        record.far_bytes = self.far_bytes;
-        self.accepted = record.index.saturating_add(1);
-        self.far = self.far.saturating_add(record.far_count);
     }
 
     /// Writes the line of the first beat that the channel did not accept, and what happened to it.
@@ -202,23 +174,14 @@ impl Walk {
         letter
     }
 
-    /// Returns whether the next remark is on the current line.
-    fn has_remark(&self) -> bool {
-        match self.remarks.get(self.remarks_passed) {
-            Some(remark) => remark.message.line == self.line,
-            None => false,
-        }
-    }
-
     /// Advances past the remarks on the current line. Returns their position.
     fn pass_remarks(&mut self) -> Span {
-        let from = self.remarks_passed;
-        for _ in from..self.remarks.len() {
-            if !self.has_remark() {
-                break;
-            }
-            self.remarks_passed = self.remarks_passed.saturating_add(1);
-        }
+        let (from, line) = (self.remarks_passed, self.line);
+        let rest = self.remarks.get(from..).unwrap_or(&[]).iter();
+        let count = rest
+            .take_while(|remark| remark.message.line == line)
+            .count();
+        self.remarks_passed = from.saturating_add(count);
         Span {
             from,
             to: self.remarks_passed,
@@ -252,6 +215,7 @@ impl Walk {
 
     /// Records that a message begins in the line of this record. Numbers the exchange that it begins.
     fn begin_message(&mut self, record: &LineRecord) {
+        self.channel.messages = self.channel.messages.saturating_add(1);
         if let Some(first) = self.firsts.get_mut(place(record.beat.letter)) {
             *first = *record;
         }
@@ -268,15 +232,27 @@ impl Walk {
     /// Completes the record of an accepted beat, which is beat `index` of its message and completed
     /// `count` far beats.
     pub fn accept(&mut self, record: &mut LineRecord, index: u32, count: usize) {
-        self.channel.accept(record, index, count);
+        let Position { w, v, far, .. } = self.channel;
         if index == 0 {
             record.message = record.line;
+            record.beats = record.beat.beats(w) as u64;
+            record.far_bytes = bytes_of(&record.beat, v);
             self.begin_message(record);
         } else if let Some(first) = self.firsts.get(place(record.beat.letter)) {
             record.message = first.line;
+            record.beats = first.beats;
+            record.far_bytes = first.far_bytes;
             record.home = first.home;
             record.links = first.links;
         }
+        let bytes = bytes_of(&record.beat, w);
+        record.index = index as u64;
+        record.first_byte = (index as usize).saturating_mul(bytes);
+        record.staged = record.first_byte.saturating_add(bytes) % record.far_bytes.max(1);
+        record.far = far;
+        record.far_count = count as u64;
+        self.channel.far = far.saturating_add(record.far_count);
+        self.channel.accepted = record.index.saturating_add(1);
     }
 
     /// Advances past the current line.
@@ -290,26 +266,16 @@ impl Walk {
 
     /// Returns the first outstanding request of A, of this source if one is given.
     pub fn open_request(&self, source: Option<SourceId>) -> Option<Message> {
-        let (mut first, mut line) = (None, u64::MAX);
-        for exchange in &self.exchanges {
-            let ask = exchange.ask;
-            let is_asked_for = (ask.letter == b'A') & (source.unwrap_or(ask.id) == ask.id);
-            if exchange.is_open() & is_asked_for & (ask.line < line) {
-                (first, line) = (Some(ask), ask.line);
-            }
-        }
-        first
+        let open = self.exchanges.iter().filter(|exchange| exchange.is_open());
+        open.map(|exchange| exchange.ask)
+            .filter(|ask| ask.letter == b'A' && source.unwrap_or(ask.id) == ask.id)
+            .min_by_key(|ask| ask.line)
     }
 
     /// Returns the last request of A of this source.
     pub fn last_request(&self, source: SourceId) -> Option<Message> {
-        let (mut last, mut line) = (None, 0);
-        for exchange in &self.exchanges {
-            let ask = exchange.ask;
-            if (ask.letter == b'A') & (ask.id == source) & (ask.line > line) {
-                (last, line) = (Some(ask), ask.line);
-            }
-        }
-        last
+        let asks = self.exchanges.iter().map(|exchange| exchange.ask);
+        asks.filter(|ask| ask.letter == b'A' && ask.id == source)
+            .max_by_key(|ask| ask.line)
     }
 }

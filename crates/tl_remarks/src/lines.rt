@@ -11,12 +11,11 @@ impl Cursor {
     /// Advances to the next line with this letter. The letters are those of the lines from line 2
     /// on.
     pub fn seek(&mut self, letters: &[u8], letter: u8) {
-        for at in self.lines..letters.len() {
-            if letters[at] == letter {
-                self.lines = at + 1;
-                return;
-            }
-        }
+        let rest = letters.get(self.lines..).unwrap_or(&[]);
+        let before = rest.iter().position(|other| *other == letter);
+        self.lines = self
+            .lines
+            .saturating_add(before.map_or(0, |before| before + 1));
     }
 
     /// Returns the number of the current line.

@@ -2,24 +2,21 @@
 ghost use Rattle.tl_lanes.specs.Lanes.{IsWidth};
 
 use crate::beat_fields::{BeatFields, Describe, beat_fields_of};
-use crate::exchange::judge;
+use crate::exchange::{Stops, judge};
 use crate::fits::N_TO_B;
-use crate::in_order::{Stops, judge_in_order};
 use crate::lines::Cursor;
-use crate::remark::{Exchange, Message, Noted, Remark, Rule};
+use crate::remark::{Message, Noted, Rule};
 use std::alloc::Global;
 use tl_msg::{Beat, ChA, ChB, ChC, ChD, ChE, Kind, Verdict};
 use tl_trace::Script;
 
-/// The messages of the accepted beats.
+/// The messages of the accepted beats, and those that begin with a beat at which a channel stops.
 #[derive(Drop)]
 struct Notes {
     /// Messages that need a response, and the responses: a Grant is one of both.
     asks: Vec<Message>,
     answers: Vec<Message>,
-    /// The line at which each channel stops, and the messages that begin in these lines.
     stops: Stops,
-    stopped: Vec<Message>,
     noted: Noted,
 }
 
@@ -91,60 +88,38 @@ impl Notes {
     }
 
     /// Records that a channel stops at this beat, and the message that it begins if `begins` is
-    /// true.
+    /// true. A beat whose opcode its channel does not have begins no message.
     fn add_stop(&mut self, beat: &BeatFields, line: u64, begins: bool) {
         if let Some(stop) = self.stops.get_mut(beat.letter.wrapping_sub(b'A') as usize) {
             *stop = line;
         }
-        if begins {
-            let message = Message {
+        if begins && (beat.kind.is_some() || beat.letter == b'E') {
+            self.add(Message {
                 is_accepted: false,
                 ..message_of(beat, line, asked_on(beat))
-            };
-            self.noted.out_of_memory |= self.stopped.push(message).is_err();
+            });
         }
-    }
-
-    /// Sorts messages and responses by rank. Within a rank they stay in the order of lines.
-    fn sort_messages(&mut self) {
-        let asks = self.asks.sort_by_key(Message::rank);
-        let answers = self.answers.sort_by_key(Message::rank);
-        self.noted.out_of_memory |= asks.and(answers).is_err();
-    }
-
-    /// Sorts the remarks by line, and the exchanges by the line of the response.
-    fn sort_noted(&mut self) {
-        let remarks = self.noted.remarks.sort_by_key(Remark::line);
-        let exchanges = self.noted.exchanges.sort_by_key(Exchange::answer);
-        let ties = self.noted.ties.sort_by_key(Exchange::answer);
-        self.noted.out_of_memory |= remarks.and(exchanges).and(ties).is_err();
-    }
-
-    /// Matches messages and responses in the order of time, and adds remarks on both. The messages
-    /// at which channels stop take part.
-    fn judge_in_order(&mut self) {
-        for at in 0..self.stopped.len() {
-            if let Some(message) = self.stopped.get(at).copied() {
-                self.add(message);
-            }
-        }
-        self.sort_messages();
-        judge_in_order(&self.asks, &self.answers, &self.stops, &mut self.noted);
     }
 
     /// Matches messages and responses as the bridge does, and adds remarks on both. If `in_order`
     /// is true, matches them in the order of time as well, and adds only the remarks of that
-    /// matching.
-    fn judge(&mut self, verdicts: &[Verdict; 5], in_order: bool) {
-        self.sort_messages();
-        let wants_remarks = self.noted.wants_remarks;
-        self.noted.wants_remarks &= !in_order;
-        judge(&self.asks, &self.answers, verdicts, &mut self.noted);
-        self.noted.wants_remarks = wants_remarks;
+    /// matching. Sorts the remarks by line, and the exchanges by the line of the response.
+    fn judge(&mut self, in_order: bool) {
+        let asks = self.asks.sort_by_key(Message::rank);
+        let answers = self.answers.sort_by_key(Message::rank);
+        let noted = &mut self.noted;
+        let wants_remarks = noted.wants_remarks;
+        noted.wants_remarks &= !in_order;
+        judge(&self.asks, &self.answers, &self.stops, false, noted);
         if in_order {
-            self.judge_in_order();
+            noted.wants_remarks = wants_remarks;
+            judge(&self.asks, &self.answers, &self.stops, true, noted);
         }
-        self.sort_noted();
+        let remarks = noted.remarks.sort_by_key(|remark| remark.message.line);
+        let exchanges = noted.exchanges.sort_by_key(|exchange| exchange.answer);
+        let ties = noted.ties.sort_by_key(|tie| tie.answer);
+        let sorted = asks.and(answers).and(remarks).and(exchanges).and(ties);
+        noted.out_of_memory |= sorted.is_err();
     }
 }
 
@@ -226,10 +201,9 @@ pub fn notes_of<const C: usize, const M: usize>(
         asks: Vec::new(alloc),
         answers: Vec::new(alloc),
         stops: [u64::MAX; 5],
-        stopped: Vec::new(alloc),
         noted: Noted::new(alloc, wants_remarks),
     };
     add_script::<C, M>(&mut notes, letters, script, verdicts);
-    notes.judge(verdicts, in_order);
+    notes.judge(in_order);
     notes.noted
 }

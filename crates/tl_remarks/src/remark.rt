@@ -3,7 +3,7 @@ use std::alloc::Global;
 use tl_msg::Kind;
 
 /// A message of an exchange: one that needs a response, or its response.
-#[derive(Clone, Copy)]
+#[derive(Clone, Copy, Default)]
 pub struct Message {
     /// The line of its first beat, and the letter of its channel.
     pub line: u64,
@@ -93,13 +93,6 @@ pub struct Remark {
     pub partner: Message,
 }
 
-impl Remark {
-    /// Returns the line of its message.
-    pub(crate) fn line(&self) -> u64 {
-        self.message.line
-    }
-}
-
 /// A message, and the line in which its response begins.
 #[derive(Clone, Copy)]
 pub struct Exchange {
@@ -112,11 +105,6 @@ impl Exchange {
     /// Returns whether the message has no response.
     pub fn is_open(&self) -> bool {
         self.answer == u64::MAX
-    }
-
-    /// Returns the line of the response.
-    pub(crate) fn answer(&self) -> u64 {
-        self.answer
     }
 }
 

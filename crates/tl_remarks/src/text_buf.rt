@@ -67,11 +67,6 @@ const NAMES: &[&str; 20] = &[
     "ReleaseAck",
 ];
 
-/// Returns the last decimal digit of a number.
-fn decimal(number: u64) -> u8 {
-    b'0' + (number % 10) as u8
-}
-
 /// A text buffer that is written incrementally. Allocation failures are recorded and reported once,
 /// at the end.
 #[derive(Drop)]
@@ -117,14 +112,8 @@ impl TextBuf {
 
     /// Writes a number in decimal digits.
     pub fn put_number(&mut self, number: u64) {
-        match number {
-            0..=9 => self.put_bytes(&[decimal(number)]),
-            10..=99 => self.put_bytes(&[decimal(number / 10), decimal(number % 10)]),
-            _ => {
-                let mut buffer = Buffer::new();
-                self.put_bytes(buffer.format(number).as_bytes());
-            }
-        }
+        let mut buffer = Buffer::new();
+        self.put_bytes(buffer.format(number).as_bytes());
     }
 
     /// Writes a space, then the number in decimal, right-aligned in at least `room` columns.
@@ -184,24 +173,16 @@ impl TextBuf {
         self.put_hex(id as u64, id_digits(version));
     }
 
-    /// Writes a word in a colour of the terminal.
-    #[inline(never)]
-    fn put_in_colour(&mut self, colour: Colour, word: &str) {
+    /// Writes a word, in a colour of the terminal if the text has colours.
+    pub fn put_coloured(&mut self, colour: Colour, word: &str) {
+        if !self.has_colours {
+            return self.put_text(word);
+        }
         self.put_bytes(b"\x1b[");
         self.put_number(colour as u64);
         self.put_bytes(b"m");
         self.put_text(word);
         self.put_bytes(b"\x1b[0m");
-    }
-
-    /// Writes a word, in a colour if the page has colours.
-    #[inline(always)]
-    pub fn put_coloured(&mut self, colour: Colour, word: &str) {
-        if self.has_colours {
-            self.put_in_colour(colour, word);
-        } else {
-            self.put_text(word);
-        }
     }
 
     /// Writes the length of a message of this size.
@@ -253,15 +234,5 @@ impl TextBuf {
             rest = after;
         }
         self.put_text(rest);
-    }
-
-    /// Returns the number of bytes.
-    pub fn len(&self) -> usize {
-        self.text.len()
-    }
-
-    /// Shortens the text to its first `length` bytes.
-    pub fn truncate(&mut self, length: usize) {
-        self.text.truncate(length);
     }
 }

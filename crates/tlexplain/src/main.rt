@@ -84,22 +84,6 @@ fn has_colours(rt: &HostRuntime) -> bool {
         }
 }
 
-/// Explains the trace of a file, or that on standard input. `times` has the times of its beats, if
-/// these are known.
-fn explain(
-    rt: &HostRuntime,
-    file: Option<&str>,
-    times: Option<&[u8]>,
-    look: &DisplayOptions,
-) -> Result<bool, ExplainFault> {
-    let look = DisplayOptions {
-        colour: has_colours(rt),
-        ..*look
-    };
-    let mut source = source_of(rt, file)?;
-    run_explain(rt.alloc(), &mut source, &mut rt.stdout(), &look, times)
-}
-
 /// Prints the fault of the file of times and its line. Returns status 3.
 fn refuse_times(rt: &HostRuntime, path: &str, fault: TimesFault) -> ExitCode {
     let (line, said) = (fault.line, fault.sentence());
@@ -117,38 +101,48 @@ fn refuse_file(rt: &HostRuntime, path: &str, fault: TextFault) -> ExitCode {
     ExitCode::from(exit_status(&Err(fault)))
 }
 
-/// Reports the fault of an explanation, if there is one. `times` is the path of the file of times.
-/// Returns the exit status.
-fn end(rt: &HostRuntime, times: &str, ending: Result<bool, ExplainFault>) -> ExitCode {
-    match ending {
-        Ok(all_done) => status(rt, Ok(all_done)),
-        Err(ExplainFault::Text(fault)) => status(rt, Err(fault)),
-        Err(ExplainFault::Times(fault)) => refuse_times(rt, times, fault),
-    }
-}
-
 /// Returns the bytes of the file at this path. Errors: as for `source_of` and `read_all`.
 fn bytes_of(rt: &HostRuntime, path: &str) -> Result<Vec<u8>, TextFault> {
     let mut source = source_of(rt, Some(path))?;
     read_all(rt.alloc(), &mut source)
 }
 
+/// Explains the trace of a file, or that on standard input. `times` has the times of its beats, if
+/// these are known, and `path` is the path of their file. Returns the exit status.
+fn explain(
+    rt: &HostRuntime,
+    file: Option<&str>,
+    path: &str,
+    times: Option<&[u8]>,
+    look: &DisplayOptions,
+) -> ExitCode {
+    let look = DisplayOptions {
+        colour: has_colours(rt),
+        ..*look
+    };
+    let mut source = match source_of(rt, file) {
+        Ok(source) => source,
+        Err(fault) => return status(rt, Err(fault)),
+    };
+    match run_explain(rt.alloc(), &mut source, &mut rt.stdout(), &look, times) {
+        Ok(all_done) => status(rt, Ok(all_done)),
+        Err(ExplainFault::Text(fault)) => status(rt, Err(fault)),
+        Err(ExplainFault::Times(fault)) => refuse_times(rt, path, fault),
+    }
+}
+
 /// Executes a command. Returns the exit status.
 fn obey(rt: &HostRuntime, wish: &Wish<'_>) -> ExitCode {
-    match wish {
-        Wish::Explain {
-            file,
-            times: None,
-            look,
-        } => end(rt, "", explain(rt, *file, None, look)),
-        Wish::Explain {
-            file,
-            times: Some(path),
-            look,
-        } => match bytes_of(rt, path) {
-            Ok(times) => end(rt, path, explain(rt, *file, Some(&times), look)),
-            Err(fault) => refuse_file(rt, path, fault),
-        },
+    match *wish {
+        Wish::Explain { file, times, look } => {
+            let Some(path) = times else {
+                return explain(rt, file, "", None, &look);
+            };
+            match bytes_of(rt, path) {
+                Ok(times) => explain(rt, file, path, Some(&times), &look),
+                Err(fault) => refuse_file(rt, path, fault),
+            }
+        }
         Wish::Faults => status(rt, print_faults(rt)),
     }
 }

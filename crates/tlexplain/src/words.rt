@@ -44,74 +44,38 @@ struct Word {
     help: &'static str,
 }
 
+// A table of words: the name, the form and the help of each.
+macro_rules! words {
+    ($($name:literal, $form:expr, $help:literal;)*) => {
+        &[$(Word { name: $name, form: $form, help: $help }),*]
+    };
+}
+
 /// All words, in the order of the help.
-const WORDS: &[Word; 13] = &[
-    Word {
-        name: "FILE",
-        form: Form::Bare,
-        help: "Trace file to read [default: standard input]",
-    },
-    Word {
-        name: "lanes",
-        form: Form::Flag,
-        help: "Shows the lanes of each beat, highest first: '..' is not active, '--' masked out, '##' active without data, '!!' in the mask but not active",
-    },
-    Word {
-        name: "times",
-        form: Form::Named("TIMES", ValueParser::String),
-        help: "Shows the simulation time of each line, from this file, as tl_trace_monitor and tlbridge-trace write it; implies --in-order",
-    },
-    Word {
-        name: "in-order",
-        form: Form::Flag,
-        help: "Says that the lines are in the order of time",
-    },
-    Word {
-        name: "only",
-        form: Form::Named("WHAT", ValueParser::Names(&["problems"])),
-        help: "Shows only beats that were not accepted or have remarks",
-    },
-    Word {
-        name: "from",
-        form: Form::Named("LINE", ValueParser::Unsigned(0, u64::MAX)),
-        help: "Shows only this line and later ones",
-    },
-    Word {
-        name: "to",
-        form: Form::Named("LINE", ValueParser::Unsigned(0, u64::MAX)),
-        help: "Shows only this line and earlier ones",
-    },
-    Word {
-        name: "source",
-        form: Form::Named("ID", ValueParser::String),
-        help: "Shows only beats of this source, with as many digits as in the trace",
-    },
-    Word {
-        name: "channel",
-        form: Form::Named("LETTER", ValueParser::Names(&["A", "B", "C", "D", "E"])),
-        help: "Shows only beats of this channel",
-    },
-    Word {
-        name: "no-remarks",
-        form: Form::Flag,
-        help: "Leaves out the remarks, which a protocol monitor would make on accepted beats",
-    },
-    Word {
-        name: "html",
-        form: Form::Flag,
-        help: "Writes a page for a browser, with the lanes of each beat, instead of text",
-    },
-    Word {
-        name: "json",
-        form: Form::Flag,
-        help: "Writes JSON Lines instead of text: an object for each line, and one for the whole trace",
-    },
-    Word {
-        name: "faults",
-        form: Form::Flag,
-        help: "Prints what each fault means, and reads no trace",
-    },
-];
+const WORDS: &[Word; 13] = words! {
+    "FILE", Form::Bare, "Trace file to read [default: standard input]";
+    "lanes", Form::Flag,
+        "Shows the lanes of each beat, highest first: '..' is not active, '--' masked out, '##' active without data, '!!' in the mask but not active";
+    "times", Form::Named("TIMES", ValueParser::String),
+        "Shows the simulation time of each line, from this file, as tl_trace_monitor and tlbridge-trace write it; implies --in-order";
+    "in-order", Form::Flag, "Says that the lines are in the order of time";
+    "only", Form::Named("WHAT", ValueParser::Names(&["problems"])),
+        "Shows only beats that were not accepted or have remarks";
+    "from", Form::Named("LINE", ValueParser::Unsigned(0, u64::MAX)),
+        "Shows only this line and later ones";
+    "to", Form::Named("LINE", ValueParser::Unsigned(0, u64::MAX)),
+        "Shows only this line and earlier ones";
+    "source", Form::Named("ID", ValueParser::String),
+        "Shows only beats of this source, with as many digits as in the trace";
+    "channel", Form::Named("LETTER", ValueParser::Names(&["A", "B", "C", "D", "E"])),
+        "Shows only beats of this channel";
+    "no-remarks", Form::Flag,
+        "Leaves out the remarks, which a protocol monitor would make on accepted beats";
+    "html", Form::Flag, "Writes a page for a browser, with the lanes of each beat, instead of text";
+    "json", Form::Flag,
+        "Writes JSON Lines instead of text: an object for each line, and one for the whole trace";
+    "faults", Form::Flag, "Prints what each fault means, and reads no trace";
+};
 
 fn argument<'a>(alloc: Global, word: &Word) -> Arg<'a> {
     let made = Arg::new(alloc, word.name).help(word.help);

@@ -3,7 +3,7 @@ use Rattle.tl_settle.specs.Outcomes.{verdicts}
 use Rattle.tl_answer.proofs.Answering.{checks-text, of-both, near-is}
 use Rattle.tl_answer.proofs.Headers.{short}
 use Rattle.tl_stream.proofs.Lengths.{lines-few}
-use Rattle.tl_explain.proofs.explain.answer_to.Goals as goal
+use Rattle.tl_explain.proofs.explain.begin.Goals as goal
 
 pub verdicts_of-requires : goal.verdicts_of-requires
 verdicts_of-requires g c =
@@ -12,7 +12,7 @@ verdicts_of-requires g c =
     (lit< tt, (c.requires.0, (c.requires.1, short g.row.C g.row.M told.lines few _ told.script)))
 
 pub returns-clause-ok : goal.returns-clause-ok
-returns-clause-ok g c = of-both _ _ _ (λ made text-is done-is.
-    checks-text c.args.version g.row.C g.row.M c.requires.3.lines _ c.requires.3.told c.in-Ok.verdicts
-    (c.in-Ok.ensures ∙ ap (λ bs. verdicts bs) (near-is c.requires.3.lines _ c.requires.3.script)) _ text-is _ done-is)
-    c.with_answer.result c.with_answer.ensures.text c.with_answer.ensures.done
+returns-clause-ok g c =
+    let told = c.requires.3 in
+    checks-text c.args.version g.row.C g.row.M told.lines _ told.told c.in_ok-verdicts.verdicts
+    (c.in_ok-verdicts.ensures ∙ ap (λ bs. verdicts bs) (near-is told.lines _ told.script)) _ c.in_ok-answer.ensures.text _ c.in_ok-answer.ensures.done
