@@ -78,6 +78,9 @@ fn put_beats<K: Describe, const W: usize, const V: usize>(
         keep_lines::<K, W>(story, slice::from_ref(beat));
         story.put_beat(record, &record.near_beat(W), &beat.lanes);
     }
+    if far.is_empty() {
+        return;
+    }
     keep_lines::<K, V>(story, far);
     for number in 0..far.len() {
         let beat = &far[number];

@@ -117,15 +117,6 @@ fn put_alike(out: &mut TextBuf, alloc: Global, header: &Header, letter: u8, line
         || put_channel(out, alloc, header, line)
 }
 
-/// Writes that there are bytes after the end of a line; `last` is the last of them.
-fn put_behind(out: &mut TextBuf, last: u8) {
-    if last.is_ascii_graphic() {
-        out.put_text("; nothing may follow the last field: a trace has no comments");
-    } else {
-        put_blank_end(out, last);
-    }
-}
-
 /// Writes that a line has another length than this form, and the likely cause: a line of another
 /// version, width or channel, or one with bytes after its end. Otherwise writes the fault at the
 /// first position that does not fit the form.
@@ -147,8 +138,11 @@ pub fn put_length(
     if put_alike(out, alloc, &header, *letter, line) {
         return;
     }
-    if line.len() > form.len() && at == form.len() {
-        put_behind(out, *last);
+    let goes_on = line.len() > form.len() && at == form.len();
+    if goes_on && last.is_ascii_graphic() {
+        out.put_text("; nothing may follow the last field: a trace has no comments");
+    } else if goes_on {
+        put_blank_end(out, *last);
     } else {
         out.put_text("; at the mark ");
         put_expected(out, line, form, at);

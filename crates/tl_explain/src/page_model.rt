@@ -5,12 +5,13 @@ ghost use Rattle.tl_answer.specs.Texts.{IsAnswer};
 ghost use Rattle.tl_stream.specs.Inputs.{most_bytes};
 ghost use Rattle.tl_explain.specs.Explained.{IsUntold};
 
+use crate::beat_outcome::BeatOutcome;
 use crate::display_options::DisplayOptions;
 use crate::entry::Entry;
 use crate::explain::{Explanation, explanation_of};
 use crate::links::{Links, index_of, links_at};
 use crate::picture::Picture;
-use crate::record::{BeatRecord, Span};
+use crate::record::{BeatRecord, LineRecord, Span};
 use crate::walk::Walk;
 use std::alloc::{AllocError, Global};
 use std::io::Write;
@@ -96,6 +97,13 @@ pub fn exchange_of(links: &[Links], line: u64) -> u64 {
         }
     }
     first.exchange
+}
+
+impl LineRecord {
+    /// Returns whether its channel stops at the beat, which breaks a rule or waits.
+    pub fn is_fault(&self) -> bool {
+        matches!(self.fate, BeatOutcome::Refused(_) | BeatOutcome::Waiting(_))
+    }
 }
 
 /// The contents of a page on a trace.

@@ -73,11 +73,6 @@ pub fn bytes_of(beat: &BeatFields, w: usize) -> usize
 }
 
 impl LineRecord {
-    /// Returns whether its channel stops at the beat, which breaks a rule or waits.
-    pub fn is_fault(&self) -> bool {
-        matches!(self.fate, BeatOutcome::Refused(_) | BeatOutcome::Waiting(_))
-    }
-
     /// Returns whether its beat was not accepted, or it has remarks.
     pub fn is_problem(&self) -> bool {
         !matches!(self.fate, BeatOutcome::Accepted) || self.remarks.from < self.remarks.to

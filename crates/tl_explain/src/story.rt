@@ -106,7 +106,8 @@ impl Story {
 
     /// Begins at the first of `count` lines in `lines`, which have the same length.
     pub fn begin_lines(&mut self, count: usize) {
-        let to = self.lines.len() / count.max(1);
+        let length = self.lines.len();
+        let to = if count > 1 { length / count } else { length };
         self.line = Span { from: 0, to };
     }
 

@@ -32,8 +32,10 @@ fn accepted_at(messages: &[Message], at: usize) -> Option<Message> {
 
 /// Divides sorted messages into those of this rank and those after them.
 fn split_rank(messages: &[Message], rank: u128) -> (&[Message], &[Message]) {
-    let count = messages.partition_point(|message| message.rank() <= rank);
-    messages.split_at_checked(count).unwrap_or((messages, &[]))
+    let same = messages.iter().take_while(|message| message.rank() == rank);
+    messages
+        .split_at_checked(same.count())
+        .unwrap_or((messages, &[]))
 }
 
 impl Exchanges<'_> {

@@ -112,6 +112,9 @@ impl TextBuf {
 
     /// Writes a number in decimal digits.
     pub fn put_number(&mut self, number: u64) {
+        if number < 10 {
+            return self.put_bytes(&[b'0' + number as u8]);
+        }
         let mut buffer = Buffer::new();
         self.put_bytes(buffer.format(number).as_bytes());
     }
