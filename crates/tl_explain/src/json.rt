@@ -1,5 +1,5 @@
 //! Output as JSON Lines: an object for the outcome of each line of a trace, and one for the whole
-//! trace; or an object for the fault of a text that is not a valid trace.
+//! trace. A text that is not a valid trace has one object, for its fault.
 ghost use Rattle.std.specs.Prelude.{◌≤◌, false, length, IfOk, IfErr};
 ghost use Rattle.tl_stream.specs.Inputs.{most_bytes};
 ghost use Rattle.tl_explain.specs.Explained.{ShowsAnswer, IsUntold};

@@ -76,7 +76,7 @@ pub record TakesBeat {S P H : Type 0} {w : ℕ} (k : TakingChannel S P H w) (s :
   pub taken : (x : P) → k.Stands s x → k.Stands s' (k.after_take s x)
   pub rest : k.Keeps s s'
 
--- where a port N with pasts Q stands in its holder S, which represents pasts P
+-- the port N in a holder S: the holder represents pasts P, and the port pasts Q
 pub record Holds (S P N Q : Type 0) : Type 1 where
   pub Stands : S → P → Type 0
   pub port : S → N

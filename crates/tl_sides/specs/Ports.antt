@@ -37,8 +37,8 @@ pub record ManagerIsNew {C M : ℕ} (s : ManagerNow C M) : Type 0 where
   pub d : HasSent rules_d {w = M} s.d [] [] []
   pub book : KnowsManager {w = M} s.book []
 
--- The past of a port whose history has width n: its history of A and D, and the crossing of each channel. Of a channel
--- that it takes, only the inbox and the beats taken count.
+-- The past of a port whose history has width n: its history of A and D, and the crossing of each channel. The crossing
+-- of a channel that it takes counts only by its inbox and its taken beats.
 pub record PortPast (C M n : ℕ) : Type 0 where
   pub history : List (Event n)
   pub a : World HeadA C M
