@@ -4,6 +4,7 @@ ghost use Rattle.tl_lanes.specs.Lanes.{IsWidth};
 use crate::beat_fields::{BeatFields, Describe, beat_fields_of};
 use crate::exchange::{Stops, judge};
 use crate::fits::N_TO_B;
+use crate::in_order::judge_in_order;
 use crate::lines::Cursor;
 use crate::remark::{Message, Noted, Rule};
 use std::alloc::Global;
@@ -110,10 +111,10 @@ impl Notes {
         let noted = &mut self.noted;
         let wants_remarks = noted.wants_remarks;
         noted.wants_remarks &= !in_order;
-        judge(&self.asks, &self.answers, &self.stops, false, noted);
+        judge(&self.asks, &self.answers, &self.stops, noted);
         if in_order {
             noted.wants_remarks = wants_remarks;
-            judge(&self.asks, &self.answers, &self.stops, true, noted);
+            judge_in_order(&self.asks, &self.answers, &self.stops, noted);
         }
         let remarks = noted.remarks.sort_by_key(|remark| remark.message.line);
         let exchanges = noted.exchanges.sort_by_key(|exchange| exchange.answer);

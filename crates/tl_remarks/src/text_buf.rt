@@ -177,6 +177,7 @@ impl TextBuf {
     }
 
     /// Writes a word, in a colour of the terminal if the text has colours.
+    #[inline(always)]
     pub fn put_coloured(&mut self, colour: Colour, word: &str) {
         if !self.has_colours {
             return self.put_text(word);
