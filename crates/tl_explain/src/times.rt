@@ -106,11 +106,9 @@ pub fn check_times(text: &[u8], beats: usize) -> Result<(), TimesFault> {
         last = time_in(lines.next(), last).map_err(|kind| TimesFault { line, kind })?;
         line = line.saturating_add(1);
     }
+    let kind = TimesKind::TooMany;
     match lines.next() {
-        Some(_) => Err(TimesFault {
-            line,
-            kind: TimesKind::TooMany,
-        }),
+        Some(_) => Err(TimesFault { line, kind }),
         None => Ok(()),
     }
 }

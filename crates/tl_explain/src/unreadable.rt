@@ -102,10 +102,8 @@ fn header_place(out: &mut TextBuf, alloc: Global, line: &[u8]) -> usize {
 fn put_shown(out: &mut TextBuf, line: &[u8]) {
     out.put_text("    ");
     for byte in line.get(..SHOWN).unwrap_or(line) {
-        out.put_bytes(&[match *byte {
-            b' '..=b'~' => *byte,
-            _ => b'?',
-        }]);
+        let is_printable = matches!(byte, b' '..=b'~');
+        out.put_bytes(&[if is_printable { *byte } else { b'?' }]);
     }
     out.put_text("\n");
 }

@@ -110,10 +110,19 @@ impl TextBuf {
         self.put_bytes(word.as_bytes());
     }
 
+    /// Writes the last decimal digit of a number.
+    fn put_digit(&mut self, number: u64) {
+        let digit = b'0' + (number % 10) as u8;
+        self.out_of_memory |= self.text.push(digit).is_err();
+    }
+
     /// Writes a number in decimal digits.
     pub fn put_number(&mut self, number: u64) {
-        if number < 10 {
-            return self.put_bytes(&[b'0' + number as u8]);
+        if number < 100 {
+            if number >= 10 {
+                self.put_digit(number / 10);
+            }
+            return self.put_digit(number % 10);
         }
         let mut buffer = Buffer::new();
         self.put_bytes(buffer.format(number).as_bytes());
