@@ -1,5 +1,5 @@
 //! The run in one thread of a script that comes piece by piece.
-ghost use Rattle.std.specs.Prelude.{◌≡◌, ℕ, IsOk, IfOk, OnOk, length};
+ghost use Rattle.std.specs.Prelude.{◌≡◌, ℕ, IsOk, IfOk, OnOk};
 ghost use Rattle.tl_lanes.specs.Lanes.{IsWidth};
 ghost use Rattle.tl_settle.specs.Outcomes.{Beats, far_beats, verdicts};
 ghost use Rattle.tl_sides.specs.Bridges.{Past, StandsFor};

@@ -1,13 +1,13 @@
 -- The properties that an offer, a close and a take keep for the box that they are made to.
-use Rattle.std.proofs.Common.{◌≡◌, ◌↔◌, ◌++◌, ◌∷◌, [], ℕ, true, false, List, Option, Some, Result, Ok, Err, length, take, drop, refl, sym, subst, ap, ◌∙◌, append-nil}
+use Rattle.std.proofs.Common.{◌≡◌, ◌↔◌, ◌++◌, ◌∷◌, [], ℕ, true, false, List, Option, None, Some, Result, Ok, Err, length, map, take, drop, refl, sym, subst, ap, ◌∙◌, append-nil}
 use Rattle.std.specs.Prelude.{IfOk, IfErr, IfSome, IsOk, OnOk, OnErr, slice_get}
 use Rattle.tl_sides.proofs.Words.{Rules, rules_d, HeadD, BeatOf, left, IsPlaceOf, fault_after, homes_with, rest_of, due, Place, left-zero}
 use Rattle.tl_sides.proofs.Words.{Outgoing, HasSent, HasTaken, IsOpen, as_sent, World, offered, shut, drop-append_seam, Event, answered, manager_home}
 use Rattle.tl_sides.proofs.Words.{BeatFault, SideFault, EndFault, IsLawfulBeat}
 use Rattle.tl_settle.specs.Books.{Admits, Deciding, IsChecked}
-use Rattle.tl_sides.proofs.BridgeSteps.{home_given}
+use Rattle.tl_sides.proofs.BridgeSteps.{home_given, none_taken, some_taken}
 use Rattle.tl_sides.specs.Calls.{OffersBeat, ClosesChannel, TakesBeat}
-use Rattle.tl_sides.specs.Ports.{BookedAway, SentBooked, SentBy, booked_sends, inbox_takes, outbox_sends}
+use Rattle.tl_sides.specs.Ports.{BookedAway, SentBooked, SentBy, booked_sends, booked_takes, inbox_takes, outbox_sends}
 
 -- the result of an outbox's check holds for the beats that it accepted
 pub checked_in : {K H : Type 0} (r : Rules H) {w v : ℕ} (o : Outgoing H v) (bs : List (BeatOf H w)) (homes : List ℕ) (sent : List (BeatOf H v))
@@ -135,3 +135,29 @@ takes_inbox r i i' answer said = record {
   taken = λ x h. said.taken x.received x.taken h;
   rest = said.rest;
 }
+
+-- a channel takes the first beat of its inbox, if there is one, and the book records it
+module _ {Book H : Type 0} {v : ℕ} (r : Rules H) (event : BeatOf H v → Event v) (beats : List (Event v) → List (BeatOf H v))
+    (Knows : Book → List (Event v) → Type 0) (all : (es : List (Event v)) (bs : List (BeatOf H v)) → beats (es ++ map event bs) ≡ beats es ++ bs)
+    (i i' : List (BeatOf H v)) (book : Book) (rest : i' ≡ drop 1 i)
+    (gave : (received taken : List (BeatOf H v)) → HasTaken i received taken → HasTaken i' received (taken ++ take 1 i)) where
+  took : (answer : Option (BeatOf H v)) (book' : Book) → answer ≡ slice_get i 0 → IfSome answer (λ beat. IsLawfulBeat r beat) →
+      ((es : List (Event v)) → Knows book es → Knows book' (es ++ map event (take 1 i))) →
+      TakesBeat (booked_takes r event beats Knows) (record { box = i; book = book }) answer (record { box = i'; book = book' })
+  took answer book' first lawful knows = record {
+    beat = first;
+    lawful = lawful;
+    taken = λ x h. (gave x.received (beats x.history) h.0 ∙ ap (λ q. q ++ i') (sym (all x.history (take 1 i))), knows x.history h.1);
+    rest = rest;
+  }
+
+  pub took_none : None ≡ slice_get i 0 →
+      TakesBeat (booked_takes r event beats Knows) (record { box = i; book = book }) None (record { box = i'; book = book })
+  took_none empty = took None book empty tt
+      (λ es. subst (λ q. Knows book q) (sym (append-nil es) ∙ ap (λ q. es ++ map event q) (sym (none_taken i (sym empty)))))
+
+  pub took_one : (beat : BeatOf H v) (book' : Book) → Some beat ≡ slice_get i 0 → IsLawfulBeat r beat →
+      ((es : List (Event v)) → Knows book es → Knows book' (es ++ event beat ∷ [])) →
+      TakesBeat (booked_takes r event beats Knows) (record { box = i; book = book }) (Some beat) (record { box = i'; book = book' })
+  took_one beat book' first lawful knows = took (Some beat) book' first lawful
+      (λ es known. subst (λ q. Knows book' q) (ap (λ q. es ++ map event q) (sym (some_taken i beat (sym first)))) (knows es known))
