@@ -34,63 +34,40 @@ pub trait Describe: HeadText {
     fn seen(head: Self::Head) -> BeatFields;
 }
 
-// The fields of a head of A, B or C, whose heads have the same fields.
+// The fields of a beat with this letter and this message, and those of its head.
 macro_rules! seen_with {
-    ($letter:literal, $kind_on:path, $head:ident) => {
-        BeatFields {
-            letter: $letter,
-            kind: $kind_on($head.opcode),
-            opcode: $head.opcode,
-            param: $head.param,
-            size: $head.size,
-            source: $head.source,
-            address: $head.address,
-            ..BeatFields::default()
-        }
+    ($letter:literal, $kind:expr, $head:ident: $($field:ident)*) => {
+        BeatFields { letter: $letter, kind: $kind, $($field: $head.$field,)* ..BeatFields::default() }
     };
 }
 
 impl Describe for ChA {
     fn seen(head: HeadA) -> BeatFields {
-        seen_with!(b'A', Kind::on_a, head)
+        seen_with!(b'A', Kind::on_a(head.opcode), head: opcode param size source address)
     }
 }
 
 impl Describe for ChB {
     fn seen(head: HeadB) -> BeatFields {
-        seen_with!(b'B', Kind::on_b, head)
+        seen_with!(b'B', Kind::on_b(head.opcode), head: opcode param size source address)
     }
 }
 
 impl Describe for ChC {
     fn seen(head: HeadC) -> BeatFields {
-        seen_with!(b'C', Kind::on_c, head)
+        seen_with!(b'C', Kind::on_c(head.opcode), head: opcode param size source address)
     }
 }
 
 impl Describe for ChD {
     fn seen(head: HeadD) -> BeatFields {
-        BeatFields {
-            letter: b'D',
-            kind: Kind::on_d(head.opcode),
-            opcode: head.opcode,
-            param: head.param,
-            size: head.size,
-            source: head.source,
-            sink: head.sink,
-            denied: head.denied,
-            ..BeatFields::default()
-        }
+        seen_with!(b'D', Kind::on_d(head.opcode), head: opcode param size source sink denied)
     }
 }
 
 impl Describe for ChE {
     fn seen(head: HeadE) -> BeatFields {
-        BeatFields {
-            letter: b'E',
-            sink: head.sink,
-            ..BeatFields::default()
-        }
+        seen_with!(b'E', None, head: sink)
     }
 }
 

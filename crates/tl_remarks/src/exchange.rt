@@ -1,7 +1,6 @@
-//! Matching of messages with their responses.
+//! Matching of messages with their responses, as the bridge does.
 use crate::fits::rule_of;
 use crate::remark::{Message, Noted, Rule};
-use std::cmp::Ordering;
 
 /// The line at which each channel stops, from A to E: the line of its first beat that was not
 /// accepted, or `u64::MAX`. From that line on, it is not known which messages the channel carries.
@@ -22,40 +21,81 @@ pub fn answered_on(letter: u8) -> u8 {
     }
 }
 
-/// Matches accepted messages with responses as the bridge does, and adds remarks on both, in the
-/// order of their ranks. Both lists are sorted by rank. Within a rank the first message is matched
-/// with the first response, and so on, because an id is free for another message after the one
-/// before it has its response. A missing partner gets a remark only if its channel does not stop.
-pub fn judge(asks: &[Message], answers: &[Message], stops: &Stops, noted: &mut Noted) {
-    let (mut at, mut from) = (0usize, 0usize);
+/// The messages of one rank that need a response, and the responses of that rank, each in the order
+/// of lines. Only the last one of each can be a message that was not accepted.
+#[derive(Clone, Copy)]
+pub struct Exchanges<'a> {
+    pub asks: &'a [Message],
+    pub answers: &'a [Message],
+    pub stops: &'a Stops,
+}
+
+impl Exchanges<'_> {
+    /// Matches the first message with the first response, and so on, because an id is free for
+    /// another message after the one before it has its response. Adds remarks on both, unless the
+    /// order of time is known. A missing partner gets a remark only if its channel does not stop.
+    fn pair_up(&self, in_order: bool, noted: &mut Noted) {
+        for at in 0..self.asks.len().max(self.answers.len()) {
+            let ask = self.asks.get(at).filter(|ask| ask.is_accepted);
+            let answer = self.answers.get(at).filter(|answer| answer.is_accepted);
+            let (rule, message, partner) = match (ask, answer) {
+                (Some(ask), Some(answer)) => (rule_of(ask, answer), answer, ask),
+                (Some(ask), None) => {
+                    let is_missing = stop_of(self.stops, answered_on(ask.letter)) == u64::MAX;
+                    (is_missing.then_some(Rule::NotAnswered), ask, ask)
+                }
+                (None, Some(answer)) => {
+                    let is_missing = stop_of(self.stops, answer.asked_on) == u64::MAX;
+                    (is_missing.then_some(Rule::AnswersNothing), answer, answer)
+                }
+                (None, None) => continue,
+            };
+            if let Some(ask) = ask {
+                noted.push_exchange(ask, answer.map_or(u64::MAX, |answer| answer.line));
+            }
+            if !in_order {
+                noted.push_remark(rule, message, partner);
+            }
+        }
+    }
+}
+
+/// Divides sorted messages into those of this rank and those after them.
+fn split_rank(messages: &[Message], rank: u128) -> (&[Message], &[Message]) {
+    let same = messages.iter().take_while(|message| message.rank() == rank);
+    messages
+        .split_at_checked(same.count())
+        .unwrap_or((messages, &[]))
+}
+
+/// Matches messages with responses as the bridge does, and if `in_order` is true also in the order
+/// of time. Adds the remarks of one matching, the latter if it is made, in the order of ranks. Both
+/// lists are sorted by rank, and within a rank by line.
+pub fn judge(
+    asks: &[Message],
+    answers: &[Message],
+    stops: &Stops,
+    in_order: bool,
+    noted: &mut Noted,
+) {
+    let (mut asks, mut answers) = (asks, answers);
     for _ in 0..asks.len().saturating_add(answers.len()) {
-        let (ask, answer) = (asks.get(at), answers.get(from));
-        let order = match (ask, answer) {
-            (Some(ask), Some(answer)) => ask.rank().cmp(&answer.rank()),
-            (Some(_), None) => Ordering::Less,
-            (None, Some(_)) => Ordering::Greater,
+        let rank = match (asks.first(), answers.first()) {
+            (Some(ask), Some(answer)) => ask.rank().min(answer.rank()),
+            (Some(message), None) | (None, Some(message)) => message.rank(),
             (None, None) => return,
         };
-        let (has_ask, has_answer) = (order.is_le(), order.is_ge());
-        let ask = ask.filter(|ask| has_ask && ask.is_accepted);
-        let answer = answer.filter(|answer| has_answer && answer.is_accepted);
-        match (ask, answer) {
-            (Some(ask), Some(answer)) => {
-                noted.push_exchange(ask, answer.line);
-                noted.push_remark(rule_of(ask, answer), answer, ask);
-            }
-            (Some(ask), None) => {
-                noted.push_exchange(ask, u64::MAX);
-                let is_missing = stop_of(stops, answered_on(ask.letter)) == u64::MAX;
-                noted.push_remark(is_missing.then_some(Rule::NotAnswered), ask, ask);
-            }
-            (None, Some(answer)) => {
-                let is_missing = stop_of(stops, answer.asked_on) == u64::MAX;
-                noted.push_remark(is_missing.then_some(Rule::AnswersNothing), answer, answer);
-            }
-            (None, None) => {}
+        let (asked, asks_after) = split_rank(asks, rank);
+        let (answered, answers_after) = split_rank(answers, rank);
+        let exchanges = Exchanges {
+            asks: asked,
+            answers: answered,
+            stops,
+        };
+        exchanges.pair_up(in_order, noted);
+        if in_order {
+            exchanges.judge_in_order(noted);
         }
-        at = at.saturating_add(has_ask as usize);
-        from = from.saturating_add(has_answer as usize);
+        (asks, answers) = (asks_after, answers_after);
     }
 }

@@ -1,5 +1,5 @@
 //! Matching of messages with their responses in a trace whose lines are in the order of time.
-use crate::exchange::{Stops, answered_on, stop_of};
+use crate::exchange::{Exchanges, answered_on, stop_of};
 use crate::fits::rule_of;
 use crate::remark::{Message, Noted, Rule};
 use arrayvec::ArrayVec;
@@ -7,15 +7,6 @@ use arrayvec::ArrayVec;
 /// The largest number of messages that are assumed to share an id. If more would have to share it,
 /// the response to the first one is assumed to be missing.
 const MOST_SHARED: usize = 4;
-
-/// The messages of one rank that need a response, and the responses of that rank, each in the order
-/// of lines. Only the last one of each can be a message that was not accepted.
-#[derive(Clone, Copy)]
-struct Exchanges<'a> {
-    asks: &'a [Message],
-    answers: &'a [Message],
-    stops: &'a Stops,
-}
 
 /// Returns the number of messages, from index `from` up to the first one that does not come before
 /// this line.
@@ -130,7 +121,7 @@ impl Exchanges<'_> {
     }
 
     /// Matches all messages with their responses, and adds the remarks on them.
-    fn judge(&self, noted: &mut Noted) {
+    pub fn judge_in_order(&self, noted: &mut Noted) {
         let (mut at, mut from) = (0usize, 0usize);
         for _ in 0..self.asks.len() {
             let Some(ask) = self.asks.get(at) else {
@@ -144,36 +135,5 @@ impl Exchanges<'_> {
             from = from.saturating_add(answered);
         }
         self.leave(from, self.answers.len(), noted);
-    }
-}
-
-/// Divides sorted messages into those of this rank and those after them.
-fn split_rank(messages: &[Message], rank: u128) -> (&[Message], &[Message]) {
-    let same = messages.iter().take_while(|message| message.rank() == rank);
-    messages
-        .split_at_checked(same.count())
-        .unwrap_or((messages, &[]))
-}
-
-/// Records which response belongs to which message, and adds remarks on both, in the order of their
-/// ranks. Both lists are sorted by rank, and within a rank in the order of lines, which is the order
-/// of time.
-pub fn judge_in_order(asks: &[Message], answers: &[Message], stops: &Stops, noted: &mut Noted) {
-    let (mut asks, mut answers) = (asks, answers);
-    for _ in 0..asks.len().saturating_add(answers.len()) {
-        let rank = match (asks.first(), answers.first()) {
-            (Some(ask), Some(answer)) => ask.rank().min(answer.rank()),
-            (Some(message), None) | (None, Some(message)) => message.rank(),
-            (None, None) => return,
-        };
-        let (asked, asks_after) = split_rank(asks, rank);
-        let (answered, answers_after) = split_rank(answers, rank);
-        let exchanges = Exchanges {
-            asks: asked,
-            answers: answered,
-            stops,
-        };
-        exchanges.judge(noted);
-        (asks, answers) = (asks_after, answers_after);
     }
 }

@@ -4,7 +4,6 @@ ghost use Rattle.tl_lanes.specs.Lanes.{IsWidth};
 use crate::beat_fields::{BeatFields, Describe, beat_fields_of};
 use crate::exchange::{Stops, judge};
 use crate::fits::N_TO_B;
-use crate::in_order::judge_in_order;
 use crate::lines::Cursor;
 use crate::remark::{Message, Noted, Rule};
 use std::alloc::Global;
@@ -102,20 +101,13 @@ impl Notes {
         }
     }
 
-    /// Matches messages and responses as the bridge does, and adds remarks on both. If `in_order`
-    /// is true, matches them in the order of time as well, and adds only the remarks of that
-    /// matching. Sorts the remarks by line, and the exchanges by the line of the response.
+    /// Matches messages and responses, and adds remarks on both. Sorts the remarks by line, and the
+    /// exchanges by the line of the response.
     fn judge(&mut self, in_order: bool) {
         let asks = self.asks.sort_by_key(Message::rank);
         let answers = self.answers.sort_by_key(Message::rank);
         let noted = &mut self.noted;
-        let wants_remarks = noted.wants_remarks;
-        noted.wants_remarks &= !in_order;
-        judge(&self.asks, &self.answers, &self.stops, noted);
-        if in_order {
-            noted.wants_remarks = wants_remarks;
-            judge_in_order(&self.asks, &self.answers, &self.stops, noted);
-        }
+        judge(&self.asks, &self.answers, &self.stops, in_order, noted);
         let remarks = noted.remarks.sort_by_key(|remark| remark.message.line);
         let exchanges = noted.exchanges.sort_by_key(|exchange| exchange.answer);
         let ties = noted.ties.sort_by_key(|tie| tie.answer);

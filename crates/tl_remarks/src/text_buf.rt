@@ -200,18 +200,16 @@ impl TextBuf {
 
     /// Writes the length of a message of this size.
     pub fn put_length(&mut self, size: u8) {
-        match size {
-            0 => self.put_bytes(b"1 byte"),
-            1..=MAX_SIZE => {
-                self.put_number(1u64 << size);
-                self.put_bytes(b" bytes");
-            }
-            _ => {
-                self.put_bytes(b"2^");
-                self.put_number(size as u64);
-                self.put_bytes(b" bytes");
-            }
+        if size == 0 {
+            return self.put_bytes(b"1 byte");
         }
+        if size <= MAX_SIZE {
+            self.put_number(1u64 << size);
+        } else {
+            self.put_bytes(b"2^");
+            self.put_number(size as u64);
+        }
+        self.put_bytes(b" bytes");
     }
 
     /// Writes a piece.
