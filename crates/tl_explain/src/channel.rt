@@ -63,7 +63,7 @@ fn keep_lines<K: Describe, const W: usize>(story: &mut Story, beats: &[Beat<K, W
     // (tested here as well)
     let are_kept = is_width(W) && write_far::<K, W>(&mut story.lines, beats, version).is_ok();
     story.page.out_of_memory |= !are_kept;
-    story.begin_lines(beats.len());
+    story.line_length = story.lines.len() / beats.len().max(1);
 }
 
 /// Adds the beats of a line: the near beat, and the far beats that it completed.
@@ -75,8 +75,10 @@ fn put_beats<K: Describe, const W: usize, const V: usize>(
 ) {
     let has_lanes = story.has_lanes();
     if has_lanes {
-        keep_lines::<K, W>(story, slice::from_ref(beat));
-        story.put_beat(record, &record.near_beat(W), &beat.lanes);
+        if story.look.page {
+            keep_lines::<K, W>(story, slice::from_ref(beat));
+        }
+        story.put_beat(record, &record.near_beat(W), &beat.lanes, 0);
     }
     if far.is_empty() {
         return;
@@ -86,11 +88,11 @@ fn put_beats<K: Describe, const W: usize, const V: usize>(
         let beat = &far[number];
         if has_lanes {
             let fields = beat_fields_of::<K, V>(beat, story.walk.version);
-            story.put_beat(record, &record.far_beat(number, &fields, V), &beat.lanes);
+            let far_beat = record.far_beat(number, &fields, V);
+            story.put_beat(record, &far_beat, &beat.lanes, number);
         } else {
-            story.put_far_line();
+            story.put_far_line(number);
         }
-        story.end_line();
     }
 }
 
@@ -104,11 +106,11 @@ pub fn tell<K: Describe, const W: usize, const V: usize>(
     converter: &mut Converter<K, W, V>,
     far: &mut ArrayVec<Beat<K, V>, WIDEST>,
 ) {
-    let Some(beat) = beats.get(story.walk.channel.near) else {
+    let Some(beat) = beats.get(story.walk.channel_of(K::LETTER).near) else {
         return;
     };
     let fields = beat_fields_of::<K, W>(beat, story.walk.version);
-    let mut record = story.walk.record_of(&fields);
+    let mut record = story.walk.next_record(&fields);
     far.clear();
     if let BeatOutcome::Accepted = record.fate {
         let index = pass::<K, W, V>(converter, beat, record.home.unwrap_or(0), far);
@@ -118,5 +120,4 @@ pub fn tell<K: Describe, const W: usize, const V: usize>(
         put_beats::<K, W, V>(story, &record, beat, far.as_slice());
         story.end_shown(&record);
     }
-    story.walk.end_line();
 }

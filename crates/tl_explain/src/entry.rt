@@ -39,9 +39,7 @@ impl Entry {
         }
         self.last = record.line;
         self.count = self.count.saturating_add(1);
-        if let Some(channel) = self.channels.get_mut(place(record.beat.letter)) {
-            *channel = true;
-        }
+        self.channels[place(record.beat.letter)] = true;
     }
 
     /// Writes the sentence on several lines.
@@ -55,7 +53,7 @@ impl Entry {
             ],
         );
         for letter in LETTERS {
-            if self.channels.get(place(*letter)).copied().unwrap_or(false) {
+            if self.channels[place(*letter)] {
                 out.say(", # since ", &[Letter(*letter)]);
                 walk.channel_of(*letter).put_stop(out);
             }

@@ -1,11 +1,9 @@
 //! From a text to the outcome of each of its lines. (No function of a pair of widths is inlined
 //! into another one, because LLVM takes longer for eight large functions than for many small ones.)
-ghost use Rattle.std.specs.Prelude.{◌≡◌, ◌≤◌, ◌++◌, true, false, length, IfOk, OnOk, IfErr};
-ghost use Rattle.std.specs.List.{list_all};
+ghost use Rattle.std.specs.Prelude.{◌≡◌, ◌≤◌, true, false, length, IfOk, OnOk, IfErr};
 ghost use Rattle.tl_lanes.specs.Lanes.{IsWidth};
 ghost use Rattle.tl_trace.specs.Faults.{HasHeader};
 ghost use Rattle.tl_trace.specs.Scripts.{TellsScript};
-ghost use Rattle.tl_answer.specs.Answer.{far_header, report, is_done};
 ghost use Rattle.tl_answer.specs.Texts.{IsAnswer};
 ghost use Rattle.tl_stream.specs.Inputs.{most_bytes};
 ghost use Rattle.tl_stream.specs.declared.fault.TextFault.TheVariants.{OutOfMemory as NoMemory, Write as WriteFault};
@@ -19,7 +17,7 @@ use crate::letters::letters_of;
 use crate::story::Story;
 use crate::walk::Walk;
 use arrayvec::ArrayVec;
-use std::alloc::{AllocError, Global};
+use std::alloc::Global;
 use std::io::Write;
 use tl_answer::{Answer, TextFault, at_widths, check_of, known_header, write_all};
 use tl_check::verdicts_of;
@@ -55,7 +53,7 @@ fn tell_all<W: Write, const C: usize, const M: usize>(
     let mut way_e = Converter::<ChE, C, 1>::new();
     let mut far_e = ArrayVec::<Beat<ChE, 1>, WIDEST>::new();
     for at in 0..story.walk.lines() {
-        match story.walk.begin_line(at) {
+        match story.walk.letter_at(at) {
             b'A' => tell::<ChA, C, M>(story, &script.a, &mut way_a, &mut far_a),
             b'B' => tell::<ChB, M, C>(story, &script.b, &mut way_b, &mut far_b),
             b'C' => tell::<ChC, C, M>(story, &script.c, &mut way_c, &mut far_c),

@@ -5,7 +5,6 @@ use crate::lane_list::{lanes_of, put_lanes};
 use crate::record::LineRecord;
 use crate::sentences::name_of;
 use crate::walk::Walk;
-use tl_lanes::Mask;
 use tl_msg::{BeatFault, Kind, SideFault};
 use tl_remarks::Piece::{self, Address, Id, Length, Letter, Line, Number, Text};
 use tl_remarks::{BeatFields, TextBuf};
@@ -56,24 +55,18 @@ fn put_field(out: &mut TextBuf, beat: &BeatFields, fault: BeatFault) {
     }
 }
 
-/// Returns the wrong lanes of a mask, if a message has these active lanes, and the rule that it
-/// breaks.
-fn mask_rule(beat: &BeatFields, lanes: Mask) -> (Mask, &'static str) {
-    if beat.kind.is_some_and(Kind::is_partial) {
-        let rule = ", but it may have only active lanes, which are ";
-        (beat.mask & !lanes, rule)
-    } else {
-        let rule = ", but it has to have exactly the active lanes, which are ";
-        (beat.mask, rule)
-    }
-}
-
 /// Writes the sentence on a wrong mask on `w` lanes.
 fn put_mask(out: &mut TextBuf, beat: &BeatFields, w: usize) {
     let Some(lanes) = lanes_of(beat.address, beat.size, w) else {
         return out.put_text("the mask is wrong");
     };
-    let (wrong, rule) = mask_rule(beat, lanes);
+    let (wrong, rule) = if beat.kind.is_some_and(Kind::is_partial) {
+        let rule = ", but it may have only active lanes, which are ";
+        (beat.mask & !lanes, rule)
+    } else {
+        let rule = ", but it has to have exactly the active lanes, which are ";
+        (beat.mask, rule)
+    };
     out.put_text("the mask has ");
     put_lanes(out, wrong);
     out.put_text(rule);
@@ -194,7 +187,7 @@ pub fn put_fault(out: &mut TextBuf, walk: &Walk, beat: &BeatFields, fault: SideF
     match fault {
         SideFault::Beat(BeatFault::Mask) => put_mask(out, beat, walk.channel_of(beat.letter).w),
         SideFault::Beat(BeatFault::HeadChanged) => {
-            put_change(out, beat, &walk.first_of(beat.letter));
+            put_change(out, beat, walk.first_of(beat.letter));
         }
         SideFault::Beat(fault) => put_field(out, beat, fault),
         SideFault::SourceBusy => put_busy(out, walk, beat),

@@ -43,8 +43,7 @@ pub fn letters_of(alloc: Global, text: &[u8], header: &Header) -> Result<Vec<u8>
             break;
         };
         letters.push(*letter)?;
-        let length = lengths.get(place(*letter));
-        at = at.saturating_add(length.copied().unwrap_or(1));
+        at = at.saturating_add(lengths[place(*letter)]);
     }
     Ok(letters)
 }

@@ -51,26 +51,6 @@ fn put_version(out: &mut TextBuf, alloc: Global, header: &Header, letter: u8, li
     is_like
 }
 
-/// Returns the width of the bus on which the line has the form of its channel, if there is one.
-fn width_of(
-    out: &mut TextBuf,
-    alloc: Global,
-    header: &Header,
-    letter: u8,
-    line: &[u8],
-) -> Option<usize> {
-    (0..=WIDEST_POWER)
-        .map(|power| 1usize << power)
-        .find(|width| {
-            let other = Header {
-                client: *width,
-                manager: *width,
-                ..*header
-            };
-            fits(out, alloc, &other, letter, line)
-        })
-}
-
 /// Returns the side that sends on the channel with this letter, and its width.
 fn side_of(header: &Header, letter: u8) -> (&'static str, usize) {
     match letter {
@@ -82,7 +62,17 @@ fn side_of(header: &Header, letter: u8) -> (&'static str, usize) {
 /// Writes that the line has the form of its channel at another width, if that is so, and whether
 /// the header gave this width in bits. Returns whether the line has that form.
 fn put_width(out: &mut TextBuf, alloc: Global, header: &Header, letter: u8, line: &[u8]) -> bool {
-    let Some(width) = width_of(out, alloc, header, letter, line) else {
+    let width = (0..=WIDEST_POWER)
+        .map(|power| 1usize << power)
+        .find(|width| {
+            let other = Header {
+                client: *width,
+                manager: *width,
+                ..*header
+            };
+            fits(out, alloc, &other, letter, line)
+        });
+    let Some(width) = width else {
         return false;
     };
     let (side, said) = side_of(header, letter);

@@ -1,15 +1,12 @@
 //! Pictures of lanes.
 use crate::lane_list::{has_lane, lanes_of};
 use crate::record::BeatRecord;
-use tl_lanes::{Mask, WIDEST};
+use tl_lanes::Mask;
 use tl_remarks::Piece::{Byte, Text};
 use tl_remarks::{BeatFields, Piece, TextBuf};
 
 /// The number of lanes in a row.
 pub const ROW: usize = 16;
-
-/// The number of rows of the widest bus.
-const ROWS: usize = WIDEST / ROW;
 
 /// The most lanes of a bus whose numbers have at most two digits.
 const TWO_DIGITS: usize = 100;
@@ -94,51 +91,31 @@ impl<'a> Picture<'a> {
         }
     }
 
-    /// Writes the numbers of `count` lanes from `from` on, highest first.
-    fn put_numbers(&self, out: &mut TextBuf, from: usize, count: usize) {
-        let room = self.blanks().len().saturating_add(1);
-        for back in 0..count {
-            let lane = from.saturating_add(count - 1 - back);
-            out.put_column(lane as u64, room);
-        }
-    }
-
-    /// Writes the contents of these lanes.
-    fn put_lanes(&self, out: &mut TextBuf, from: usize, count: usize) {
-        let blanks = self.blanks();
-        for back in 0..count {
-            out.put_text(blanks);
-            out.put(self.lane(from.saturating_add(count - 1 - back)));
-        }
-    }
-
-    /// Writes up to one row of lanes, from lane `from` on: their numbers, and below them their
-    /// bytes.
+    /// Writes up to one row of lanes, from lane `from` on, highest first: their numbers, and below
+    /// them their bytes.
     fn put_row(&self, out: &mut TextBuf, name: &str, from: usize) {
-        let count = self.lanes.len().saturating_sub(from).min(ROW);
+        let (blanks, to) = (self.blanks(), from.saturating_add(ROW));
         out.put_text("    lane");
-        self.put_numbers(out, from, count);
+        for lane in (from..to.min(self.lanes.len())).rev() {
+            out.put_column(lane as u64, blanks.len().saturating_add(1));
+        }
         out.put_text("\n    ");
         out.put_text(name);
-        self.put_lanes(out, from, count);
-        out.put_text("\n");
-    }
-
-    /// Writes all lanes of a beat, highest first, in rows of 16.
-    fn put(&self, out: &mut TextBuf, name: &str) {
-        for row in 0..ROWS {
-            let from = (ROWS - 1 - row) * ROW;
-            if from < self.lanes.len() {
-                self.put_row(out, name, from);
-            }
+        for lane in (from..to.min(self.lanes.len())).rev() {
+            out.put_text(blanks);
+            out.put(self.lane(lane));
         }
+        out.put_text("\n");
     }
 }
 
-/// Writes the picture of a beat with these bytes on its lanes, if it has a mask or data and the lanes
-/// of its bytes are known.
+/// Writes the picture of a beat with these bytes on its lanes, highest first, in rows of 16. Writes
+/// nothing if it has no mask and no data, or the lanes of its bytes are not known.
 pub fn put_picture(out: &mut TextBuf, beat: &BeatRecord, lanes: &[u8]) {
     if let Some(picture) = Picture::of(&beat.fields, lanes, beat.home) {
-        picture.put(out, if beat.is_far { "far " } else { "near" });
+        let name = if beat.is_far { "far " } else { "near" };
+        for row in (0..lanes.len().div_ceil(ROW)).rev() {
+            picture.put_row(out, name, row.saturating_mul(ROW));
+        }
     }
 }

@@ -4,7 +4,7 @@ use crate::beat_outcome::BeatOutcome;
 use crate::faults::put_fault;
 use crate::record::LineRecord;
 use crate::walk::Walk;
-use tl_msg::{SideFault, Verdict};
+use tl_msg::Verdict;
 use tl_remarks::Piece::{self, Coloured, Letter, Line, Name, Number, Opcode, Text};
 use tl_remarks::{BeatFields, Colour, TextBuf, put_remark};
 
@@ -101,43 +101,31 @@ fn put_far(out: &mut TextBuf, record: &LineRecord) {
     }
 }
 
-/// Writes why a beat was not accepted, after this word for its status.
-fn put_refused(
-    out: &mut TextBuf,
-    walk: &Walk,
-    record: &LineRecord,
-    fault: SideFault,
-    word: Piece<'static>,
-) {
-    let number = Number(fault.number() as u64);
-    out.say("#, # #: ", &[word, number, Text(fault.name())]);
-    put_fault(out, walk, &record.beat, fault);
+/// Writes that a beat was accepted, the far beats that it completed, and the line of the request
+/// that it answers.
+fn put_accepted(out: &mut TextBuf, record: &LineRecord) {
+    out.put_coloured(Colour::Green, "accepted");
+    put_far(out, record);
+    if record.answers() != 0 {
+        out.put_text(", answers ");
+        out.put_line(record.answers());
+    }
 }
 
 /// Writes what happened to a line's beat.
 pub fn put_fate(out: &mut TextBuf, walk: &Walk, record: &LineRecord) {
-    match record.fate {
-        BeatOutcome::Accepted => {
-            out.put_coloured(Colour::Green, "accepted");
-            put_far(out, record);
-            if record.answers() != 0 {
-                out.put_text(", answers ");
-                out.put_line(record.answers());
-            }
-        }
-        BeatOutcome::Refused(fault) => {
-            let word = Coloured(Colour::Red, "refused");
-            put_refused(out, walk, record, fault, word);
-        }
-        BeatOutcome::Waiting(fault) => {
-            let word = Coloured(Colour::Yellow, "waiting");
-            put_refused(out, walk, record, fault, word);
-        }
+    let (word, fault) = match record.fate {
+        BeatOutcome::Accepted => return put_accepted(out, record),
+        BeatOutcome::Refused(fault) => (Coloured(Colour::Red, "refused"), fault),
+        BeatOutcome::Waiting(fault) => (Coloured(Colour::Yellow, "waiting"), fault),
         BeatOutcome::NotOffered => {
             out.put_text("not offered, since ");
-            walk.channel_of(record.beat.letter).put_stop(out);
+            return walk.channel_of(record.beat.letter).put_stop(out);
         }
-    }
+    };
+    let number = Number(fault.number() as u64);
+    out.say("#, # #: ", &[word, number, Text(fault.name())]);
+    put_fault(out, walk, &record.beat, fault);
 }
 
 /// Writes the sentence on a line.

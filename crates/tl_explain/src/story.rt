@@ -6,13 +6,19 @@ use crate::entry::Entry;
 use crate::json::{begin_object, put_json_beat, put_json_remarks, put_summary};
 use crate::page_model::Kept;
 use crate::picture::put_picture;
-use crate::record::{BeatRecord, LineRecord, Span};
+use crate::record::{BeatRecord, LineRecord};
 use crate::sentences::{put_cuts, put_remarks, put_sentence};
 use crate::walk::Walk;
 use std::alloc::{AllocError, Global};
 use tl_lanes::WIDEST;
 use tl_remarks::TextBuf;
 use tl_trace::LONGEST_LINE;
+
+/// Returns the line with this number, from 0, of lines that all have this length.
+fn line_in(lines: &[u8], length: usize, number: usize) -> &[u8] {
+    let from = number.saturating_mul(length);
+    lines.get(from..from.saturating_add(length)).unwrap_or(&[])
+}
 
 /// The output on the lines of a text, which is made line by line.
 #[derive(Drop)]
@@ -25,9 +31,9 @@ pub struct Story {
     /// position of their sentence in the output.
     pub entry: Entry,
     from: usize,
-    /// The texts of beats, as lines of a trace, and the position of the current one.
+    /// The texts of beats, as lines of a trace. All have the same length.
     pub lines: Vec<u8>,
-    line: Span,
+    pub line_length: usize,
     /// What a page shows.
     pub kept: Kept,
 }
@@ -44,7 +50,7 @@ impl Story {
             entry: Entry::default(),
             from: 0,
             lines: Vec::new(alloc),
-            line: Span::default(),
+            line_length: 0,
             kept: Kept::new(alloc),
         };
         if !look.page {
@@ -104,33 +110,22 @@ impl Story {
         self.look.page | self.look.json | self.look.lanes
     }
 
-    /// Begins at the first of `count` lines in `lines`, which have the same length.
-    pub fn begin_lines(&mut self, count: usize) {
-        let length = self.lines.len();
-        let to = if count > 1 { length / count } else { length };
-        self.line = Span { from: 0, to };
-    }
-
-    /// Advances to the next line in `lines`.
-    pub fn end_line(&mut self) {
-        let Span { from, to } = self.line;
-        self.line = Span {
-            from: to,
-            to: to.saturating_add(to.saturating_sub(from)),
-        };
-    }
-
-    /// Adds the text of the current far beat.
-    pub fn put_far_line(&mut self) {
-        let Span { from, to } = self.line;
+    /// Adds the text of a far beat: line `number`, from 0, of `lines`.
+    pub fn put_far_line(&mut self, number: usize) {
         self.page.put_text("    ");
-        self.page.put_bytes(self.lines.get(from..to).unwrap_or(&[]));
+        self.page
+            .put_bytes(line_in(&self.lines, self.line_length, number));
     }
 
-    /// Adds the current beat of a line, with these lanes.
-    pub fn put_beat(&mut self, record: &LineRecord, beat: &BeatRecord, lanes: &[u8]) {
-        let Span { from, to } = self.line;
-        let text = self.lines.get(from..to).unwrap_or(&[]);
+    /// Adds a beat of a line, with these lanes. Its text is line `number`, from 0, of `lines`.
+    pub fn put_beat(
+        &mut self,
+        record: &LineRecord,
+        beat: &BeatRecord,
+        lanes: &[u8],
+        number: usize,
+    ) {
+        let text = line_in(&self.lines, self.line_length, number);
         if self.look.page {
             return self.kept.add_beat(beat, lanes, text);
         }
@@ -138,7 +133,7 @@ impl Story {
             return put_json_beat(&mut self.page, record, beat, lanes, text);
         }
         if beat.is_far {
-            self.put_far_line();
+            self.put_far_line(number);
         }
         if self.look.lanes {
             put_picture(&mut self.page, beat, lanes);

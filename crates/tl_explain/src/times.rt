@@ -1,7 +1,5 @@
 //! The simulation times of a trace's beats, as `tl_trace_monitor` and `tlbridge-trace --times` write them:
 //! a line for each beat, in the order of the trace.
-ghost use Rattle.std.specs.Prelude.{◌≤◌, length};
-
 use crate::record::Span;
 use std::alloc::{AllocError, Global};
 use tl_trace::line_end;

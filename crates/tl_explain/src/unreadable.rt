@@ -8,7 +8,7 @@ use std::alloc::{AllocError, Global};
 use tl_lanes::WIDEST_POWER;
 use tl_remarks::Piece::{Number, Text};
 use tl_remarks::TextBuf;
-use tl_trace::{Header, LONGEST_LINE, TraceFault, TraceKind, header_of_text, line_end};
+use tl_trace::{Header, LONGEST_LINE, TraceFault, TraceKind, header_of_text};
 
 /// The number of bytes of a line that are shown: the length of the longest line of a trace, so that
 /// the position of a beat's fault is among them.

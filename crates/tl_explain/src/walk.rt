@@ -1,4 +1,6 @@
 //! The walk over the lines of a trace, which makes the record of each line.
+ghost use Rattle.std.specs.Prelude.{◌≤◌};
+
 use crate::beat_outcome::{BeatOutcome, fate_at};
 use crate::held::{HeldPair, line_of};
 use crate::links::{Links, index_of, links_at, links_of};
@@ -13,9 +15,11 @@ use tl_trace::Header;
 /// The letters of the channels.
 pub const LETTERS: &[u8; 5] = b"ABCDE";
 
-/// Returns the index of the channel with this letter among all five.
-pub fn place(letter: u8) -> usize {
-    letter.wrapping_sub(b'A') as usize
+/// Returns the index of the channel with this letter among all five; for any other byte that of E.
+pub fn place(letter: u8) -> usize
+    ensures { result ≤ 4 }
+{
+    (letter.wrapping_sub(b'A') as usize).min(4)
 }
 
 /// A channel, and the position in its beats.
@@ -86,12 +90,11 @@ pub struct Walk {
     /// The exchanges as the bridge matches them, and the beats for which others wait.
     exchanges: Vec<Exchange>,
     pub held: HeldPair,
-    /// The positions in the channels, from A to E, and that in the channel of the current line.
+    /// The positions in the channels, from A to E.
     pub channels: [Position; 5],
-    pub channel: Position,
     /// The record of the first beat of the last message of each channel, from A to E.
     firsts: [LineRecord; 5],
-    /// The number of the current line.
+    /// The number of the last line that has a record.
     line: u64,
 }
 
@@ -133,7 +136,6 @@ impl Walk {
             begun: 0,
             exchanges: noted.exchanges,
             held,
-            channel: channels[0],
             channels,
             firsts: [LineRecord::default(); 5],
             line: 1,
@@ -152,26 +154,19 @@ impl Walk {
         self.remarks.get(from..to).unwrap_or(&[])
     }
 
-    /// Returns the channel with this letter.
-    pub fn channel_of(&self, letter: u8) -> Position {
-        self.channels
-            .get(place(letter))
-            .copied()
-            .unwrap_or(self.channel)
+    /// Returns the position in the channel with this letter.
+    pub fn channel_of(&self, letter: u8) -> &Position {
+        &self.channels[place(letter)]
     }
 
     /// Returns the record of the first beat of the last message of the channel with this letter.
-    pub fn first_of(&self, letter: u8) -> LineRecord {
-        self.firsts.get(place(letter)).copied().unwrap_or_default()
+    pub fn first_of(&self, letter: u8) -> &LineRecord {
+        &self.firsts[place(letter)]
     }
 
-    /// Begins the line at this index, counted from line 2. Returns its letter.
-    #[inline(never)]
-    pub fn begin_line(&mut self, at: usize) -> u8 {
-        let letter = self.letters.get(at).copied().unwrap_or(b'E');
-        self.line = self.line.saturating_add(1);
-        self.channel = self.channel_of(letter);
-        letter
+    /// Returns the letter of the line at this index, counted from line 2.
+    pub fn letter_at(&self, at: usize) -> u8 {
+        self.letters.get(at).copied().unwrap_or(b'E')
     }
 
     /// Advances past the remarks on the current line. Returns their position.
@@ -188,12 +183,15 @@ impl Walk {
         }
     }
 
-    /// Returns the record of the current line, whose beat has these fields. The record of an accepted
-    /// beat is not complete.
-    pub fn record_of(&mut self, beat: &BeatFields) -> LineRecord {
-        let line = self.line;
+    /// Advances to the next line, whose beat has these fields. Returns its record, which is not
+    /// complete if the beat was accepted.
+    pub fn next_record(&mut self, beat: &BeatFields) -> LineRecord {
+        let line = self.line.saturating_add(1);
+        self.line = line;
         let links = links_at(&self.links, line);
-        let fate = fate_at(self.channel.near as u64, &self.channel.verdict);
+        let channel = &mut self.channels[place(beat.letter)];
+        let fate = fate_at(channel.near as u64, &channel.verdict);
+        channel.near = channel.near.saturating_add(1);
         let home = match (beat.letter, fate) {
             (b'D', BeatOutcome::Accepted) => Some(links.home),
             (b'D', _) => None,
@@ -215,30 +213,29 @@ impl Walk {
 
     /// Records that a message begins in the line of this record. Numbers the exchange that it begins.
     fn begin_message(&mut self, record: &LineRecord) {
-        self.channel.messages = self.channel.messages.saturating_add(1);
-        if let Some(first) = self.firsts.get_mut(place(record.beat.letter)) {
-            *first = *record;
-        }
-        if record.links.asked_in != 0 {
-            return;
-        }
-        let number = self.begun.saturating_add(1);
-        self.begun = number;
-        if let Some(links) = self.links.get_mut(index_of(record.line)) {
-            links.exchange = number;
+        let at = place(record.beat.letter);
+        self.firsts[at] = *record;
+        self.channels[at].messages = self.channels[at].messages.saturating_add(1);
+        if record.links.asked_in == 0 {
+            self.begun = self.begun.saturating_add(1);
+            if let Some(links) = self.links.get_mut(index_of(record.line)) {
+                links.exchange = self.begun;
+            }
         }
     }
 
     /// Completes the record of an accepted beat, which is beat `index` of its message and completed
     /// `count` far beats.
     pub fn accept(&mut self, record: &mut LineRecord, index: u32, count: usize) {
-        let Position { w, v, far, .. } = self.channel;
+        let at = place(record.beat.letter);
+        let Position { w, v, far, .. } = self.channels[at];
         if index == 0 {
             record.message = record.line;
             record.beats = record.beat.beats(w) as u64;
             record.far_bytes = bytes_of(&record.beat, v);
             self.begin_message(record);
-        } else if let Some(first) = self.firsts.get(place(record.beat.letter)) {
+        } else {
+            let first = &self.firsts[at];
             record.message = first.line;
             record.beats = first.beats;
             record.far_bytes = first.far_bytes;
@@ -251,17 +248,8 @@ impl Walk {
         record.staged = record.first_byte.saturating_add(bytes) % record.far_bytes.max(1);
         record.far = far;
         record.far_count = count as u64;
-        self.channel.far = far.saturating_add(record.far_count);
-        self.channel.accepted = record.index.saturating_add(1);
-    }
-
-    /// Advances past the current line.
-    pub fn end_line(&mut self) {
-        self.channel.near = self.channel.near.saturating_add(1);
-        let letter = self.channel.letter;
-        if let Some(channel) = self.channels.get_mut(place(letter)) {
-            *channel = self.channel;
-        }
+        self.channels[at].far = far.saturating_add(record.far_count);
+        self.channels[at].accepted = record.index.saturating_add(1);
     }
 
     /// Returns the first outstanding request of A, of this source if one is given.

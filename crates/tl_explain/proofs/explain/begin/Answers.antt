@@ -1,6 +1,6 @@
 use Rattle.std.proofs.Common.{lit<, ap, ◌∙◌}
 use Rattle.tl_settle.specs.Outcomes.{verdicts}
-use Rattle.tl_answer.proofs.Answering.{checks-text, of-both, near-is}
+use Rattle.tl_answer.proofs.Answering.{checks-text, near-is}
 use Rattle.tl_answer.proofs.Headers.{short}
 use Rattle.tl_stream.proofs.Lengths.{lines-few}
 use Rattle.tl_explain.proofs.explain.begin.Goals as goal
