@@ -1,7 +1,7 @@
 //! The command line.
 use clap::builder::ValueParser;
 use clap::error::{Error, ErrorKind};
-use clap::{Arg, ArgAction, ArgMatches, Command};
+use clap::{Arg, ArgAction, ArgGroup, ArgMatches, Command};
 use std::alloc::{AllocError, Global};
 use tl_explain::{DisplayOptions, LineFilter};
 
@@ -93,27 +93,12 @@ fn command<'a>(alloc: Global) -> Result<Command<'a>, AllocError> {
     for word in WORDS {
         command = command.arg(argument(alloc, word))?;
     }
-    Ok(command)
-}
-
-/// Returns the matches of `command` in these words.
-fn matches_of<'a>(alloc: Global, words: &'a [String]) -> Result<ArgMatches<'a>, Error> {
-    match command(alloc) {
-        Ok(command) => command.try_get_matches_from(words),
-        Err(error) => Err(Error::from(error)),
-    }
+    command.group(ArgGroup::new(alloc, "output").arg("html")?.arg("json")?)
 }
 
 /// Returns an error with this message, followed by the usage.
 fn refusal(alloc: Global, message: &str) -> Result<Error, AllocError> {
-    match command(alloc) {
-        Ok(mut command) => {
-            let refused = command.error(ErrorKind::ValueValidation, message);
-            drop(command);
-            refused
-        }
-        Err(error) => Err(error),
-    }
+    command(alloc)?.error(ErrorKind::ValueValidation, message)
 }
 
 /// Returns the error for a wrong value of `--source`.
@@ -133,11 +118,6 @@ fn source_of(alloc: Global, matches: &ArgMatches<'_>) -> Result<Option<u16>, Err
         Ok(source) => Ok(Some(source)),
         Err(_) => Err(wrong_source(alloc, word).unwrap_or_else(Error::from)),
     }
-}
-
-/// Returns the error for two forms of output.
-fn two_forms(alloc: Global) -> Result<Error, AllocError> {
-    refusal(alloc, "'--json' cannot be used with '--html'")
 }
 
 /// Returns the letter of the channel given by `--channel`, if there is one.
@@ -169,30 +149,19 @@ fn wish_in<'a>(alloc: Global, matches: &ArgMatches<'a>) -> Result<Wish<'a>, Erro
     if matches.get_flag("faults") {
         return Ok(Wish::Faults);
     }
-    if matches.get_flag("json") && matches.get_flag("html") {
-        return Err(two_forms(alloc).unwrap_or_else(Error::from));
-    }
-    match source_of(alloc, matches) {
-        Ok(source) => Ok(Wish::Explain {
-            file: matches.get_str("FILE"),
-            times: matches.get_str("times"),
-            look: look_of(matches, source),
-        }),
-        Err(error) => Err(error),
-    }
+    let source = source_of(alloc, matches)?;
+    Ok(Wish::Explain {
+        file: matches.get_str("FILE"),
+        times: matches.get_str("times"),
+        look: look_of(matches, source),
+    })
 }
 
 /// Returns the command in the words of a command line. The first word is the program's name.
 /// Errors: clap's error for any other command line; also help and the version.
 pub fn wish_of<'a>(alloc: Global, words: &'a [String]) -> Result<Wish<'a>, Error> {
-    match matches_of(alloc, words) {
-        Ok(matches) => {
-            let wish = wish_in(alloc, &matches);
-            drop(matches);
-            wish
-        }
-        Err(error) => Err(error),
-    }
+    let matches = command(alloc)?.try_get_matches_from(words)?;
+    wish_in(alloc, &matches)
 }
 
 /// Returns the error for a command line with a word that is not UTF-8.
