@@ -23,7 +23,7 @@ INTERFACE := $(shell sed -n 's/^.define TL_VERSION \([0-9]*\)$$/\1/p' include/tl
 underscored := $(subst :,_,$(PAIRS))
 pair_archives := $(underscored:%=out/libtlbridge_%.a)
 archives := $(pair_archives) out/libtlbridge_trace.a
-proved := crates.txt tools/make-library $(shell find $(wildcard crates/*/src crates/*/specs crates/*/proofs) -type f)
+proved := crates.txt bench/make-library $(shell find $(wildcard crates/*/src crates/*/specs crates/*/proofs) -type f)
 root := $(DESTDIR)$(PREFIX)
 share := $(root)/share/tlbridge
 again = $(MAKE) --no-print-directory
@@ -49,7 +49,7 @@ test:
 	@tests/all $(if $(filter both,$(BUILDS)),--both-builds)
 
 out/libtlbridge_%.a: $(proved)
-	tools/make-library $(subst _, ,$*)
+	bench/make-library $(subst _, ,$*)
 
 # One library has all pairs, the answer to a trace, the scoreboard, and the functions that the SystemVerilog package imports. The list of pairs
 # is written again if it has changed.
@@ -102,7 +102,7 @@ install-files:
 	install -m 644 README.md VERSION $(wildcard CHANGELOG.md) $(share)
 	ln -sfn ../../include $(share)/include
 	chmod -R u+rwX,go+rX-w $(share) $(root)/share/man/man1/tlbridge*.1 $(root)/share/man/man1/tlexplain.1
-	tools/cut-links $(share)
+	scripts/cut-links $(share)
 	install -d $(root)/share/doc && rm -rf $(root)/share/doc/tlbridge && ln -s ../tlbridge $(root)/share/doc/tlbridge
 
 # The archives of single pairs, which are ready first.

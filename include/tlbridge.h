@@ -1,7 +1,7 @@
 /* A TileLink width adapter and clock crossing for C. Each side has a handle; both sides may run in one thread, or each in its own thread.
  *
  * A library libtlbridge_C_M.a is for one pair of widths: C bytes on the client's link and M on the manager's, each 1, 2, 4, 8, 16, 32, 64
- * or 128. `tools/make-library C M` makes it. TLBRIDGE(C, M) declares its calls. One file may declare several pairs:
+ * or 128. `bench/make-library C M` makes it. TLBRIDGE(C, M) declares its calls. One file may declare several pairs:
  *
  *     #include "tlbridge.h"
  *     TLBRIDGE(8, 4)
@@ -257,7 +257,7 @@ static inline void tl_mask_add(tl_beat *beat, unsigned lane) {
 }
 
 /* The answer to a whole trace, or the fault of the trace. It has neither if it is all zero. It belongs to another library,
- * libtlbridge_trace.a, which is for all pairs of widths: `tools/make-library trace` makes it. */
+ * libtlbridge_trace.a, which is for all pairs of widths: `bench/make-library trace` makes it. */
 typedef struct {
     const uint8_t *text; /* the bytes of the answer, without a zero at the end; NULL if there is no answer */
     size_t length;
