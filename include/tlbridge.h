@@ -1,7 +1,7 @@
 /* A TileLink width adapter and clock crossing for C. Each side has a handle; both sides may run in one thread, or each in its own thread.
  *
  * A library libtlbridge_C_M.a is for one pair of widths: C bytes on the client's link and M on the manager's, each 1, 2, 4, 8, 16, 32, 64
- * or 128. `bench/make-library C M` makes it. TLBRIDGE(C, M) declares its calls. One file may declare several pairs:
+ * or 128. `tools/make-library C M` makes it. TLBRIDGE(C, M) declares its calls. One file may declare several pairs:
  *
  *     #include "tlbridge.h"
  *     TLBRIDGE(8, 4)
@@ -13,20 +13,25 @@
  * The client's side offers beats of A, C and E, and takes beats of B and D. The manager's side offers B and D, and takes A, C and E. An
  * accepted near beat stages the far beats that it completes. `pump` moves them into rings, `fetch` moves them from the other side's rings
  * into inboxes, and `take` removes them from there. In one thread, `settle` does both on both sides until nothing more can move.
- * docs/LIBRARY.md says what is proved of each call.
+ * docs/ASSURANCE.md, "The calls of C", says what is proved of each call.
  *
  * The proofs hold for every sequence of calls if the caller guarantees these points:
  *   - Each pointer is to memory of its type, complete and aligned, that nothing else uses during the call. No two pointers of one call
  *     overlap.
  *   - A handle, and a tl_answer, is all zero before its first call. Only these calls change it. It is never copied. It is passed only to the
  *     calls of its own pair of widths and its own side.
- *   - A handle is in one call at a time. It may move to another thread if the calls on it so far happen before the next one, for example
- *     through pthread_create, pthread_join or a mutex. Different handles are independent, and so are the two of one bridge: their calls may
+ *   - A handle is in one call at a time. Calls on one handle from several threads must be ordered by happens-before, for example by
+ *     pthread_create, pthread_join or a mutex. Different handles are independent, and so are the two of one bridge: their calls may
  *     run at the same moment. Only open, meet and settle use both handles. open first frees whatever they held.
- *   - Two sides that meet, and have the same number, come from one open.
+ *   - Two sides that meet, and have the same number and opening, come from one open. So two bridges that are open in different handles have
+ *     different numbers if a side of one may meet a side of the other.
+ *   - A receipt is passed to drained as finish wrote it. If it may be from a bridge in other handles, the two bridges have different numbers.
+ *     The calls refuse every other wrong receipt: zeros, what count wrote, the receipt of the side itself, and one of an earlier open of the
+ *     same handles.
  *   - No call is made in a signal handler, or in the forked child of a process with threads.
- *   - malloc, realloc and free are one allocator, which aligns a block of n bytes to each power of two up to 16 that divides n.
- * A handle whose side was freed is zero again. Each call on it returns what it returns on a handle that was never opened.
+ *   - malloc, realloc and free are one allocator with malloc's usual alignment: a block of n bytes has that of the largest power of two up to
+ *     16 that divides n.
+ * A handle whose side was freed is zero again, except for `opening`. Each call on it returns what it returns on a handle that was never opened.
  */
 #ifndef TLBRIDGE_H
 #define TLBRIDGE_H
@@ -39,10 +44,10 @@
 #define TLBRIDGE_VERSION "0.7.0"
 
 /* The version of this interface, which is also in the shared library's SONAME. A library with another version has other calls or structures. */
-#define TL_VERSION 6
+#define TL_VERSION 7
 
-/* The statuses that calls return. 0 is success. On any other value nothing has changed, with two exceptions: a failed open leaves both handles
- * empty, and a failed tl_answer_trace frees the earlier answer and writes the line of the fault. */
+/* The statuses that calls return. 0 is success. A call that returns another value has changed nothing, with two exceptions: a failed open leaves
+ * both handles empty, and a failed tl_answer_trace frees the earlier answer and writes the line of the fault. */
 enum {
     TL_OK = 0,
     /* faults of a beat: docs/SPECIFICATION.md, section 6 */
@@ -57,31 +62,33 @@ enum {
     TL_SOURCE_BUSY = 8,
     TL_NO_REQUEST = 9,
     TL_SIZE_MISMATCH = 10,
-    /* of close */
+    /* returned by close */
     TL_MID_BURST = 11,
-    /* of open; TL_OUT_OF_MEMORY also of tl_answer_trace */
+    /* returned by open; tl_answer_trace also returns TL_OUT_OF_MEMORY */
     TL_RING_SIZE = 12,
     TL_OUT_OF_MEMORY = 13,
-    /* of tl_answer_trace: the fault of the first faulty line, section 11 */
+    /* returned by tl_answer_trace: the fault of the first faulty line, section 11 */
     TL_HEADER = 14,
     TL_CHANNEL_LETTER = 15,
     TL_LENGTH = 16,
     TL_SHAPE = 17,
     TL_RANGE = 18,
     TL_NO_END = 19,
-    /* only of the program tlbridge */
+    /* reported only by the program tlbridge */
     TL_STALLED = 20,
     TL_READ = 21,
     TL_WRITE = 22,
-    /* of tl_answer_trace: the text has more than 67,108,864 bytes */
+    /* returned by tl_answer_trace: the text has more than 67,108,864 bytes */
     TL_TOO_LONG = 23,
-    /* of drained: the number of beats taken is not that of the receipt */
+    /* returned by drained: the number of beats taken is not that of the receipt */
     TL_NOT_TAKEN = 249,
-    /* of meet, settle and drained: the numbers of the two bridges differ */
+    /* of drained: not a receipt of the other side, or a receipt of another open of the handle */
+    TL_WRONG_RECEIPT = 250,
+    /* of meet and settle: the two sides have different numbers or openings. In drained, the receipt has the number of another bridge */
     TL_BRIDGE_MISMATCH = 251,
-    /* the handle has no side; of meet and settle, one of the two handles has none */
+    /* the handle has no side, or one of the two handles of meet and settle has none */
     TL_NOT_OPEN = 252,
-    /* of finish: a channel that the side sends is still open, or far beats are staged */
+    /* returned by finish: a channel that the side sends is still open, or far beats are staged */
     TL_NOT_SENT = 253,
     /* the channel takes no beat now: far beats are staged, or it is closed */
     TL_NOT_READY = 254
@@ -132,14 +139,19 @@ typedef struct {
     tl_counts a, b, c, d, e;
 } tl_standings;
 
+/* The side whose receipt a tl_totals is. */
+enum { TL_NO_RECEIPT = 0, TL_CLIENT_FINISHED = 1, TL_MANAGER_FINISHED = 2 };
+
 /* The number of far beats that a side has sent since open on each channel that it sends, and the number taken from it on each of the others.
  * A receipt has the same fields. Each number is exact if it is below 2^63. */
 typedef struct {
-    uint64_t bridge; /* the number that was passed to open */
+    uint64_t bridge;   /* the number that was passed to open */
+    uint64_t opening;  /* that of the side's handle */
+    uint64_t finished; /* TL_CLIENT_FINISHED or TL_MANAGER_FINISHED if finish of that side wrote this, and TL_NO_RECEIPT if count did */
     uint64_t a, b, c, d, e;
 } tl_totals;
 
-/* Returns whether no far beat waits. If so, all far beats that the accepted beats call for were taken. */
+/* Returns true if no beat is in flight: all far beats that the accepted beats require were taken. */
 static inline bool tl_drained(const tl_standings *standings) {
     const tl_counts of[] = {standings->a, standings->b, standings->c, standings->d, standings->e};
     for (int x = 0; x < 5; x++)
@@ -170,13 +182,14 @@ typedef struct {
  * All are total: if a handle has no side, they return TL_NOT_OPEN, false or 0 and change nothing. `side` is the client's handle to offer A, C
  * and E and to take B and D, and the manager's handle to offer B and D and to take A, C and E.
  *
- *   tl_CLIENT_MANAGER_client             The two types of handles. A handle that is all zero has no side.
- *   tl_CLIENT_MANAGER_manager
+ *   tl_CLIENT_MANAGER_client             The two types of handles. A handle that is all zero has no side. `opening` is higher after each
+ *   tl_CLIENT_MANAGER_manager            open that succeeds (up to 2^64 - 1), and free keeps it.
  *   open(client, manager, ring, bridge)  Frees what the handles held, creates a bridge, and gives each handle its side. Each of the five rings
  *                                        has room for `ring` beats, 1 to 4,096. `bridge` is any number; it distinguishes this bridge from
  *                                        others. Call it before another thread has one of the handles. It allocates all memory that the
- *                                        bridge needs: the rings, and 1,088 KiB of tables for the 65,536 sources. Returns TL_OK, TL_RING_SIZE
- *                                        or TL_OUT_OF_MEMORY; in the last two cases both handles are empty.
+ *                                        bridge needs: the rings, and 1,088 KiB of tables for the 65,536 sources. Each side then knows that its
+ *                                        rings are empty. Returns TL_OK, TL_RING_SIZE or TL_OUT_OF_MEMORY; in the last two cases both handles
+ *                                        are empty.
  *   free_client(client),                 Free a side, and do nothing if the handle is empty. The other side stays usable, but receives nothing
  *   free_manager(manager)                new, and what it sends collects in its rings and stages until they are full.
  *   ready_x(side)                        Returns whether a beat of x may be offered: nothing of x is staged, and x is not closed.
@@ -186,13 +199,13 @@ typedef struct {
  *                                        receiver's link; a lane without a byte of the message is 0. Returns true if there was a beat, and
  *                                        otherwise writes nothing.
  *   close_x(side)                        Ends the offers of x. Staged beats still cross. Returns TL_OK, TL_MID_BURST or TL_NOT_OPEN.
- *   pump_client(client),                 Move beats from this side's stages into its rings, and return how many were moved. At least as many are
- *   pump_manager(manager)                moved as this side knows to fit, and more if the other thread has made room meanwhile.
- *   fetch_client(client),                Move beats from the other side's rings into this side's inboxes, as far as these have room, and return
- *   fetch_manager(manager)               how many were moved. At least as many are moved as this side knows to be there.
+ *   pump_client(client),                 Move beats from this side's stages into its rings: every beat known to fit, and more if the other
+ *   pump_manager(manager)                thread has made room. Return how many were moved.
+ *   fetch_client(client),                Move beats from the other side's rings into this side's inboxes, as far as these have room: every beat
+ *   fetch_manager(manager)               known to be there, and more if the other thread has sent some. Return how many were moved.
  *   meet(client, manager, standings)     With both sides in one thread: writes the number of far beats that wait in each buffer. Returns TL_OK,
- *                                        TL_NOT_OPEN if a handle has no side, or TL_BRIDGE_MISMATCH if their numbers differ. In the last two
- *                                        cases nothing changes.
+ *                                        TL_NOT_OPEN if a handle has no side, or TL_BRIDGE_MISMATCH if their numbers or openings differ. In
+ *                                        the last two cases nothing changes. Afterwards each side knows each free position of its rings.
  *   settle(client, manager, standings)   Pumps and fetches both sides until nothing more can move, and then does the same as meet.
  *   count_client(client, totals),        Write the number of far beats that the side has moved into its rings on each channel that it sends, and
  *   count_manager(manager, totals)       the number that take has removed on each of the others. Return TL_OK or TL_NOT_OPEN.
@@ -201,9 +214,10 @@ typedef struct {
  *                                        the last two cases nothing is written. The side itself does not change: it can still fetch and take.
  *                                        A receipt is a plain structure, which may be copied and passed to any thread.
  *   drained_client(client, receipt),     Compare a side with the receipt of the other side of its bridge. Return TL_OK if as many beats were taken
- *   drained_manager(manager, receipt)    from this side as the receipt counts. These are then all beats that the other side will ever send.
- *                                        Otherwise return TL_NOT_TAKEN, TL_BRIDGE_MISMATCH if the receipt has the number of another bridge, or
- *                                        TL_NOT_OPEN. The caller guarantees that finish of the other side wrote the receipt.
+ *   drained_manager(manager, receipt)    from this side as the receipt counts. These are all that the other side will ever send.
+ *                                        Otherwise return TL_NOT_TAKEN; TL_BRIDGE_MISMATCH if the receipt has the number of another bridge;
+ *                                        TL_WRONG_RECEIPT if finish of the other side did not write it, or wrote it before the latest open of
+ *                                        the handle; or TL_NOT_OPEN. Nothing changes.
  *   status_text(status, text)            Writes the name and the sentence of a status.
  *   version()                            Returns TL_VERSION of the library. */
 #define TLBRIDGE(cw, mw) \
@@ -227,6 +241,7 @@ typedef struct {
         void *impl; \
         bool is_open; \
         uint64_t bridge; \
+        uint64_t opening; \
     } TL_CALL(cw, mw, side); \
     void TL_CALL(cw, mw, free_##side)(TL_CALL(cw, mw, side) *side); \
     size_t TL_CALL(cw, mw, pump_##side)(TL_CALL(cw, mw, side) *side); \
@@ -256,8 +271,8 @@ static inline void tl_mask_add(tl_beat *beat, unsigned lane) {
         beat->mask_high |= (uint64_t)1 << (lane - 64);
 }
 
-/* The answer to a whole trace, or the fault of the trace. It has neither if it is all zero. It belongs to another library,
- * libtlbridge_trace.a, which is for all pairs of widths: `bench/make-library trace` makes it. */
+/* The output for a whole trace, or the fault of the trace. A zeroed tl_answer holds neither. The calls are in libtlbridge_trace.a, which is for
+ * all pairs of widths; `tools/make-library trace` makes it. */
 typedef struct {
     const uint8_t *text; /* the bytes of the answer, without a zero at the end; NULL if there is no answer */
     size_t length;

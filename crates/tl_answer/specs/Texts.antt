@@ -9,6 +9,7 @@ use Rattle.tl_trace.specs.declared.line.Line.{Line}
 use Rattle.tl_trace.specs.declared.fault.TraceKind.TheVariants as kinds
 use Rattle.tl_answer.specs.Answer.{answer_of, are_done}
 use Rattle.tl_stream.specs.Inputs.{most_bytes}
+use Rattle.tl_stream.specs.Outputs.{AppendsPart}
 use Rattle.tl_stream.specs.declared.fault.TextFault.{TextFault}
 use Rattle.tl_stream.specs.declared.fault.TextFault.TheVariants as faults
 
@@ -27,8 +28,8 @@ abbrev pub WasReadWhole : (unread left : Option (List ℕ)) → Type 0
 WasReadWhole unread left = IsAtEnd left × IfSome unread (λ text. length text ≤ most_bytes)
 
 -- The arguments are what the reader had and has left, what the writer held and holds, the order, and how the run ended.
--- A text is read to its end before anything of its answer is written. The bytes that are written are its answer, and a
--- run that fails before has written nothing. No run stalls. Statements about bytes hold only if the logic knows the
+-- A text is read to its end before anything of its answer is written. The bytes that are written are its answer, or if a
+-- write fails, the first bytes of it. A run that fails before has written nothing. No run stalls. Statements about bytes hold only if the logic knows the
 -- bytes of the reader or the writer
 abbrev pub AnswersText : (unread left held holds : Option (List ℕ)) → Order → Result Bool TextFault → Type 0
 AnswersText unread left held holds order (Ok done) =
@@ -37,7 +38,9 @@ AnswersText unread left held holds order (Err (faults.Trace fault)) =
     WasReadWhole unread left × Keeps held holds × (fault.kind ≢ kinds.OutOfMemory) × IfSome unread (λ text. IsFirstFault text fault.line fault.kind)
 AnswersText unread left held holds order (Err faults.Stalled) = ⊥
 AnswersText unread left held holds order (Err faults.Read) = Keeps held holds
-AnswersText unread left held holds order (Err faults.Write) = WasReadWhole unread left
+AnswersText unread left held holds order (Err faults.Write) =
+    WasReadWhole unread left × IfSome unread (λ text. (answer : List ℕ) × (done : Bool) × IsAnswer text (is_check order) answer done ×
+    AppendsPart held holds answer)
 AnswersText unread left held holds order (Err faults.TooLong) = Keeps held holds × IfSome unread (λ text. most_bytes < length text)
 AnswersText unread left held holds order (Err faults.OutOfMemory) = Keeps held holds
 

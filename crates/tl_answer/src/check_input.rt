@@ -96,8 +96,8 @@ fn new_judge<const C: usize, const M: usize>(
 
 /// Returns the answer of a check to a text whose header names this version and these widths. The
 /// input holds its first piece, and nothing of it was used. The text is read to its end,
-/// incrementally: only one piece of it and the beats that wait are in memory. Errors: as
-/// `script_of_input`.
+/// incrementally: one piece of it, the beats that wait and fewer finished beats are in memory.
+/// Errors: as `script_of_input`.
 #[inline(never)]
 pub(crate) fn check_input<R: Read, const C: usize, const M: usize>(
     alloc: Global,

@@ -1,11 +1,12 @@
 //! The whole way from the input bytes to the output bytes.
-ghost use Rattle.std.specs.Prelude.{◌≡◌, ◌++◌, IfOk, OnOk, IfErr};
+ghost use Rattle.std.specs.Prelude.{◌≡◌, ◌++◌, IfOk, OnErr, OnOk, IfErr};
 ghost use Rattle.std.specs.Io.KnownBytes.{Appends};
 ghost use Rattle.tl_order.specs.Orders.{IsRunnable, is_check};
 ghost use Rattle.tl_answer.specs.Inner.Answered.{AnswersRead, ReadsAnswer};
 ghost use Rattle.tl_answer.specs.Inner.Parts.{spelled};
 ghost use Rattle.tl_answer.specs.Texts.{AnswersText};
 ghost use Rattle.tl_stream.specs.Inputs.{IsFresh, unread_of};
+ghost use Rattle.tl_stream.specs.Outputs.{AppendsPart};
 ghost use Rattle.tl_stream.specs.declared.fault.TextFault.TheVariants.{Write as WriteFault};
 
 use crate::one_thread::answer_input;
@@ -21,6 +22,8 @@ use tl_stream::{Input, TextFault, write_all, write_bytes};
 fn write_both<W: Write>(writer: &mut W, first: &[u8], second: &[u8]) -> Result<(), TextFault>
     ensures all { OnOk result (Appends (W.contents writer.old) (W.contents writer.new)
         (first.now ++ second.now)) }
+    ensures part { OnErr result (AppendsPart (W.contents writer.old) (W.contents writer.new)
+        (first.now ++ second.now)) }
     ensures kind { IfErr result (λ e. e ≡ WriteFault) }
 {
     match write_bytes(writer, first) {
@@ -33,6 +36,8 @@ fn write_both<W: Write>(writer: &mut W, first: &[u8], second: &[u8]) -> Result<(
 /// `write_all`.
 fn write_answer<W: Write>(writer: &mut W, answer: &AnswerParts) -> Result<bool, TextFault>
     ensures text { OnOk result (Appends (W.contents writer.old) (W.contents writer.new)
+        (spelled answer.now)) }
+    ensures part { OnErr result (AppendsPart (W.contents writer.old) (W.contents writer.new)
         (spelled answer.now)) }
     ensures done { IfOk result (λ all_done. all_done ≡ answer.now.all_done) }
     ensures kind { IfErr result (λ e. e ≡ WriteFault) }
@@ -99,7 +104,7 @@ fn read_answer<T: Threads, R: Read>(
 /// - `OutOfMemory`: comes before anything is written. If the text is answered while it is read, it
 ///   may come before the fault of a later line is seen (this project's choice).
 /// - `Write`: a write failed, was interrupted or took no byte. It is not specified how much was
-///   written.
+///   written, but it is the beginning of the answer.
 ///
 /// `Stalled` is never returned.
 ///

@@ -13,6 +13,8 @@ use Rattle.tl_bridge.proofs.Words.{counts-fit, due-a, due-d, of_both, Offered, T
 use Rattle.tl_burst.specs.Begun.{heads}
 use Rattle.tl_burst.specs.Handing.{IsHandedWith}
 use Rattle.tl_ring.specs.Pipe as piping
+use Rattle.tl_lanes.proofs.Widths.{width_bounds}
+use Rattle.tl_settle.proofs.InOrder.{run_in_order}
 use Rattle.tl_settle.proofs.RunsObey.{run_obeys}
 use Rattle.tl_settle.specs.Histories.{manager_homes}
 use Rattle.tl_settle.specs.Obeying.{ObeysRules}
@@ -99,6 +101,7 @@ module _ {A : Type 0} {C M : ℕ} (near : Beats C M) (n : PerChannel ℕ) (far :
     manager = h.meet.manager.book;
     client_obeys = met-legal.0;
     manager_obeys = met-legal.1;
+    order = run_in_order (width_bounds C h.meet.a.outbox.near).0 (width_bounds M h.meet.a.outbox.far).0 near.a near.d h.is_at.run;
   }
 
   -- the progress of the run is the sum of those of both sides

@@ -11,13 +11,13 @@ use Rattle.tl_c.specs.Calls.{Keeps}
 pub held_at : {S : Type 0} {held : Option S} {h v : S} → held ≡ Some v → h ≡ v → held ≡ Some h
 held_at was at = was ∙ ap (λ s. Some s) (sym at)
 
-module _ {S : Type 0} (Same : S → S → Type 0) {before now : Option S} {l n : ℕ} where
+module _ {S : Type 0} (Same : S → S → Type 0) {before now : Option S} {N : Type 0} {l n : N} where
   -- nothing is held
   pub kept_none : before ≡ None → now ≡ None → n ≡ l → Keeps Same before now × (n ≡ l)
   kept_none was is number = (subst (λ s. Keeps Same s now) (sym was) is, number)
 
   -- h is held before the call, and k after it
-  pub kept : {h k : S} {m : ℕ} → before ≡ Some h → now ≡ Some k → Same h k → m ≡ l → n ≡ m → Keeps Same before now × (n ≡ l)
+  pub kept : {h k : S} {m : N} → before ≡ Some h → now ≡ Some k → Same h k → m ≡ l → n ≡ m → Keeps Same before now × (n ≡ l)
   kept {h = h} was is same taken put =
       (subst (λ s. Keeps Same s now) (sym was) (subst (λ s. Keeps Same (Some h) s) (sym is) same), put ∙ taken)
 

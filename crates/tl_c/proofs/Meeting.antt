@@ -1,9 +1,11 @@
 -- The status of a meeting of the sides that two handles hold.
-use Rattle.std.specs.Prelude.{◌≢◌, ◌==◌, ℕ, Bool, true, false, Option, None, Some, if◌then◌else◌}
-use Rattle.std.proofs.Common.{◌≡◌, refl, sym, ap, ◌∙◌, subst, rules, arith}
+use Rattle.std.specs.Prelude.{Bool, true, false, Option, None, Some, if◌then◌else◌}
+use Rattle.std.proofs.Common.{◌≡◌, refl, sym, ap, ap₂, ◌∙◌, subst, arith}
 use Rattle.std.specs.Global.{Global}
 use Rattle.tl_sides.specs.Legal.{SidesObey}
 use Rattle.tl_sides.specs.Sides.{AreSides, SameManager, SidesMeet, ClientState, ManagerState, ClientPast, ManagerPast}
+use Rattle.tl_c_beats.specs.Receipts.{same_bridge}
+use Rattle.tl_c_beats.specs.declared.bridge_id.BridgeId.{BridgeId}
 use Rattle.tl_c_beats.specs.declared.answers.TheConstants.{NOT_OPEN, BRIDGE_MISMATCH}
 use Rattle.tl_c.specs.declared.held.ClientHeld.{ClientHeld}
 use Rattle.tl_c.specs.declared.held.ManagerHeld.{ManagerHeld}
@@ -19,7 +21,7 @@ pub bridge_mismatch : {X : Type 0} → BRIDGE_MISMATCH ≡ 0 → X
 bridge_mismatch e = absurd (omega (arith, e))
 
 -- nothing is done with the manager's handle
-pub untouched : (held : Option ManagerHeld) {n : ℕ} → Keeps (λ h k. SameManager h.side k.side) held held × (n ≡ n)
+pub untouched : (held : Option ManagerHeld) {N : Type 0} {n : N} → Keeps (λ h k. SameManager h.side k.side) held held × (n ≡ n)
 untouched None = (refl, refl)
 untouched (Some h) = (manager_same h.side, refl)
 
@@ -30,16 +32,10 @@ client_stays s = record { a = (refl, refl, refl); b = (refl, refl); c = (refl, r
 pub manager_stays : (t : ManagerState Global CLIENT MANAGER) → ManagerStays t t
 manager_stays t = record { a = (refl, refl); b = (refl, refl, refl); c = (refl, refl); d = (refl, refl, refl); e = (refl, refl); book = refl }
 
-pub unmoved : (held : Option ManagerHeld) {n : ℕ} →
+pub unmoved : (held : Option ManagerHeld) {N : Type 0} {n : N} →
     Keeps (λ h k. SameManager h.side k.side × ManagerStays h.side k.side) held held × (n ≡ n)
 unmoved None = (refl, refl)
 unmoved (Some h) = ((manager_same h.side, manager_stays h.side), refl)
-
-same_yes : (m n : ℕ) → m ≡ n → (m == n) ≡ true
-same_yes m n e = search rules
-
-same_no : (m n : ℕ) → m ≢ n → (m == n) ≡ false
-same_no m n not = search rules
 
 module _ {S T : Type 0} where
   -- a property of the values that both handles hold
@@ -55,14 +51,17 @@ module _ {S T : Type 0} where
   answer_no_manager (Some h) same e = subst (λ t. NOT_OPEN ≡ answer_of_two (Some h) t same) (sym e) refl
 
   -- by the numbers of the two handles, which a take keeps
-  module _ {s : Option S} {t : Option T} {h : S} {k : T} {m n m' n' : ℕ} (first : s ≡ Some h) (second : t ≡ Some k) (e : m' ≡ m) (f : n' ≡ n) where
-    pub answer_others : m' ≢ n' → BRIDGE_MISMATCH ≡ answer_of_two s t (m == n)
-    answer_others differ = for_both (λ s t. BRIDGE_MISMATCH ≡ answer_of_two s t (m == n)) first second
-        (ap (λ same. if same then 0 else BRIDGE_MISMATCH) (sym (same_no m n (λ is. differ (e ∙ is ∙ sym f)))))
+  module _ {s : Option S} {t : Option T} {h : S} {k : T} {m n m' n' : BridgeId} (first : s ≡ Some h) (second : t ≡ Some k) (e : m' ≡ m) (f : n' ≡ n)
+      {same : Bool} (is : same ≡ same_bridge m' n') where
+    answer_by : (same' : Bool) → same ≡ same' → answer_of_two (Some h) (Some k) same' ≡ answer_of_two s t (same_bridge m n)
+    answer_by same' tested = for_both (λ s t. answer_of_two (Some h) (Some k) same' ≡ answer_of_two s t (same_bridge m n)) first second
+        (ap (λ b. if b then 0 else BRIDGE_MISMATCH) (sym tested ∙ is ∙ ap₂ same_bridge e f))
 
-    pub answer_met : m' ≡ n' → 0 ≡ answer_of_two s t (m == n)
-    answer_met is = for_both (λ s t. 0 ≡ answer_of_two s t (m == n)) first second
-        (ap (λ same. if same then 0 else BRIDGE_MISMATCH) (sym (same_yes m n (sym e ∙ is ∙ f))))
+    pub answer_others : same ≡ false → BRIDGE_MISMATCH ≡ answer_of_two s t (same_bridge m n)
+    answer_others = answer_by false
+
+    pub answer_met : same ≡ true → 0 ≡ answer_of_two s t (same_bridge m n)
+    answer_met = answer_by true
 
 pub sides_held : {s : Option ClientHeld} {t : Option ManagerHeld} {h : ClientHeld} {k : ManagerHeld} → s ≡ Some h → t ≡ Some k → MayMeet s t →
     AreSides h.side k.side
@@ -79,6 +78,7 @@ meet_legally obey {s} {t} {x} {y} meets =
       b = fine.0;
       c = fine.1;
       e = fine.2;
+      obeys = obey.always s t x y meets;
       begins = obey.begins;
       goes_on = λ obeyed s' t' x' y' on. obey.goes_on s s' t t' x x' y y' on obeyed;
     }

@@ -1,4 +1,5 @@
 -- The status of making a bridge.
+use Rattle.std.specs.Prelude.{IfSome}
 use Rattle.std.proofs.Common.{◌≡◌, ◌≤◌, ◌<◌, ◌⊎◌, ◌↔◌, ℕ, Option, Some, inl, inr, refl, sym, subst, arith}
 use Rattle.tl_ring.specs.declared.fault.BuildFault.{BuildFault}
 use Rattle.tl_ring.specs.declared.fault.BuildFault.TheVariants.{RingSize, OutOfMemory}
@@ -6,6 +7,8 @@ use Rattle.tl_ring.specs.declared.pipe.TheConstants.{MAX_RING}
 use Rattle.tl_ring.specs.Names.{build_fault_number}
 use Rattle.tl_ring.proofs.Moves.{ring_size_only}
 use Rattle.tl_c_beats.specs.Calls.{Stands}
+use Rattle.tl_c_beats.specs.Receipts.{IsLater, without_number}
+use Rattle.tl_c_beats.specs.declared.bridge_id.BridgeId.{BridgeId}
 
 abbrev IsNoSize : ℕ → Type 0
 IsNoSize ring = (ring ≡ 0) ⊎ (MAX_RING < ring)
@@ -36,3 +39,13 @@ memory_size none size = lawful_size size (λ is. omega (arith, none, is))
 -- the side that is put into a handle represents a past
 pub stands : {S P : Type 0} (StandsFor : S → P → Type 0) {held : Option S} {h : S} {x : P} → held ≡ Some h → StandsFor h x → Stands StandsFor held x
 stands StandsFor {x = x} is h = subst (λ s. Stands StandsFor s x) (sym is) h
+
+-- what a side that is put into a handle knows
+pub knows_new : {S : Type 0} (Q : S → Type 0) {held : Option S} {h : S} → held ≡ Some h → Q h → IfSome held Q
+knows_new Q is knows = subst (λ s. IfSome s Q) (sym is) knows
+
+-- a free keeps the numbers of the openings, so that the next one is later than them
+pub later : (x y : BridgeId) {x' y' : BridgeId} {n : ℕ} → x' ≡ without_number x → y' ≡ without_number y → IsLater x'.opening y'.opening n →
+    IsLater x.opening y.opening n
+later x y {x'} {y'} {n} e f is =
+    subst (λ b. IsLater x.opening b.opening n) f (subst (λ b. IsLater b.opening y'.opening n) e is)

@@ -23,6 +23,7 @@ use Rattle.tl_c_beats.specs.declared.counts.BeatCounts.{BeatCounts}
 use Rattle.tl_c_beats.specs.declared.counts.ChannelCounts.{ChannelCounts}
 use Rattle.tl_c_beats.specs.declared.fields.BeatFields.{BeatFields}
 use Rattle.tl_c_beats.specs.Calls.{Stands, Tells}
+use Rattle.tl_c_beats.specs.Settling.{KnownSides}
 use Rattle.tl_c.specs.declared.client_handle.ClientHandle.{ClientHandle}
 use Rattle.tl_c.specs.declared.manager_handle.ManagerHandle.{ManagerHandle}
 use Rattle.tl_c.specs.declared.held.ClientHeld.{ClientHeld}
@@ -48,14 +49,14 @@ Keeps IsSame None s = s ≡ None
 Keeps IsSame (Some h) None = ⊥
 Keeps IsSame (Some h) (Some k) = IsSame h k
 
--- a handle keeps its side, and its number
+-- a handle keeps its side, and its numbers
 abbrev pub KeepsClient : (before now : ClientHandle) → Type 0
 KeepsClient before now = Keeps (λ h k. SameClient h.side k.side) before.owned.held now.owned.held × (now.bridge ≡ before.bridge)
 
 abbrev pub KeepsManager : (before now : ManagerHandle) → Type 0
 KeepsManager before now = Keeps (λ h k. SameManager h.side k.side) before.owned.held now.owned.held × (now.bridge ≡ before.bridge)
 
--- a handle keeps its side and its number, and the parts of the side that `SameParts` compares stay as they were
+-- a handle keeps its side and its numbers, and the parts of the side that `SameParts` compares stay as they were
 abbrev pub KeepsOfClient : (SameParts : ClientState Global CLIENT MANAGER → ClientState Global CLIENT MANAGER → Type 0) →
     (before now : ClientHandle) → Type 0
 KeepsOfClient SameParts before now =
@@ -227,8 +228,10 @@ pub record MeetLegally (s : ClientState Global CLIENT MANAGER) (t : ManagerState
   pub b : HasNoFaults rules_b x.b
   pub c : HasNoFaults rules_c y.c
   pub e : HasNoFaults rules_e y.e
-  -- on A and D, new links obey the rules, and links that have obeyed them so far still do after later calls of each
-  -- side, if these take no more of A and D than had arrived at that side by now
+  -- on A and D both links have obeyed the rules, whatever each side did since the last meeting
+  pub obeys : ObeysRules x.history × ObeysRules y.history
+  -- so have new links, and links that have obeyed them so far still do after later calls of each side, if these take no
+  -- more of A and D than had arrived at that side by now
   pub begins : ObeysRules {w = CLIENT} [] × ObeysRules {w = MANAGER} []
   pub goes_on : ObeysRules x.history × ObeysRules y.history → (s' : ClientState Global CLIENT MANAGER) (t' : ManagerState Global CLIENT MANAGER)
       (x' : ClientPast CLIENT MANAGER) (y' : ManagerPast CLIENT MANAGER) → WentOn s s' t t' x x' y y' →
@@ -253,3 +256,10 @@ AreCounted (Some s) (Some t) counts = counts ≡ record {
   d = beat_counts t.side.d s.side.d;
   e = beat_counts s.side.e t.side.e;
 }
+
+-- both sides of a bridge know all of the rings: the beats in those that they take from, and the free positions of those
+-- that they send to
+abbrev pub AreKnown : Option ClientHeld → Option ManagerHeld → Type 0
+AreKnown None t = ⊥
+AreKnown (Some s) None = ⊥
+AreKnown (Some s) (Some t) = KnownSides s.side t.side

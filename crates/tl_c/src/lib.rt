@@ -19,9 +19,10 @@ mod receipts;
 mod takes;
 mod widths;
 
-ghost use Rattle.std.specs.Prelude.{◌≡◌, ◌≢◌, ◌<◌, ◌⊎◌, ◌↔◌, None};
+ghost use Rattle.std.specs.Prelude.{◌≡◌, ◌≢◌, ◌<◌, ◌⊎◌, ◌↔◌, IfSome, None};
 ghost use Rattle.tl_ring.specs.declared.pipe.TheConstants.{MAX_RING};
-ghost use Rattle.tl_sides.specs.Sides.{ClientPast, ManagerPast, new_client, new_manager};
+ghost use Rattle.tl_sides.specs.Sides.{ClientPast, IsNewClient, IsNewManager, ManagerPast, new_client, new_manager};
+ghost use Rattle.tl_c_beats.specs.Receipts.{IsLater, without_number};
 ghost use Rattle.tl_c.specs.Calls.{HoldsClient, HoldsManager, HoldSides};
 
 use crate::client_handle::ClientHandle;
@@ -29,10 +30,12 @@ use crate::held::{ClientHeld, ManagerHeld};
 use crate::manager_handle::ManagerHandle;
 use crate::widths::{CLIENT, MANAGER};
 use std::alloc::Global;
-use tl_c_beats::boxed;
+use tl_c_beats::{BridgeId, boxed};
 
 /// Creates a bridge with five rings of `ring` beats and puts its sides into the two handles, with
-/// `bridge`, the caller's number of it. Sides that the handles held before are freed first.
+/// `bridge`, the caller's number of it, and a number of this opening, which is higher than those
+/// before in both handles. Sides that the handles held before are freed first. Each side knows that
+/// its rings are empty.
 ///
 /// Returns 0 if the bridge is made. Otherwise both handles hold no side. Errors: 12 if and only if
 /// `ring` is 0 or above 4,096; 13 if the allocator fails.
@@ -51,12 +54,17 @@ pub extern "C" fn tl_open(
     ensures faults { (result ≡ 0) ⊎ ((result ≡ 12) ⊎ (result ≡ 13)) }
     ensures refused { result ≢ 0 →
         (client.new.owned.held ≡ None) × (manager.new.owned.held ≡ None) }
+    ensures knows { result ≡ 0 → IfSome client.new.owned.held (λ h. IsNewClient ring h.side) ×
+        IfSome manager.new.owned.held (λ h. IsNewManager ring h.side) }
     ensures numbers { result ≡ 0 →
-        (client.new.bridge ≡ bridge) × (manager.new.bridge ≡ bridge) }
-    ensures no_numbers { result ≢ 0 → (client.new.bridge ≡ 0) × (manager.new.bridge ≡ 0) }
+        (client.new.bridge.number ≡ bridge) × (manager.new.bridge ≡ client.new.bridge) }
+    ensures opening { result ≡ 0 → IsLater client.old.bridge.opening manager.old.bridge.opening client.new.bridge.opening }
+    ensures no_numbers { result ≢ 0 → (client.new.bridge ≡ without_number client.old.bridge) ×
+        (manager.new.bridge ≡ without_number manager.old.bridge) }
 {
     client.free(alloc);
     manager.free(alloc);
+    let next = BridgeId::next(bridge, client.bridge.opening, manager.bridge.opening);
     let (client_side, manager_side) = match tl_sides::bridge::<CLIENT, MANAGER, Global>(
         alloc, ring,
     ) {
@@ -70,8 +78,8 @@ pub extern "C" fn tl_open(
             Ok(manager_held) => {
                 client.put(client_held);
                 manager.put(manager_held);
-                client.bridge = bridge;
-                manager.bridge = bridge;
+                client.bridge = next;
+                manager.bridge = next;
                 0
             }
             Err(fault) => fault,
@@ -80,22 +88,22 @@ pub extern "C" fn tl_open(
     }
 }
 
-/// Frees the client's side, if the handle holds one. The handle then holds none. The manager's side
-/// stays usable.
+/// Frees the client's side, if the handle holds one. The handle then holds none, and keeps the
+/// number of its opening. The manager's side stays usable.
 #[unsafe(no_mangle)]
 pub extern "C" fn tl_free_client(alloc: Global, client: &mut ClientHandle)
     ensures none { client.new.owned.held ≡ None }
-    ensures number { client.new.bridge ≡ 0 }
+    ensures number { client.new.bridge ≡ without_number client.old.bridge }
 {
     client.free(alloc);
 }
 
-/// Frees the manager's side, if the handle holds one. The handle then holds none. The client's side
-/// stays usable.
+/// Frees the manager's side, if the handle holds one. The handle then holds none, and keeps the
+/// number of its opening. The client's side stays usable.
 #[unsafe(no_mangle)]
 pub extern "C" fn tl_free_manager(alloc: Global, manager: &mut ManagerHandle)
     ensures none { manager.new.owned.held ≡ None }
-    ensures number { manager.new.bridge ≡ 0 }
+    ensures number { manager.new.bridge ≡ without_number manager.old.bridge }
 {
     manager.free(alloc);
 }

@@ -1,5 +1,6 @@
 //! The handle by which C holds the manager's side of a bridge.
 ghost use Rattle.std.specs.Prelude.{◌≡◌, ◌≢◌, ◌↔◌, true, Option, Some, None, IfSome};
+ghost use Rattle.tl_c_beats.specs.Receipts.{without_number};
 ghost use Rattle.tl_c.specs.Handles.{holds_manager, manager_coded};
 ghost use Rattle.tl_c.specs.declared.held.ManagerHeld.{ManagerHeld};
 
@@ -8,7 +9,7 @@ use std::alloc::Global;
 use std::marker::Model;
 use std::mem::replace;
 use std::ptr::null_mut;
-use tl_c_beats::{Live, Parts};
+use tl_c_beats::{BridgeId, Live, Parts};
 
 /// The ownership of a boxed side, or of nothing.
 #[repr(C)]
@@ -55,22 +56,22 @@ impl OwnedManager {
     }
 }
 
-/// A handle as C stores it: a pointer, whether there is a side, and the caller's number of the
-/// side's bridge. A handle of zeros holds no side.
+/// A handle as C stores it: a pointer, whether there is a side, and the numbers of the side's
+/// bridge. A handle of zeros holds no side.
 #[repr(C)]
 #[derive(Drop)]
 pub struct ManagerHandle {
     pub owned: OwnedManager,
     live: Live,
-    pub bridge: u64,
+    pub bridge: BridgeId,
     ghost tied: { (live.is ≡ true) ↔ (owned.held ≢ None) },
 }
 
 // C gets this size only from the header.
-const _: () = prove!(size_of::<ManagerHandle>() == 24);
+const _: () = prove!(size_of::<ManagerHandle>() == 32);
 
 impl ManagerHandle {
-    /// Puts a side into the handle. The number is unchanged.
+    /// Puts a side into the handle. The numbers are unchanged.
     pub fn put(&mut self, held: Box<ManagerHeld>)
         ensures held { self.new.owned.held ≡ Some held.value }
         ensures number { self.new.bridge ≡ self.old.bridge }
@@ -83,7 +84,7 @@ impl ManagerHandle {
     }
 
     /// Takes the side out of the handle and returns it, or `None` if the handle holds none. The
-    /// handle then holds none; its number is unchanged.
+    /// handle then holds none; its numbers are unchanged.
     pub fn take(&mut self, alloc: Global) -> Option<Box<ManagerHeld>>
         ensures some { IfSome result (λ held. self.old.owned.held ≡ Some held.value) }
         ensures none { result ≡ None → self.old.owned.held ≡ None }
@@ -102,12 +103,13 @@ impl ManagerHandle {
         Some(owned.into_parts().into_box())
     }
 
-    /// Frees the side, if the handle holds one. The handle then holds none, and its number is 0.
+    /// Frees the side, if the handle holds one. The handle then holds none, and of its numbers only
+    /// that of the opening is left.
     pub fn free(&mut self, alloc: Global)
         ensures none { self.new.owned.held ≡ None }
-        ensures number { self.new.bridge ≡ 0 }
+        ensures number { self.new.bridge ≡ without_number self.old.bridge }
     {
         drop(self.take(alloc));
-        self.bridge = 0;
+        self.bridge = self.bridge.without_number();
     }
 }

@@ -1,7 +1,7 @@
 //! Calls that bring both sides of a bridge together.
 ghost use Rattle.std.specs.Prelude.{◌≡◌, ◌≢◌};
 ghost use Rattle.tl_sides.specs.Sides.{ClientPast, ManagerPast};
-ghost use Rattle.tl_c.specs.Calls.{HoldsClient, HoldsManager, HoldSides, KeepsClient, KeepsManager, KeepsOfClient, KeepsOfManager, ClientStays, ManagerStays, MayMeet, HaveMet, AreCounted};
+ghost use Rattle.tl_c.specs.Calls.{HoldsClient, HoldsManager, HoldSides, KeepsClient, KeepsManager, KeepsOfClient, KeepsOfManager, ClientStays, ManagerStays, MayMeet, HaveMet, AreCounted, AreKnown};
 ghost use Rattle.tl_c.specs.Settling.{HaveSettled, AreStill, meeting_answer};
 
 use crate::client_handle::ClientHandle;
@@ -13,8 +13,8 @@ use tl_sides::laws::sides_obey;
 use tl_sides::meet_sides;
 
 // Makes a call on the sides that two handles hold, which are taken out for the call and put back,
-// and writes the counts that it returns. If a handle holds none, or their numbers differ, the
-// calling function returns that status at once.
+// and writes the counts that it returns. If a handle holds none, or their numbers or openings
+// differ, the calling function returns that status at once.
 macro_rules! on_both {
     ($client:ident, $manager:ident, $alloc:ident, $counts:ident, $call:ident) => {{
         let Some(mut client_held) = $client.take($alloc) else {
@@ -24,7 +24,7 @@ macro_rules! on_both {
             $client.put(client_held);
             return NOT_OPEN;
         };
-        if $client.bridge != $manager.bridge {
+        if !$client.bridge.is($manager.bridge) {
             $client.put(client_held);
             $manager.put(manager_held);
             return BRIDGE_MISMATCH;
@@ -40,13 +40,14 @@ macro_rules! on_both {
 /// Inspects both sides of one bridge together, in one thread, and writes the number of far beats in
 /// the stage, the ring and the inbox of each channel. No beat moves. Each side then knows every
 /// beat in the rings that it takes from, and every free position in those that it sends to. Legal
-/// in, legal out: no beat taken on B, C or E has a fault, and A and D obey the rules of both links
-/// from meeting to meeting, if each side takes no more of them than had arrived by the last one.
+/// in, legal out: no beat taken on B, C or E has a fault, and the beats of A and D have obeyed the
+/// rules of both links, whatever each side did since the last meeting.
 ///
 /// Returns 0 if they met. Otherwise nothing changes. Errors: `NOT_OPEN` if a handle holds none;
-/// otherwise `BRIDGE_MISMATCH` if their numbers differ.
+/// otherwise `BRIDGE_MISMATCH` if their numbers or openings differ.
 ///
-/// Requires: two sides with the same number were made by one call of [`tl_open`](crate::tl_open).
+/// Requires: two sides with the same number and opening were made by one call of
+/// [`tl_open`](crate::tl_open).
 #[unsafe(no_mangle)]
 pub extern "C" fn tl_meet(
     alloc: Global,
@@ -60,6 +61,7 @@ pub extern "C" fn tl_meet(
     ensures met { (x : ClientPast CLIENT MANAGER) (y : ManagerPast CLIENT MANAGER) →
         HoldsClient client.old.owned.held x → HoldsManager manager.old.owned.held y →
         result ≡ 0 → HaveMet client.new.owned.held manager.new.owned.held x y }
+    ensures known { result ≡ 0 → AreKnown client.new.owned.held manager.new.owned.held }
     ensures counts { result ≡ 0 →
         AreCounted client.new.owned.held manager.new.owned.held counts.new }
     ensures sides { result ≡ 0 → HoldSides client.new.owned.held manager.new.owned.held }
@@ -79,9 +81,10 @@ pub extern "C" fn tl_meet(
 /// out.
 ///
 /// Returns 0 if they settled. Otherwise nothing changes. Errors: `NOT_OPEN` if a handle holds none;
-/// otherwise `BRIDGE_MISMATCH` if their numbers differ.
+/// otherwise `BRIDGE_MISMATCH` if their numbers or openings differ.
 ///
-/// Requires: two sides with the same number were made by one call of [`tl_open`](crate::tl_open).
+/// Requires: two sides with the same number and opening were made by one call of
+/// [`tl_open`](crate::tl_open).
 #[unsafe(no_mangle)]
 pub extern "C" fn tl_settle(
     alloc: Global,
@@ -96,6 +99,7 @@ pub extern "C" fn tl_settle(
         HoldsClient client.old.owned.held x → HoldsManager manager.old.owned.held y →
         result ≡ 0 → HaveSettled client.new.owned.held manager.new.owned.held x y }
     ensures still { result ≡ 0 → AreStill client.new.owned.held manager.new.owned.held }
+    ensures known { result ≡ 0 → AreKnown client.new.owned.held manager.new.owned.held }
     ensures counts { result ≡ 0 →
         AreCounted client.new.owned.held manager.new.owned.held counts.new }
     ensures sides { result ≡ 0 → HoldSides client.new.owned.held manager.new.owned.held }

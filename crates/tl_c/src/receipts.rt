@@ -1,7 +1,7 @@
 //! How many beats passed on each channel, and the receipts of sides.
-ghost use Rattle.std.specs.Prelude.{◌==◌};
 ghost use Rattle.tl_sides.specs.Receipts.{ClientIsSentOut, ManagerIsSentOut, client_totals, manager_totals};
 ghost use Rattle.tl_c_beats.specs.Receipts.{Counts, GivesReceipt, Drains, beat_totals, client_took, manager_took, TotalsOfClient, TotalsOfManager, ClientTook, ManagerTook};
+ghost use Rattle.tl_c_beats.specs.declared.totals.TheConstants.{NOT_FINISHED, CLIENT_FINISHED, MANAGER_FINISHED};
 ghost use Rattle.tl_c.specs.Calls.{HoldsClient, HoldsManager, KeepsClient, KeepsManager};
 
 use crate::client_handle::ClientHandle;
@@ -13,7 +13,7 @@ use tl_c_beats::{
 };
 
 /// Writes how many beats the client's side has sent on A, C and E, and how many were taken from it on
-/// B and D. Each number is exact if it is below 2^63. No beat moves.
+/// B and D. Each number is exact if it is below 2^63. They are no receipt. No beat moves.
 ///
 /// Returns 0, or `NOT_OPEN` if the handle holds no side. Nothing is written then.
 #[unsafe(no_mangle)]
@@ -22,7 +22,7 @@ pub extern "C" fn tl_count_client(
     client: &mut ClientHandle,
     totals: &mut BeatTotals,
 ) -> u8
-    ensures counts { Counts HoldsClient (λ h. beat_totals client.old.bridge (client_totals h.side)) TotalsOfClient
+    ensures counts { Counts HoldsClient (λ h. beat_totals client.old.bridge NOT_FINISHED (client_totals h.side)) TotalsOfClient
         client.old.owned.held client.new.owned.held totals.old totals.new result }
     ensures kept { KeepsClient client.old client.new }
 {
@@ -48,7 +48,7 @@ pub extern "C" fn tl_finish_client(
     client: &mut ClientHandle,
     receipt: &mut BeatTotals,
 ) -> u8
-    ensures receipt { GivesReceipt HoldsClient (λ h. ClientIsSentOut h.side) (λ h. beat_totals client.old.bridge (client_totals h.side)) TotalsOfClient
+    ensures receipt { GivesReceipt HoldsClient (λ h. ClientIsSentOut h.side) (λ h. beat_totals client.old.bridge CLIENT_FINISHED (client_totals h.side)) TotalsOfClient
         client.old.owned.held client.new.owned.held receipt.old receipt.new result }
     ensures kept { KeepsClient client.old client.new }
 {
@@ -65,8 +65,9 @@ pub extern "C" fn tl_finish_client(
 /// manager's side. As many as the receipt counts are all that the manager's side has sent
 /// ([`tl_sides::laws::as_many_are_all`]). No beat moves.
 ///
-/// Returns 0 if all were taken, `NOT_TAKEN` if not, `BRIDGE_MISMATCH` if the receipt has another
-/// number of a bridge, or `NOT_OPEN` if the handle holds no side.
+/// Returns 0 if all were taken, and `NOT_TAKEN` if not. Errors: `WRONG_RECEIPT` if it is no receipt
+/// of that side, or one of another opening. `BRIDGE_MISMATCH` if it has another number of a bridge.
+/// `NOT_OPEN` if the handle holds no side.
 #[unsafe(no_mangle)]
 pub extern "C" fn tl_drained_client(
     alloc: Global,
@@ -74,7 +75,7 @@ pub extern "C" fn tl_drained_client(
     receipt: &BeatTotals,
 ) -> u8
     ensures drained { Drains HoldsClient (λ h. client_took (client_totals h.side) receipt.now)
-        (ClientTook receipt.now) (client.old.bridge == receipt.now.bridge)
+        (ClientTook receipt.now) client.old.bridge MANAGER_FINISHED receipt.now
         client.old.owned.held client.new.owned.held result }
     ensures kept { KeepsClient client.old client.new }
 {
@@ -88,7 +89,7 @@ pub extern "C" fn tl_drained_client(
 }
 
 /// Writes how many beats the manager's side has sent on B and D, and how many were taken from it on
-/// A, C and E. Each number is exact if it is below 2^63. No beat moves.
+/// A, C and E. Each number is exact if it is below 2^63. They are no receipt. No beat moves.
 ///
 /// Returns 0, or `NOT_OPEN` if the handle holds no side. Nothing is written then.
 #[unsafe(no_mangle)]
@@ -97,7 +98,7 @@ pub extern "C" fn tl_count_manager(
     manager: &mut ManagerHandle,
     totals: &mut BeatTotals,
 ) -> u8
-    ensures counts { Counts HoldsManager (λ h. beat_totals manager.old.bridge (manager_totals h.side)) TotalsOfManager
+    ensures counts { Counts HoldsManager (λ h. beat_totals manager.old.bridge NOT_FINISHED (manager_totals h.side)) TotalsOfManager
         manager.old.owned.held manager.new.owned.held totals.old totals.new result }
     ensures kept { KeepsManager manager.old manager.new }
 {
@@ -123,7 +124,7 @@ pub extern "C" fn tl_finish_manager(
     manager: &mut ManagerHandle,
     receipt: &mut BeatTotals,
 ) -> u8
-    ensures receipt { GivesReceipt HoldsManager (λ h. ManagerIsSentOut h.side) (λ h. beat_totals manager.old.bridge (manager_totals h.side)) TotalsOfManager
+    ensures receipt { GivesReceipt HoldsManager (λ h. ManagerIsSentOut h.side) (λ h. beat_totals manager.old.bridge MANAGER_FINISHED (manager_totals h.side)) TotalsOfManager
         manager.old.owned.held manager.new.owned.held receipt.old receipt.new result }
     ensures kept { KeepsManager manager.old manager.new }
 {
@@ -140,8 +141,9 @@ pub extern "C" fn tl_finish_manager(
 /// client's side. As many as the receipt counts are all that the client's side has sent
 /// ([`tl_sides::laws::as_many_are_all`]). No beat moves.
 ///
-/// Returns 0 if all were taken, `NOT_TAKEN` if not, `BRIDGE_MISMATCH` if the receipt has another
-/// number of a bridge, or `NOT_OPEN` if the handle holds no side.
+/// Returns 0 if all were taken, and `NOT_TAKEN` if not. Errors: `WRONG_RECEIPT` if it is no receipt
+/// of that side, or one of another opening. `BRIDGE_MISMATCH` if it has another number of a bridge.
+/// `NOT_OPEN` if the handle holds no side.
 #[unsafe(no_mangle)]
 pub extern "C" fn tl_drained_manager(
     alloc: Global,
@@ -149,7 +151,7 @@ pub extern "C" fn tl_drained_manager(
     receipt: &BeatTotals,
 ) -> u8
     ensures drained { Drains HoldsManager (λ h. manager_took (manager_totals h.side) receipt.now)
-        (ManagerTook receipt.now) (manager.old.bridge == receipt.now.bridge)
+        (ManagerTook receipt.now) manager.old.bridge CLIENT_FINISHED receipt.now
         manager.old.owned.held manager.new.owned.held result }
     ensures kept { KeepsManager manager.old manager.new }
 {

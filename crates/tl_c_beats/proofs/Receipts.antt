@@ -1,22 +1,23 @@
 -- The results of a handle's calls on totals and receipts, from those of the side that it holds.
 use Rattle.std.specs.Prelude.{◌≢◌, ◌↔◌, ◌==◌, ◌&&◌, ℕ, Bool, true, false, Option, None, Some, IsTrue, IfSome}
-use Rattle.std.proofs.Common.{◌≡◌, refl, sym, ap, subst, ◌∙◌, arith, List}
+use Rattle.std.proofs.Common.{◌≡◌, refl, sym, subst, ◌∙◌, arith, List}
 use Rattle.std.proofs.lemmas.Bool.{and_parts, false≢true}
 use Rattle.std.proofs.lemmas.Option.{none-some}
-use Rattle.tl_convert.proofs.Comparisons.{equal_true, not_equal, true_equal}
+use Rattle.tl_convert.proofs.Comparisons.{true_equal}
 use Rattle.tl_ring.specs.Counts.{IsNumberOf}
 use Rattle.tl_sides.specs.Words.{asked, answered}
 use Rattle.tl_sides.specs.Receipts.{CountClient, CountManager}
 use Rattle.tl_sides.specs.Sides.{ClientPast, ManagerPast}
 use Rattle.tl_sides.specs.declared.per_channel.PerChannel.{PerChannel}
-use Rattle.tl_c_beats.specs.declared.answers.TheConstants.{BRIDGE_MISMATCH, NOT_OPEN, NOT_SENT, NOT_TAKEN}
+use Rattle.tl_c_beats.specs.declared.answers.TheConstants.{NOT_OPEN, NOT_SENT}
+use Rattle.tl_c_beats.specs.declared.bridge_id.BridgeId.{BridgeId}
 use Rattle.tl_c_beats.specs.declared.totals.BeatTotals.{BeatTotals}
 use Rattle.tl_c_beats.specs.Calls.{Stands}
 use Rattle.tl_c_beats.specs.Receipts.{Counts, GivesReceipt, Drains, drained_answer, beat_totals, client_took, manager_took, ClientTook, ManagerTook}
-use Rattle.tl_c_beats.specs.Receipts.{TotalsOfClient, TotalsOfManager}
+use Rattle.tl_c_beats.specs.Receipts.{IsReceipt, TotalsOfClient, TotalsOfManager}
 
 -- the numbers that C is given are those that the side counts
-module _ {C M : ℕ} {n : PerChannel ℕ} {t : BeatTotals} {bridge : ℕ} (is : t ≡ beat_totals bridge n) where
+module _ {C M : ℕ} {n : PerChannel ℕ} {t : BeatTotals} {bridge : BridgeId} {finished : ℕ} (is : t ≡ beat_totals bridge finished n) where
   pub of_client : (x : ClientPast C M) → CountClient n x → TotalsOfClient t x
   of_client x count = subst (λ t. TotalsOfClient t x) (sym is) (record { a = count.a; b = count.b; c = count.c; d = count.d; e = count.e })
 
@@ -29,19 +30,6 @@ sent_out b is e = (λ zero. is.0 e, λ q. refl)
 
 pub not_sent_out : {Q : Type 0} (b : Bool) → IsTrue b ↔ Q → b ≡ false → (NOT_SENT ≡ 0) ↔ Q
 not_sent_out b is e = (λ zero. absurd (omega (arith, zero)), λ q. absurd (false≢true (sym e ∙ is.1 q)))
-
--- a receipt of another bridge; one that counts as many beats as were taken, and one that does not
-pub mismatched : (m n : ℕ) (as_many : Bool) → m ≢ n → BRIDGE_MISMATCH ≡ drained_answer (m == n) as_many
-mismatched m n as_many differ = ap (λ same. drained_answer same as_many) (sym (not_equal m n differ))
-
-module _ (m n : ℕ) {as_many told : Bool} (same : m ≡ n) (is : told ≡ as_many) where
-  pub all_taken : told ≡ true → 0 ≡ drained_answer (m == n) as_many
-  all_taken e =
-      ap (λ b. drained_answer true b) (sym e ∙ is) ∙ ap (λ b. drained_answer b as_many) (sym (equal_true m n same))
-
-  pub not_taken : told ≡ false → NOT_TAKEN ≡ drained_answer (m == n) as_many
-  not_taken e =
-      ap (λ b. drained_answer true b) (sym e ∙ is) ∙ ap (λ b. drained_answer b as_many) (sym (equal_true m n same))
 
 -- if as many were taken, the receipt's numbers are those of the beats that were taken
 as_counted : {X : Type 0} {m n : ℕ} (beats : List X) → (m == n) ≡ true → IsNumberOf m beats → IsNumberOf n beats
@@ -100,9 +88,15 @@ module _ {S P : Type 0} {StandsFor : S → P → Type 0} {before now : Option S}
     same = is ∙ sym was;
   }
 
-  pub drains_none : {took : S → Bool} {Took : P → Type 0} {same_bridge : Bool} → before ≡ None → now ≡ None →
-      Drains (Stands StandsFor) took Took same_bridge before now NOT_OPEN
-  drains_none was is = record { nothing = λ e. refl; drained = no_some _ was; taken = λ x held zero. no_answer zero; same = is ∙ sym was }
+  pub drains_none : {took : S → Bool} {Took : P → Type 0} {bridge : BridgeId} {other : ℕ} {receipt : BeatTotals} → before ≡ None → now ≡ None →
+      Drains (Stands StandsFor) took Took bridge other receipt before now NOT_OPEN
+  drains_none was is = record {
+    nothing = λ e. refl;
+    drained = no_some _ was;
+    right = λ zero. no_answer zero;
+    taken = λ x held zero. no_answer zero;
+    same = is ∙ sym was;
+  }
 
   pub counts_some : {h : S} {totals : S → BeatTotals} {AreOf : BeatTotals → P → Type 0} {unwritten written : BeatTotals} → before ≡ Some h →
       now ≡ Some h → written ≡ totals h → ((x : P) → StandsFor h x → AreOf written x) →
@@ -128,12 +122,13 @@ module _ {S P : Type 0} {StandsFor : S → P → Type 0} {before now : Option S}
     same = is ∙ sym was;
   }
 
-  pub drains_some : {h : S} {took : S → Bool} {Took : P → Type 0} {same_bridge : Bool} {answer : ℕ} → before ≡ Some h → now ≡ Some h →
-      answer ≡ drained_answer same_bridge (took h) → ((x : P) → StandsFor h x → answer ≡ 0 → Took x) →
-      Drains (Stands StandsFor) took Took same_bridge before now answer
-  drains_some was is drained taken = record {
+  pub drains_some : {h : S} {took : S → Bool} {Took : P → Type 0} {bridge : BridgeId} {other : ℕ} {receipt : BeatTotals} {answer : ℕ} →
+      before ≡ Some h → now ≡ Some h → answer ≡ drained_answer bridge other receipt (took h) → (answer ≡ 0 → IsReceipt bridge other receipt) →
+      ((x : P) → StandsFor h x → answer ≡ 0 → Took x) → Drains (Stands StandsFor) took Took bridge other receipt before now answer
+  drains_some was is drained right taken = record {
     nothing = not_none was;
     drained = if_some _ was drained;
+    right = right;
     taken = λ x held zero. taken x (some_stands StandsFor x was held) zero;
     same = is ∙ sym was;
   }

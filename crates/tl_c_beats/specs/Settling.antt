@@ -1,7 +1,8 @@
 -- Both sides of one bridge in one thread: the state in which nothing more can move (this project's choice).
 use Rattle.std.specs.Prelude.{◌≡◌, ◌≤◌, ◌<◌, ◌+◌, ◌*◌, ◌++◌, ℕ, length}
 use Rattle.tl_ring.specs.Crossing.{inbox_room}
-use Rattle.tl_ring.specs.Ends.{Sending, Taking, sent, received, room, known_free, known_items, passed}
+use Rattle.tl_ring.specs.Ends.{Sending, Taking, room, known_items, passed}
+pub use Rattle.tl_sides.specs.ArrivingSides.{IsKnown, KnownSides}
 use Rattle.tl_sides.specs.Sides.{ClientState, ManagerState, ClientPast, ManagerPast, SidesMeet}
 
 module _ {C M : ℕ} where
@@ -24,11 +25,6 @@ module _ {K A H : Type 0} {v : ℕ} where
     pub staged : 0 < length s.stage → room s ≤ length (known_items t)
     pub in_ring : 0 < length (known_items t) → inbox_room ≤ length t.inbox
 
-  -- the taking end knows all of the ring, and the sending end each free position
-  pub record IsKnown (s : Sending K A H v) (t : Taking K A H v) : Type 0 where
-    pub ring : received t ++ known_items t ≡ sent s
-    pub free : room s ≤ known_free s + length (known_items t)
-
   -- the number of moves that the beats of a channel still have to make: two for each staged beat, and one for each beat
   -- in the ring
   abbrev pub moves_left : Sending K A H v → Taking K A H v → ℕ
@@ -49,13 +45,6 @@ module _ {A : Type 0} {C M : ℕ} where
     pub c : IsStill s.c t.c
     pub d : IsStill t.d s.d
     pub e : IsStill s.e t.e
-
-  pub record KnownSides (s : ClientState A C M) (t : ManagerState A C M) : Type 0 where
-    pub a : IsKnown s.a t.a
-    pub b : IsKnown t.b s.b
-    pub c : IsKnown s.c t.c
-    pub d : IsKnown t.d s.d
-    pub e : IsKnown s.e t.e
 
   abbrev pub all_moves_left : ClientState A C M → ManagerState A C M → ℕ
   all_moves_left s t = moves_left s.a t.a + moves_left t.b s.b + moves_left s.c t.c + moves_left t.d s.d + moves_left s.e t.e

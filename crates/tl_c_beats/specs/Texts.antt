@@ -9,13 +9,13 @@ use Rattle.tl_ring.specs.Names.{build_fault_name, end_fault_name}
 use Rattle.tl_c_beats.specs.declared.texts.StatusText.{StatusText}
 use Rattle.tl_c_beats.specs.declared.texts.TheConstants.{NAME_BYTES, SENTENCE_BYTES}
 
--- a text by its number from 0 on, or one of the five statuses that only the library has
-abbrev by_number : (first : List (List ℕ)) (not_taken bridge_mismatch not_open not_sent not_ready : List ℕ) → ℕ → List ℕ
-by_number first not_taken bridge_mismatch not_open not_sent not_ready n =
+-- a text by its number from 0 on, or one of the six statuses that only the library has
+abbrev by_number : (first : List (List ℕ)) (not_taken wrong_receipt bridge_mismatch not_open not_sent not_ready : List ℕ) → ℕ → List ℕ
+by_number first not_taken wrong_receipt bridge_mismatch not_open not_sent not_ready n =
     if nat_lt n 24
     then slice_index_or first n []
-    else (if n == 249 then not_taken else (if n == 251 then bridge_mismatch else (if n == 252 then not_open else
-    (if n == 253 then not_sent else (if n == 254 then not_ready else [])))))
+    else (if n == 249 then not_taken else (if n == 250 then wrong_receipt else (if n == 251 then bridge_mismatch else
+    (if n == 252 then not_open else (if n == 253 then not_sent else (if n == 254 then not_ready else []))))))
 
 -- the texts of 0 to 23: of success, and of each fault by its number
 abbrev pub first_names : List (List ℕ)
@@ -47,7 +47,7 @@ first_names =
     ∷ []
 
 abbrev pub status_name : ℕ → List ℕ
-status_name = by_number first_names (codes "NotTaken") (codes "BridgeMismatch") (codes "NotOpen") (codes "NotSent") (codes "NotReady")
+status_name = by_number first_names (codes "NotTaken") (codes "WrongReceipt") (codes "BridgeMismatch") (codes "NotOpen") (codes "NotSent") (codes "NotReady")
 
 abbrev pub first_sentences : List (List ℕ)
 first_sentences =
@@ -80,6 +80,7 @@ first_sentences =
 abbrev pub status_sentence : ℕ → List ℕ
 status_sentence =
     by_number first_sentences (codes "not all beats that the receipt counts were taken yet")
+    (codes "this is no receipt that the other side gave since the bridge was opened")
     (codes "the two numbers of the bridge differ")
     (codes "the handle holds no side of a bridge")
     (codes "a channel that the side sends is open, or far beats are staged")

@@ -9,6 +9,10 @@ use tl_ring::EndFault;
 /// (this project's choice).
 pub const NOT_TAKEN: u8 = 249;
 
+/// The status of a comparison with numbers that are no receipt of the other side for this opening of
+/// the bridge (this project's choice).
+pub const WRONG_RECEIPT: u8 = 250;
+
 /// The status of a call that is given two sides, or a side and a receipt, whose numbers of the
 /// bridge differ (this project's choice).
 pub const BRIDGE_MISMATCH: u8 = 251;
@@ -29,10 +33,12 @@ pub const OUT_OF_MEMORY: u8 = 13;
 
 /// The version of the libraries. It grows with each change of a call, or of a structure that is
 /// passed to calls (this project's choice).
-pub const VERSION: u32 = 6;
+pub const VERSION: u32 = 7;
 
 // C gets these numbers only from the header.
 const _: () = prove!(NOT_TAKEN == 249);
+
+const _: () = prove!(WRONG_RECEIPT == 250);
 
 const _: () = prove!(BRIDGE_MISMATCH == 251);
 
@@ -44,7 +50,7 @@ const _: () = prove!(NOT_READY == 254);
 
 const _: () = prove!(OUT_OF_MEMORY == 13);
 
-const _: () = prove!(VERSION == 6);
+const _: () = prove!(VERSION == 7);
 
 /// Returns 0 if an offer was accepted, otherwise the number of its fault.
 pub fn offer_number(offered: Result<(), SideFault>) -> u8

@@ -5,6 +5,7 @@
 
 mod answer_block;
 mod answers;
+mod bridge_id;
 mod calls;
 mod closes;
 mod counts;
@@ -22,8 +23,9 @@ mod totals;
 pub use answer_block::AnswerBlock;
 pub use answers::{
     BRIDGE_MISMATCH, NOT_OPEN, NOT_READY, NOT_SENT, NOT_TAKEN, OUT_OF_MEMORY, VERSION,
-    close_number, offer_number,
+    WRONG_RECEIPT, close_number, offer_number,
 };
+pub use bridge_id::BridgeId;
 pub use closes::{close_a, close_b, close_c, close_d, close_e};
 pub use counts::{BeatCounts, ChannelCounts, channel_counts};
 pub use fields::{
@@ -36,6 +38,6 @@ pub use settling::settle;
 pub use tells::{tell_a, tell_b, tell_c, tell_d, tell_e};
 pub use texts::{NAME_BYTES, SENTENCE_BYTES, StatusText, status_text};
 pub use totals::{
-    BeatTotals, count_client, count_manager, drained_client, drained_manager, finish_client,
-    finish_manager,
+    BeatTotals, CLIENT_FINISHED, MANAGER_FINISHED, NOT_FINISHED, count_client, count_manager,
+    drained_client, drained_manager, finish_client, finish_manager,
 };

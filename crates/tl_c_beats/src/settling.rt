@@ -59,6 +59,7 @@ pub fn settle<const C: usize, const M: usize, A: Allocator>(
     ensures settled { (x : ClientPast C M) (y : ManagerPast C M) →
         ClientStandsFor client.old x → ManagerStandsFor manager.old y →
         SidesSettle client.new manager.new x y }
+    ensures known { KnownSides client.new manager.new }
     ensures still { StillSides client.new manager.new }
     ensures standing_a { AreStanding client.new.a manager.new.a result.a }
     ensures standing_b { AreStanding manager.new.b client.new.b result.b }

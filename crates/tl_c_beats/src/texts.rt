@@ -2,7 +2,7 @@
 ghost use Rattle.std.specs.Prelude.{◌≡◌, ◌≤◌, ◌<◌, length};
 ghost use Rattle.tl_c_beats.specs.Texts.{status_name, status_sentence, status_text, zero_ended};
 
-use crate::answers::{BRIDGE_MISMATCH, NOT_OPEN, NOT_READY, NOT_SENT, NOT_TAKEN};
+use crate::answers::{BRIDGE_MISMATCH, NOT_OPEN, NOT_READY, NOT_SENT, NOT_TAKEN, WRONG_RECEIPT};
 
 /// The number of bytes of a status's name, including the zeros at its end.
 pub const NAME_BYTES: usize = 16;
@@ -57,6 +57,7 @@ fn status_name(answer: u8) -> &'static str
         22 => "Write",
         23 => "TooLong",
         NOT_TAKEN => "NotTaken",
+        WRONG_RECEIPT => "WrongReceipt",
         BRIDGE_MISMATCH => "BridgeMismatch",
         NOT_OPEN => "NotOpen",
         NOT_SENT => "NotSent",
@@ -98,6 +99,7 @@ fn status_sentence(answer: u8) -> &'static str
         22 => "standard output could not be written",
         23 => "the trace has more than 67108864 bytes (64 MiB)",
         NOT_TAKEN => "not all beats that the receipt counts were taken yet",
+        WRONG_RECEIPT => "this is no receipt that the other side gave since the bridge was opened",
         BRIDGE_MISMATCH => "the two numbers of the bridge differ",
         NOT_OPEN => "the handle holds no side of a bridge",
         NOT_SENT => "a channel that the side sends is open, or far beats are staged",

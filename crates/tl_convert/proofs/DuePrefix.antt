@@ -36,7 +36,7 @@ module _ {H : Type 0} (r : Rules H) (w v : ℕ) (ww : IsWidth w) (vw : IsWidth v
         due r w v bs (m.home ∷ []) ≡ first_beats r m v (far_beats_of r m.head w v (length bs))
     due-begun m bs more lawful spells some left =
         let lt : length bs < beats_of r m.head w = shorter r w v ww vw partial_masked m bs more lawful spells some left in
-        begun-due r w v ww vw partial_masked m.head m.home [] bs (spelled-heads r w v ww vw partial_masked m bs more spells) (omega arith) ∙
+        begun-due r w v ww vw partial_masked m.head m.home [] [] bs (spelled-heads r w v ww vw partial_masked m bs more spells) (omega arith) ∙
         part-first r w v ww vw partial_masked m bs more lawful spells some left
 
     -- the far beats due for a list whose first message is whole

@@ -19,7 +19,7 @@ use Rattle.tl_convert.proofs.Comparisons.{equal_true, not_equal, there_is}
 abbrev pub with_bad : (ℕ → Bool) → ℕ → List Cell → List Cell
 with_bad f a cs = map (λ place. record { byte = place.1.byte; on = place.1.on; bad = f place.0 }) (enumerate_from a cs)
 
-with_bad-length : (f : ℕ → Bool) (a : ℕ) (cs : List Cell) → length (with_bad f a cs) ≡ length cs
+pub with_bad-length : (f : ℕ → Bool) (a : ℕ) (cs : List Cell) → length (with_bad f a cs) ≡ length cs
 with_bad-length f a [] = refl
 with_bad-length f a (c ∷ cs) = ap suc (with_bad-length f (a + 1) cs)
 
@@ -37,7 +37,7 @@ with_bad-back f a (x ∷ cs) (suc i) c e =
     let z : a + 1 + i ≡ a + suc i = omega arith in
     (k.0, k.1, k.2, k.3, k.4 ∙ ap f z)
 
-with_bad-on : (f : ℕ → Bool) (a : ℕ) (cs : List Cell) (i : ℕ) (d : Bool) →
+pub with_bad-on : (f : ℕ → Bool) (a : ℕ) (cs : List Cell) (i : ℕ) (d : Bool) →
     option_map_or (λ c. c.on) (slice_get (with_bad f a cs) i) d ≡ option_map_or (λ c. c.on) (slice_get cs i) d
 with_bad-on f a [] i d = refl
 with_bad-on f a (x ∷ cs) zero d = refl
@@ -276,14 +276,14 @@ module _ {H : Type 0} (r : Rules H) where
         ap (λ q. layout r (message_of r h w x q) v ++ due_after r w v [] homes o) (snoc-join seen b (c ∷ cs)))
 
     -- and of beats that only begin one
-    pub begun-due : (h : H) (x : ℕ) (seen bs : List (BeatOf H w)) → ((j : ℕ) (b : BeatOf H w) → slice_get bs j ≡ Some b → b.head ≡ h) →
-        length seen + length bs < beats_of r h w → due_after r w v seen (x ∷ []) bs ≡ part r w v x (seen ++ bs)
-    begun-due h x seen [] heads short = ap (λ q. part r w v x q) (sym (append-nil seen))
-    begun-due h x seen (b ∷ bs) heads short =
+    pub begun-due : (h : H) (x : ℕ) (homes : List ℕ) (seen bs : List (BeatOf H w)) → ((j : ℕ) (b : BeatOf H w) → slice_get bs j ≡ Some b → b.head ≡ h) →
+        length seen + length bs < beats_of r h w → due_after r w v seen (x ∷ homes) bs ≡ part r w v x (seen ++ bs)
+    begun-due h x homes seen [] heads short = ap (λ q. part r w v x q) (sym (append-nil seen))
+    begun-due h x homes seen (b ∷ bs) heads short =
         let s : beats_of r b.head w ≡ beats_of r h w = ap (λ g. beats_of r g w) (heads 0 b refl) in
         let t : ends r w seen b ≡ false = not_equal (length seen + 1) (beats_of r b.head w) (λ q. absurd (omega arith)) in
         let len : length (seen ++ b ∷ []) ≡ length seen + 1 = length-append seen (b ∷ []) in
-        rw t (begun-due h x (seen ++ b ∷ []) bs (λ j y q. heads (suc j) y q) (omega arith) ∙ ap (λ q. part r w v x q) (snoc-join seen b bs))
+        rw t (begun-due h x homes (seen ++ b ∷ []) bs (λ j y q. heads (suc j) y q) (omega arith) ∙ ap (λ q. part r w v x q) (snoc-join seen b bs))
 
     pub spelled-heads : (m : Message H) (rest more : List (BeatOf H w)) → Spells r m w (rest ++ more) → (j : ℕ) (b : BeatOf H w) →
         slice_get rest j ≡ Some b → b.head ≡ m.head
@@ -361,7 +361,7 @@ module _ {H : Type 0} (r : Rules H) where
     far-handed (begun m rest more lawful spells some left) =
         let lt : length rest < beats_of r m.head w = shorter m rest more lawful spells some left in
         let is_due : due r w v rest (m.home ∷ []) ≡ part r w v m.home rest =
-        begun-due m.head m.home [] rest (spelled-heads m rest more spells) (omega arith) in
+        begun-due m.head m.home [] [] rest (spelled-heads m rest more spells) (omega arith) in
         let P : List (BeatOf H v) → Type 0 = λ y. y ≢ [] → Handed r v y (m.home ∷ []) [] y in
         let Q : List (BeatOf H v) → Type 0 = λ y. Handed r v y (far_homes r [] (m.home ∷ []) (part r w v m.home rest)) [] (part r w v m.home rest) in
         record {

@@ -7,6 +7,7 @@ use Rattle.tl_msg.specs.Tables.{rules_a, rules_d}
 use Rattle.tl_msg.specs.declared.head.HeadC.{HeadC}
 use Rattle.tl_msg.specs.Tables.{rules_c}
 use Rattle.tl_convert.specs.Laws.{gathered as gathered_over}
+use Rattle.tl_convert.specs.Series.{due_in_series}
 
 abbrev a : (opcode param size source address : ℕ) → HeadA
 a opcode param size source address = record { opcode = opcode; param = param; size = size; source = source; address = address }
@@ -223,3 +224,12 @@ changed_counts = refl
 -- and here a Get whose address is not a multiple of its size
 unaligned : accepted_of rules_a (two 0x10 ++ on 4 (a 4 0 2 1 2) 15 (zeros 4) false ∷ two 0x20) ≡ two 0x10
 unaligned = refl
+
+-- two bridges in a row: a middle bus that is wider than both others gathers corrupt
+in_a_row : due_in_series rules_a 4 8 4 (on 4 (a 0 0 3 1 0x10) 15 (from 0 4) false ∷ on 4 (a 0 0 3 1 0x10) 15 (from 4 4) true ∷ []) (0x10 ∷ []) ≡
+    on 4 (a 0 0 3 1 0x10) 15 (from 0 4) true ∷ on 4 (a 0 0 3 1 0x10) 15 (from 4 4) true ∷ []
+in_a_row = refl
+
+-- and it keeps back a beat that doesn't fill a middle one
+in_a_row_cut : due_in_series rules_a 4 8 4 three (0x20 ∷ []) ≡ take 2 three
+in_a_row_cut = refl

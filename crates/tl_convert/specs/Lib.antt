@@ -6,3 +6,4 @@ pub mod Partial
 pub mod Counting
 pub mod Inner
 pub mod CutThrough
+pub mod Series

@@ -3,6 +3,7 @@
 ghost use Rattle.tl_lanes.specs.Lanes.{IsWidth};
 ghost use Rattle.tl_convert.specs.Accepted.{AcceptedIsLongest};
 ghost use Rattle.tl_convert.specs.CutThrough.{CutThrough};
+ghost use Rattle.tl_convert.specs.Series.{InSeries};
 ghost use Rattle.tl_convert.specs.Laws.{DueIsOne, DueGrows, DueIsHanded, DueIsLawful, DueHasNoFaults, LayoutSpells};
 
 use tl_msg::Channel;
@@ -61,6 +62,16 @@ pub fn due_has_no_faults<K: Channel, const W: usize, const V: usize>()
     requires near { IsWidth W }
     requires far { IsWidth V }
     ensures { DueHasNoFaults K.rules W V }
+{}
+
+/// Lemma, bridges in series: a bridge from V to U that is fed the far beats of a bridge from W to V
+/// gives what one bridge from W to U gives. If the middle bus is wider than both others, it gathers
+/// corrupt, and rounds the part of the last message down to whole middle beats.
+pub fn in_series<K: Channel, const W: usize, const V: usize, const U: usize>()
+    requires near { IsWidth W }
+    requires middle { IsWidth V }
+    requires far { IsWidth U }
+    ensures { InSeries K.rules W V U }
 {}
 
 /// Lemma: the beats before the first one that has a fault after those before it are the longest

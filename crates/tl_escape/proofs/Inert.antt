@@ -1,5 +1,6 @@
 -- The escaped form of a text in a page begins no tag and ends no value.
-use Rattle.std.proofs.Common.{◌∷◌, [], ℕ, List, All, arith, ◌≡◌, ◌++◌, ◌+◌, ◌<◌, length, take, ap, ◌∙◌, append_assoc, append-nil, sym}
+use Rattle.std.specs.Prelude.{OnErr}
+use Rattle.std.proofs.Common.{Result, Ok, Err, ◌∷◌, [], ℕ, List, All, arith, ◌≡◌, ◌++◌, ◌+◌, ◌<◌, length, take, ap, ◌∙◌, append_assoc, append-nil, sym}
 use Rattle.std.proofs.Math.ListN.{get_or}
 use Rattle.std.proofs.lemmas.List.{take_more}
 use Rattle.std.proofs.lemmas.Grind.{flat_map-append}
@@ -22,3 +23,8 @@ longer text at d lt begin held piece new old here put =
     put ∙ ap (λ q. q ++ piece) old ∙ append_assoc begin (escaped (take at text)) piece
     ∙ ap (λ q. begin ++ (escaped (take at text) ++ q)) (here ∙ sym (append-nil (reference byte)))
     ∙ ap (λ q. begin ++ q) (sym (ap escaped (take_more text at d lt) ∙ flat_map-append reference (take at text) (byte ∷ [])))
+
+-- whatever holds, holds of an error
+pub on_err : {T E P : Type 0} (r : Result T E) → P → OnErr r P
+on_err (Ok x) p = tt
+on_err (Err e) p = p

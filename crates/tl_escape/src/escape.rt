@@ -1,5 +1,5 @@
 //! Escapes text for an HTML page.
-ghost use Rattle.std.specs.Prelude.{◌≡◌, ◌++◌, All, OnOk};
+ghost use Rattle.std.specs.Prelude.{◌≡◌, ◌++◌, ℕ, All, OnErr, OnOk, take};
 ghost use Rattle.tl_escape.specs.Escaped.{reference, escaped, IsInert};
 
 use std::alloc::AllocError;
@@ -18,10 +18,11 @@ fn reference_of(byte: &u8) -> &[u8]
 
 /// Appends a text, escaped for use between the tags of a page or in the value of an attribute. The
 /// escaped text has no `<` and no `"`, and each `&` in it begins a reference (HTML: character
-/// references). Errors: `AllocError` if the allocator fails; a part of the text may then have been
-/// appended.
+/// references). Errors: `AllocError` if the allocator fails; what was appended is then the escaped
+/// form of the text's first bytes.
 pub fn put_escaped(out: &mut Vec<u8>, text: &[u8]) -> Result<(), AllocError>
     ensures text { OnOk result (out.new.items ≡ out.old.items ++ escaped text.now) }
+    ensures part { OnErr result ((n : ℕ) × (out.new.items ≡ out.old.items ++ escaped (take n text.now))) }
     ensures inert { All IsInert (escaped text.now) }
 {
     for byte in text {

@@ -8,9 +8,12 @@ use Rattle.rtrb.specs.Ring as rtrb
 use Rattle.rtrb.specs.declared.producer.Producer.{Producer}
 use Rattle.rtrb.specs.declared.consumer.Consumer.{Consumer}
 use Rattle.tl_ring.specs.Ends.{ArePair, Sending, as_pipe, Taking, Ended, Sends, Takes, Fetched, Met, Meets, Shows, Shown, LookedAfter, IsReceiptOf}
-use Rattle.tl_ring.specs.Ends.{Finishes, SameTake, sent, room, known_items, received, passed, closing, sending_of}
+use Rattle.tl_ring.specs.Ends.{Finishes, SameTake, SendHalf, TakeHalf, sent, room, known_items, known_times, received, received_times, passed}
+use Rattle.tl_ring.specs.Ends.{clock, closing, sending_of}
+use Rattle.tl_ring.specs.Halves.{Popped, items}
 use Rattle.tl_ring.specs.Pipe.{Pipe, StandsFor, outbox_of}
-use Rattle.tl_ring.specs.declared.lawful.LawfulAt.{LawfulAt}
+use Rattle.tl_ring.specs.declared.stamped.Stamped.{Stamped}
+use Rattle.tl_ring.proofs.Times.{items_append, items_length, seen_items}
 use Rattle.tl_ring.proofs.Parting.{reached_parted}
 use Rattle.tl_ring.proofs.Boxes.{none_on_the_way, has_more_sent}
 use Rattle.tl_ring.proofs.PipeSteps.{stands_of, stands_new, stands_offered, stands_shut}
@@ -184,40 +187,46 @@ module _ {K A H : Type 0} {v : ℕ} where
       (here.0 ∙ sym of'.0 ∙ of.0, here.1 ∙ sym of'.1 ∙ of.1, here.2 ∙ sym of'.2 ∙ of.2, here.3 ∙ sym of'.3 ∙ of.3)
 
   -- both ends have looked at the ring
-  pub met_of : (s : Sending K A H v) (t : Taking K A H v) (p : Producer (BeatOf H v) A (LawfulAt K v H))
-      (c : Consumer (BeatOf H v) A (LawfulAt K v H)) (count : ℕ) →
-      ArePair s t → rtrb.ProducerLooked s.producer p → rtrb.ConsumerLooked t.consumer c → count ≡ length (rtrb.known_items c) →
-      rtrb.received c ++ rtrb.known_items c ≡ rtrb.sent p →
+  pub met_of : (s : Sending K A H v) (t : Taking K A H v) (p : SendHalf K A H v) (c : TakeHalf K A H v) (count : ℕ) →
+      ArePair s t → rtrb.ProducerLooked s.producer p → rtrb.ConsumerLooked t.consumer.end c.end → c.clock ≡ t.consumer.clock →
+      count ≡ length (rtrb.known_items c.end) → rtrb.received c.end ++ rtrb.known_items c.end ≡ rtrb.sent p →
       (count ≤ rtrb.producer_capacity s.producer) × (rtrb.producer_capacity s.producer ≤ rtrb.known_free p + count) →
       Met s t (record s { producer = p }) (record t { consumer = c })
-  met_of s t p c count pair sees seen counts fifo places = record {
-    pair = still_pair_after s.producer p t.consumer c pair sees seen;
-    send = sees.0;
-    take = seen.0;
-    same_converter = refl;
-    same_stage = refl;
-    same_closed = refl;
-    same_sent = sees.1;
-    same_inbox = refl;
-    same_received = seen.1;
-    ring = fifo;
-    in_room = omega (arith, places.0, counts);
-    free = sees.2;
-    all_free = omega (arith, places.1, counts);
-  }
+  met_of s t p c count pair sees seen ticks counts fifo places =
+      let size : length (items (rtrb.known_items c.end)) ≡ length (rtrb.known_items c.end) = items_length (rtrb.known_items c.end) in
+      record {
+        pair = still_pair_after s.producer p t.consumer.end c.end pair sees seen;
+        send = sees.0;
+        take = seen.0;
+        same_converter = refl;
+        same_stage = refl;
+        same_closed = refl;
+        same_sent = ap items sees.1;
+        same_inbox = refl;
+        same_received = ap items seen.1;
+        ring = sym (items_append (rtrb.received c.end) (rtrb.known_items c.end)) ∙ ap items fifo;
+        same_sent_times = sees.1;
+        same_received_times = seen.1;
+        same_clock = ticks;
+        ring_times = fifo;
+        in_room = omega (arith, places.0, counts, size);
+        free = sees.2;
+        all_free = omega (arith, places.1, counts, size);
+      }
 
   -- beats moved from the ring into the inbox
-  pub fetched_of : (t : Taking K A H v) (c : Consumer (BeatOf H v) A (LawfulAt K v H)) (inbox moved : List (BeatOf H v)) (k : ℕ) →
-      rtrb.SameConsumer t.consumer c →
-      length moved ≡ k → inbox ≡ t.inbox ++ moved → rtrb.received c ≡ received t ++ moved → IsPrefix (known_items t) (moved ++ rtrb.known_items c) →
+  pub fetched_of : (allows : List (Stamped (BeatOf H v)) → Stamped (BeatOf H v) → Type 0) (t : Taking K A H v) (c : TakeHalf K A H v)
+      (inbox moved : List (BeatOf H v)) (k : ℕ) → rtrb.SameConsumer t.consumer.end c.end → length moved ≡ k → inbox ≡ t.inbox ++ moved →
+      Popped allows (received_times t) (rtrb.received c.end) (known_times t) (rtrb.known_items c.end) moved (clock t) c.clock →
       Fetched t k (record { inbox = inbox; consumer = c })
-  fetched_of t c inbox moved k same count more receives known = record {
+  fetched_of allows t c inbox moved k same count more popped = record {
     ring = same;
     moved = moved;
     count = count;
     inbox = more;
-    received = receives;
-    known = known;
+    received = ap items popped.heard.more ∙ items_append (received_times t) popped.heard.got ∙ ap (λ l. received t ++ l) popped.are;
+    known = seen_items (known_times t) popped.heard.got (rtrb.known_items c.end) moved popped.are popped.seen;
+    heard = popped.heard;
   }
 
   pub takes_fetched : (t t' : Taking K A H v) (k : ℕ) → Fetched t k t' → (taken : List (BeatOf H v)) → Takes t taken → Takes t' taken
@@ -226,17 +235,16 @@ module _ {K A H : Type 0} {v : ℕ} where
 
 module _ {K A H : Type 0} (r : Rules H) {w v : ℕ} where
   -- and that is a meeting for whatever crossing they represented
-  pub meeting_of : (s : Sending K A H v) (t : Taking K A H v) (p : Producer (BeatOf H v) A (LawfulAt K v H))
-      (c : Consumer (BeatOf H v) A (LawfulAt K v H)) (count : ℕ) →
-      ArePair s t → rtrb.ProducerLooked s.producer p → rtrb.ConsumerLooked t.consumer c → count ≡ length (rtrb.known_items c) →
-      rtrb.received c ++ rtrb.known_items c ≡ rtrb.sent p →
+  pub meeting_of : (s : Sending K A H v) (t : Taking K A H v) (p : SendHalf K A H v) (c : TakeHalf K A H v) (count : ℕ) →
+      ArePair s t → rtrb.ProducerLooked s.producer p → rtrb.ConsumerLooked t.consumer.end c.end → c.clock ≡ t.consumer.clock →
+      count ≡ length (rtrb.known_items c.end) → rtrb.received c.end ++ rtrb.known_items c.end ≡ rtrb.sent p →
       (count ≤ rtrb.producer_capacity s.producer) × (rtrb.producer_capacity s.producer ≤ rtrb.known_free p + count) →
       length t.inbox ≤ inbox_room →
       Met s t (record s { producer = p }) (record t { consumer = c }) ×
       ((x : World H w v) (taken : List (BeatOf H v)) → Sends r s x → Takes t taken →
       Meets r (record s { producer = p }) (record t { consumer = c }) x taken)
-  meeting_of s t p c count pair sees seen counts fifo places held =
-      let met = met_of s t p c count pair sees seen counts fifo places in
+  meeting_of s t p c count pair sees seen ticks counts fifo places held =
+      let met = met_of s t p c count pair sees seen ticks counts fifo places in
       (met, λ x taken sends takes. meets_of r s (record s { producer = p }) t (record t { consumer = c }) x taken met held sends takes)
 
   -- the receipt of an end shows the crossing that the end represents, and its ring is no larger than the end's
@@ -245,16 +253,17 @@ module _ {K A H : Type 0} (r : Rules H) {w v : ℕ} where
   shows_of s e x finishes none_staged closed h = record {
     closed = sym h.pipe.closed ∙ closed;
     none_staged = sym h.pipe.stage ∙ none_staged;
-    sent = finishes.1 ∙ h.sent;
+    sent = ap items finishes.1 ∙ h.sent;
     no_ring = sym h.pipe.ring;
     no_inbox = sym h.pipe.inbox;
     some_room = h.some_room;
     room = λ t of.
-        let held : length (known_items t) ≤ t.consumer.capacity = t.consumer.counts in
-        let same : t.consumer.capacity ≡ s.producer.capacity =
-        t.consumer.reads.2 ∙ ap (λ (n : _). n.0) (of.2 ∙ finishes.0.2) ∙ sym s.producer.writes.2 in
+        let held : length (known_times t) ≤ t.consumer.end.capacity = t.consumer.end.counts in
+        let size : length (known_items t) ≡ length (known_times t) = items_length (known_times t) in
+        let same : t.consumer.end.capacity ≡ s.producer.capacity =
+        t.consumer.end.reads.2 ∙ ap (λ (n : _). n.0) (of.2 ∙ finishes.0.2) ∙ sym s.producer.writes.2 in
         let mine : s.producer.capacity ≡ x.room = h.pipe.room in
-        omega (arith, held, same, mine);
+        omega (arith, held, size, same, mine);
     reached = h.pipe.reached;
     crosses = h.pipe.crosses;
   }

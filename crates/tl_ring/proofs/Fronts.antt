@@ -5,29 +5,14 @@ use Rattle.std.specs.Option.{IfSome}
 use Rattle.std.specs.List.{slice_get}
 use Rattle.rtrb.specs.Fifo.{Allowed}
 
--- the items of a slice that entered are its first ones
-pub front_pushed : {X : Type 0} (before after front back whole : List X) → front ++ back ≡ whole → after ≡ before ++ front →
-    after ≡ before ++ take (length front) whole
-front_pushed before after front back whole parts pushed =
-    pushed ∙ ap (λ l. before ++ l) (sym (take-append_seam front back) ∙ ap (λ l. take (length front) l) parts)
+-- no fewer items entered than were known to fit, if no position is left when some remain
+pub least_entered : (whole before after count : ℕ) → before ≤ after + count → (count < whole → after ≡ 0) → min whole before ≤ count
+least_entered whole before after count known full = ⊎_elim
+    (λ rest. let none = full rest in omega (arith, none))
+    (λ no_rest. omega arith)
+    (cases_lt count whole)
 
--- no more items than there are, and no fewer than were known to fit, if no position is left when some remain
-pub most_pushed : {X : Type 0} (front back whole : List X) → front ++ back ≡ whole → length front ≤ length whole
-most_pushed front back whole parts = let all = sym (length-append front back) ∙ ap length parts in omega (arith, all)
-
-pub least_pushed : {X : Type 0} (front back whole : List X) (before after : ℕ) → front ++ back ≡ whole → before ≤ after + length front →
-    (0 < length back → after ≡ 0) → min (length whole) before ≤ length front
-least_pushed front back whole before after parts known full =
-    let all = sym (length-append front back) ∙ ap length parts in ⊎_elim
-    (λ rest. let none = full rest in omega (arith, all, none))
-    (λ no_rest. omega (arith, all))
-    (cases_lt 0 (length back))
-
--- each of them satisfies the ring's protocol, if that depends on no other item
-pub all_allowed : {X : Type 0} (P : X → Type 0) (before xs : List X) → Allowed (λ earlier x. P x) before xs → All P xs
-all_allowed P before [] h = All-nil P
-all_allowed P before (x ∷ xs) h = All-append P (x ∷ []) xs (All-replicate P 1 x h.0) (all_allowed P (before ++ x ∷ []) xs h.1)
-
+-- a property of each of the first items
 pub all_front : {X : Type 0} (P : X → Type 0) (k : ℕ) (xs rest : List X) → k ≤ length xs → All P (take k xs) → All P (take k (xs ++ rest))
 all_front P k xs rest inside h = rw (take-append-le k xs rest inside) h
 

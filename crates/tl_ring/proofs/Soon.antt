@@ -1,20 +1,12 @@
 -- The number of pumps and fetches until a beat can be taken.
-use Rattle.tl_ring.proofs.Names.{◌≡◌, ◌≤◌, ◌<◌, ◌+◌, ◌*◌, ◌-◌, ◌↔◌, ◌++◌, ℕ, zero, suc, List, [], ◌∷◌, length, take, drop, min, refl, sym, ap, subst, ◌∙◌}
-use Rattle.tl_ring.proofs.Names.{arith, ⊎_elim, cases_lt, drop-append_seam, length-take, length-drop, drop-drop, drop_all, take_all, nil_from_length}
+use Rattle.tl_ring.proofs.Names.{◌≡◌, ◌≤◌, ◌+◌, ◌*◌, ◌-◌, ◌↔◌, ◌++◌, ℕ, zero, suc, List, [], ◌∷◌, length, take, drop, min, refl, sym, ap, ◌∙◌}
+use Rattle.tl_ring.proofs.Names.{arith, ⊎_elim, cases_lt, drop-append_seam, length-drop, drop-drop, drop_all}
 use Rattle.tl_ring.proofs.Names.{Rules, BeatOf, homes_with, due, World, offered, inbox_room, slice_get, Some}
-use Rattle.std.specs.Prelude.{◌/◌}
-use Rattle.std.proofs.lemmas.List.{take-take}
-use Rattle.std.proofs.Math.Nat.{div-lt_iff_lt-mul}
+use Rattle.tl_ring.specs.Arriving.{first_move}
+use Rattle.tl_ring.proofs.Arriving.{rings_hold, fetched}
 use Rattle.tl_ring.specs.Soon.{after_pump, after_fetch, IsIdle, AfterPumps, none_yet, one_more, rings_for, HowSoon}
 
--- the front of a list, cut by its length too
-take_most : {X : Type 0} (n : ℕ) (xs : List X) → take (min (length xs) n) xs ≡ take n xs
-take_most n xs = ⊎_elim
-    (λ more. let all : min (length xs) n ≡ length xs = omega (arith, more) in
-    ap (λ k. take k xs) all ∙ take_all (length xs) xs (omega arith) ∙ sym (take_all n xs (omega (arith, more))))
-    (λ less. let some : min (length xs) n ≡ n = omega (arith, less) in ap (λ k. take k xs) some)
-    (cases_lt (length xs) n)
-
+-- the rest of a list, cut by its length too
 drop_most : {X : Type 0} (n : ℕ) (xs : List X) → drop (min (length xs) n) xs ≡ drop n xs
 drop_most n xs = ⊎_elim
     (λ more. let all : min (length xs) n ≡ length xs = omega (arith, more) in
@@ -22,59 +14,22 @@ drop_most n xs = ⊎_elim
     (λ less. let some : min (length xs) n ≡ n = omega (arith, less) in ap (λ k. drop k xs) some)
     (cases_lt (length xs) n)
 
--- a front of a front
-take_both : {X : Type 0} (n m : ℕ) (xs : List X) → take n (take m xs) ≡ take (min m n) xs
-take_both n m xs = ⊎_elim
-    (λ less. let one : min m n ≡ n = omega (arith, less) in take-take n m xs (omega (arith, less)) ∙ ap (λ k. take k xs) (sym one))
-    (λ more.
-    let one : min m n ≡ m = omega (arith, more) in
-    let short : length (take m xs) ≡ min m (length xs) = length-take m xs in
-    take_all n (take m xs) (omega (arith, short, more)) ∙ ap (λ k. take k xs) (sym one))
-    (cases_lt n m)
-
--- the beats in the inbox after one pump and one fetch
-abbrev now_in_ring : {X : Type 0} (room : ℕ) (ring stage : List X) → List X
-now_in_ring room ring stage = ring ++ take (min (length stage) (room - length ring)) stage
-
-abbrev inbox_then : {X : Type 0} (room : ℕ) (inbox ring stage : List X) → List X
-inbox_then room inbox ring stage =
-    inbox ++ take (min (length (now_in_ring room ring stage)) (inbox_room - length inbox)) (now_in_ring room ring stage)
-
--- the same, if ring and inbox were empty before
-from_empty : {X : Type 0} (room : ℕ) (stage : List X) → inbox_then room [] [] stage ≡ take (min room inbox_room) stage
-from_empty room stage =
-    let none : room - 0 ≡ room = omega arith in
-    let sent : take (min (length stage) (room - 0)) stage ≡ take room stage =
-    ap (λ n. take (min (length stage) n) stage) none ∙ take_most room stage in
-    take_most inbox_room (take (min (length stage) (room - 0)) stage) ∙ ap (λ xs. take inbox_room xs) sent ∙ take_both inbox_room room stage
-
 first_of : {X : Type 0} (n : ℕ) (x : X) (xs : List X) → 1 ≤ n → slice_get (take n (x ∷ xs)) 0 ≡ Some x
 first_of zero x xs some = absurd (omega (arith, some))
 first_of (suc n) x xs some = refl
-
--- rounded up: a number of rings holds a list if and only if it is no longer than they are together
-rings_hold : (room count n : ℕ) → 1 ≤ room → (count ≤ n * room) ↔ (rings_for room count ≤ n)
-rings_hold room count n some =
-    let next : (n + 1) * room ≡ n * room + room = grind arith in (
-      λ fits.
-          let lt : count + room - 1 < (n + 1) * room = omega (arith, fits, next, some) in
-          let le : (count + room - 1) / room < n + 1 = (div-lt_iff_lt-mul some).1 lt in
-          omega (arith, le),
-      λ le.
-          let lt : (count + room - 1) / room < n + 1 = omega (arith, le) in
-          let fits : count + room - 1 < (n + 1) * room = (div-lt_iff_lt-mul some).0 lt in
-          omega (arith, fits, next, some),
-    )
 
 module _ {H : Type 0} (r : Rules H) {w v : ℕ} where
   together_of : (x : World H w v) (b : BeatOf H w) (home : ℕ) (far : List (BeatOf H v)) → IsIdle x →
       due r w v (x.accepted ++ b ∷ []) (homes_with r x.accepted x.homes b home) ≡ due r w v x.accepted x.homes ++ far →
       (after_fetch (after_pump (offered r b home x))).inbox ≡ take (min x.room inbox_room) far
   together_of x b home far idle e =
-      let staged : (offered r b home x).stage ≡ far =
-      ap (λ all. drop (length (due r w v x.accepted x.homes)) all) e ∙ drop-append_seam (due r w v x.accepted x.homes) far in
-      ap (λ s. inbox_then x.room x.inbox x.ring s) staged ∙ ap (λ k. inbox_then x.room x.inbox k far) idle.1 ∙
-      ap (λ i. inbox_then x.room i [] far) idle.2 ∙ from_empty x.room far
+      let y : World H w v = offered r b home x in
+      let staged : y.stage ≡ far = ap (λ all. drop (length (due r w v x.accepted x.homes)) all) e ∙ drop-append_seam (due r w v x.accepted x.homes) far in
+      let no_ring : length x.ring ≡ 0 = ap length idle.1 in
+      let no_inbox : length x.inbox ≡ 0 = ap length idle.2 in
+      let most : first_move y ≡ min x.room inbox_room = omega (arith, no_inbox) in
+      fetched y (omega (arith, no_ring)) ∙ ap (λ i. i ++ take (first_move y) (x.ring ++ y.stage)) idle.2 ∙
+      ap (λ k. take (first_move y) (k ++ y.stage)) idle.1 ∙ ap (λ s. take (first_move y) s) staged ∙ ap (λ n. take n far) most
 
 module _ {H : Type 0} {w v : ℕ} where
   -- each pump takes a ring's worth off the stage

@@ -4,23 +4,24 @@ use mathlib.Core.List.{IsPrefix}
 use Rattle.rtrb.specs.Ring as rtrb
 use Rattle.rtrb.specs.declared.producer.Producer.{Producer}
 use Rattle.rtrb.specs.declared.finished.Finished.{Finished}
-use Rattle.rtrb.specs.declared.consumer.Consumer.{Consumer}
 use Rattle.tl_msg.specs.Rules.{Rules}
 use Rattle.tl_msg.specs.declared.beat.BeatOf.{BeatOf}
 use Rattle.tl_convert.specs.Converting.{Progress}
 use Rattle.tl_ring.specs.Boxes.{Outgoing, HasSent, HasTaken}
 use Rattle.tl_ring.specs.Counts.{counted}
 use Rattle.tl_ring.specs.Crossing.{World, IsReached}
+use Rattle.tl_ring.specs.Halves.{Receiver, Heard, items}
 use Rattle.tl_ring.specs.Laws.{Crosses}
 use Rattle.tl_ring.specs.Pipe.{Pipe, StandsFor, outbox_of}
 use Rattle.tl_ring.specs.declared.lawful.LawfulAt.{LawfulAt}
+use Rattle.tl_ring.specs.declared.stamped.Stamped.{Stamped}
 
--- the two halves of a ring
+-- the two halves of a ring, whose beats carry the times at which they were sent
 abbrev pub SendHalf : (K A H : Type 0) → ℕ → Type 0
-SendHalf K A H v = Producer (BeatOf H v) A (LawfulAt K v H)
+SendHalf K A H v = Producer (Stamped (BeatOf H v)) A (LawfulAt K v H)
 
 abbrev pub TakeHalf : (K A H : Type 0) → ℕ → Type 0
-TakeHalf K A H v = Consumer (BeatOf H v) A (LawfulAt K v H)
+TakeHalf K A H v = Receiver (Stamped (BeatOf H v)) A (LawfulAt K v H)
 
 -- the current state of a sending end
 pub record Sending (K A H : Type 0) (v : ℕ) : Type 0 where
@@ -29,34 +30,38 @@ pub record Sending (K A H : Type 0) (v : ℕ) : Type 0 where
   -- the far beats that wait for a free position in the ring
   pub stage : List (BeatOf H v)
   -- its half of the ring
-  pub producer : Producer (BeatOf H v) A (LawfulAt K v H)
+  pub producer : Producer (Stamped (BeatOf H v)) A (LawfulAt K v H)
   pub closed : Bool
 
 -- the receipt of a sending end that was given up: it shows all beats that were sent
 pub record Ended (K A H : Type 0) (v : ℕ) : Type 0 where
-  pub finished : Finished (BeatOf H v) A (LawfulAt K v H)
+  pub finished : Finished (Stamped (BeatOf H v)) A (LawfulAt K v H)
 
 -- the current state of a taking end
 pub record Taking (K A H : Type 0) (v : ℕ) : Type 0 where
   -- the far beats that were fetched and not yet taken
   pub inbox : List (BeatOf H v)
-  -- its half of the ring
-  pub consumer : Consumer (BeatOf H v) A (LawfulAt K v H)
+  -- its half of the ring, and the clock of its side
+  pub consumer : Receiver (Stamped (BeatOf H v)) A (LawfulAt K v H)
 
 module _ {K A H : Type 0} {v : ℕ} where
   -- both halves are of one new ring of `size` beats, and the sending half knows all of it to be free
   pub record IsNewRing (size : ℕ) (s : SendHalf K A H v) (t : TakeHalf K A H v) : Type 0 where
-    pub pair : rtrb.IsPair s t
+    pub pair : rtrb.IsPair s t.end
     pub some_room : 1 ≤ size
     pub room : rtrb.producer_capacity s ≡ size
     pub none_sent : rtrb.sent s ≡ []
     pub all_free : rtrb.known_free s ≡ size
-    pub none_received : rtrb.received t ≡ []
-    pub none_known : rtrb.known_items t ≡ []
+    pub none_received : rtrb.received t.end ≡ []
+    pub none_known : rtrb.known_items t.end ≡ []
+    pub starts : t.clock ≡ 0
 
-  -- the beats that entered the ring so far
+  -- the beats that entered the ring so far, each with the time at which it was sent
+  abbrev pub sent_times : Sending K A H v → List (Stamped (BeatOf H v))
+  sent_times s = rtrb.sent s.producer
+
   abbrev pub sent : Sending K A H v → List (BeatOf H v)
-  sent s = rtrb.sent s.producer
+  sent s = items (sent_times s)
 
   -- the capacity of the ring in beats
   abbrev pub room : Sending K A H v → ℕ
@@ -66,28 +71,38 @@ module _ {K A H : Type 0} {v : ℕ} where
   abbrev pub known_free : Sending K A H v → ℕ
   known_free s = rtrb.known_free s.producer
 
-  -- the beats that came out of the ring so far
+  -- the beats that came out of the ring so far, each with the time at which it was sent
+  abbrev pub received_times : Taking K A H v → List (Stamped (BeatOf H v))
+  received_times t = rtrb.received t.consumer.end
+
   abbrev pub received : Taking K A H v → List (BeatOf H v)
-  received t = rtrb.received t.consumer
+  received t = items (received_times t)
 
   -- the beats that the taking end knows to be in the ring
+  abbrev pub known_times : Taking K A H v → List (Stamped (BeatOf H v))
+  known_times t = rtrb.known_items t.consumer.end
+
   abbrev pub known_items : Taking K A H v → List (BeatOf H v)
-  known_items t = rtrb.known_items t.consumer
+  known_items t = items (known_times t)
+
+  -- the clock of the side that takes
+  abbrev pub clock : Taking K A H v → ℕ
+  clock t = t.consumer.clock
 
   -- both are of one pair
   abbrev pub ArePair : Sending K A H v → Taking K A H v → Type 0
-  ArePair s t = rtrb.IsPair s.producer t.consumer
+  ArePair s t = rtrb.IsPair s.producer t.consumer.end
 
   -- the same end of the same ring
   abbrev pub SameSend : Sending K A H v → Sending K A H v → Type 0
   SameSend a b = rtrb.SameProducer a.producer b.producer
 
   abbrev pub SameTake : Taking K A H v → Taking K A H v → Type 0
-  SameTake a b = rtrb.SameConsumer a.consumer b.consumer
+  SameTake a b = rtrb.SameConsumer a.consumer.end b.consumer.end
 
   -- everything that was sent
   abbrev pub all_sent : Ended K A H v → List (BeatOf H v)
-  all_sent e = rtrb.all_sent e.finished
+  all_sent e = items (rtrb.all_sent e.finished)
 
   -- how many beats a sending end has sent, as it counts them
   abbrev pub sent_count : Sending K A H v → ℕ
@@ -103,7 +118,7 @@ module _ {K A H : Type 0} {v : ℕ} where
 
   -- the receipt of the other end of this one's ring
   abbrev pub IsReceiptOf : Ended K A H v → Taking K A H v → Type 0
-  IsReceiptOf e t = rtrb.IsFinishedOf e.finished t.consumer
+  IsReceiptOf e t = rtrb.IsFinishedOf e.finished t.consumer.end
 
   -- the receipt of the taking end that is a pair with this sending end
   abbrev pub IsReceiptFor : Sending K A H v → Ended K A H v → Type 0
@@ -150,6 +165,11 @@ module _ {K A H : Type 0} {v : ℕ} where
     pub same_inbox : t'.inbox ≡ t.inbox
     pub same_received : received t' ≡ received t
     pub ring : received t' ++ known_items t' ≡ sent s'
+    -- so are the times at which the beats were sent
+    pub same_sent_times : sent_times s' ≡ sent_times s
+    pub same_received_times : received_times t' ≡ received_times t
+    pub same_clock : clock t' ≡ clock t
+    pub ring_times : received_times t' ++ known_times t' ≡ sent_times s'
     pub in_room : length (known_items t') ≤ room s
     pub free : known_free s ≤ known_free s'
     -- each position without a beat is known to be free
@@ -162,6 +182,8 @@ module _ {K A H : Type 0} {v : ℕ} where
     pub same_sent : all_sent e' ≡ all_sent e
     pub same_inbox : t'.inbox ≡ t.inbox
     pub same_received : received t' ≡ received t
+    pub same_received_times : received_times t' ≡ received_times t
+    pub same_clock : clock t' ≡ clock t
     pub ring : received t' ++ known_items t' ≡ all_sent e
 
   -- the beats that were taken, and those in the inbox, are those that came out of the ring
@@ -176,6 +198,8 @@ module _ {K A H : Type 0} {v : ℕ} where
     pub inbox : b.inbox ≡ a.inbox ++ moved
     pub received : received b ≡ received a ++ moved
     pub known : IsPrefix (known_items a) (moved ++ known_items b)
+    -- the clock of the side moved on past the times at which they were sent
+    pub heard : Heard (received_times a) (received_times b) (clock a) (clock b)
 
 module _ {H : Type 0} {w v : ℕ} where
   -- k beats move from the front of the stage through the ring, and are taken

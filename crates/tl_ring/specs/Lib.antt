@@ -1,7 +1,9 @@
+pub mod Arriving
 pub mod Boxes
 pub mod Counts
 pub mod Crossing
 pub mod Ends
+pub mod Halves
 pub mod Laws
 pub mod Names
 pub mod Pipe

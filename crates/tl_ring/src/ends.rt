@@ -10,6 +10,7 @@ ghost use Rattle.tl_ring.specs.Counts.{IsNumberOf, counted};
 ghost use Rattle.tl_ring.specs.Ends.{Sends, Takes, all_sent, taken_count, Pushed, Fetched, Shows, Shown, LookedAfter, IsReceiptOf, IsReceiptFor, Finishes, sending_of, taking_of, known_free, known_items, passed, closing, took_first};
 ghost use Rattle.tl_ring.specs.declared.queue.TheConstants.{STAGE_CAPACITY};
 
+use crate::clock::Clock;
 use crate::counting::CountedFinish;
 use crate::fault::EndFault;
 use crate::halves::{RingReader, SendHalf, finish, is_drained, receive, send_staged, taken_count};
@@ -17,6 +18,7 @@ use crate::inbox::Inbox;
 use crate::lawful::LawfulAt;
 use crate::outbox::Outbox;
 use crate::queue::STAGE_CAPACITY;
+use crate::stamped::Stamped;
 use std::alloc::{Allocator, Global};
 use std::marker::Model;
 use tl_msg::{Beat, BeatFault, Channel};
@@ -96,7 +98,7 @@ impl<K: Channel, const W: usize, const V: usize, A: Allocator> SendEnd<K, W, V, 
         ensures stands { (x : World K.Head W V) → Sends K.rules self.old x →
             Sends K.rules self.new (passed result x) }
     {
-        send_staged(&mut self.outbox, &mut self.producer)
+        send_staged(&mut self.outbox, &mut self.producer, &Clock::new())
     }
 
     /// Ends the offers. Beats in the stage stay there, and still cross.
@@ -161,7 +163,7 @@ impl<K: Channel, const W: usize, const V: usize, A: Allocator> ClosingEnd<K, W, 
             Sends K.rules self.new (passed result x) }
     {
         let ClosingEnd { outbox, producer } = self;
-        send_staged(outbox, producer)
+        send_staged(outbox, producer, &Clock::new())
     }
 
     /// Gives up the end. Returns the receipt that shows the taking end all beats that were sent. If
@@ -185,7 +187,7 @@ impl<K: Channel, const W: usize, const V: usize, A: Allocator> ClosingEnd<K, W, 
 /// the sending end was given up. It can be moved to the thread of the taking end.
 #[derive(Drop)]
 pub struct Receipt<K: Channel, const W: usize, const V: usize, A: Allocator = Global> {
-    pub(crate) finished: CountedFinish<Beat<K, V>, A, LawfulAt<K, V>>,
+    pub(crate) finished: CountedFinish<Stamped<Beat<K, V>>, A, LawfulAt<K, V>>,
 }
 
 impl<K: Channel, const W: usize, const V: usize, A: Allocator> Model for Receipt<K, W, V, A> {

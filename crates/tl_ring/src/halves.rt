@@ -1,17 +1,21 @@
 //! The two halves of the ring between two threads, and the functions that move beats between a half
 //! and an outbox or an inbox.
-ghost use Rattle.std.specs.Prelude.{◌≡◌, ◌≤◌, ◌<◌, ◌+◌, ◌-◌, ◌++◌, ◌↔◌, ◌⊎◌, [], List, true, length, min, drop, take, IsOk, IsTrue, IfOk, IfErr, IfSome};
-ghost use Rattle.rtrb.specs.Fifo.{EachAllowed};
+ghost use Rattle.std.specs.Prelude.{◌≡◌, ◌≤◌, ◌<◌, ◌+◌, ◌-◌, ◌++◌, ◌↔◌, ◌⊎◌, [], List, All, true, length, min, drop, take, IsOk, IsTrue, IfOk, IfErr, IfSome};
 ghost use Rattle.rtrb.specs.Ring as rtrb;
 ghost use Rattle.tl_msg.specs.declared.beat.BeatOf.{BeatOf};
 ghost use Rattle.tl_ring.specs.Counts.{IsNumberOf};
 ghost use Rattle.tl_ring.specs.Crossing.{World, inbox_room};
 ghost use Rattle.tl_ring.specs.Ends.{Sends, Takes, Pushed, Fetched, IsNewRing, sending_of, taking_of, passed, known_items};
+ghost use Rattle.tl_ring.specs.Halves.{all_stamped, stamped};
+ghost use Rattle.tl_ring.specs.declared.stamped.Stamped.{Stamped};
 ghost use Rattle.tl_ring.specs.Ends.{taken_count, Finishes, IsReceiptFor, IsReceiptOf, LookedAfter, Shows, Shown};
 ghost use Rattle.tl_ring.specs.declared.pipe.TheConstants.{MAX_RING};
 ghost use Rattle.tl_ring.specs.declared.queue.TheConstants.{STAGE_CAPACITY};
 
-use crate::counting::{CountingConsumer, CountingProducer, counting_ends};
+use crate::clock::Clock;
+use crate::counting::{
+    CountingConsumer, CountingProducer, counting_ends, pop_stamped, push_stamped,
+};
 use crate::ends::Receipt;
 use crate::fault::BuildFault;
 use crate::inbox::Inbox;
@@ -19,15 +23,17 @@ use crate::lawful::LawfulAt;
 use crate::outbox::Outbox;
 use crate::queue::{Queue, STAGE_CAPACITY};
 use crate::ring::is_ring_size;
+use crate::stamped::Stamped;
 use rtrb::{Protocol, RingBuffer};
 use std::alloc::{Allocator, Global};
 use tl_msg::{Beat, Channel};
 
-/// The half of a ring that belongs to its sending end.
-pub type SendHalf<K, const V: usize, A> = CountingProducer<Beat<K, V>, A, LawfulAt<K, V>>;
+/// The half of a ring that belongs to its sending end. Each beat in the ring carries the time at
+/// which it was sent, which exists only in proofs.
+pub type SendHalf<K, const V: usize, A> = CountingProducer<Stamped<Beat<K, V>>, A, LawfulAt<K, V>>;
 
-/// The half of a ring that belongs to its taking end.
-pub type TakeHalf<K, const V: usize, A> = CountingConsumer<Beat<K, V>, A, LawfulAt<K, V>>;
+/// The half of a ring that belongs to its taking end, with the clock of its side.
+pub type TakeHalf<K, const V: usize, A> = CountingConsumer<Stamped<Beat<K, V>>, A, LawfulAt<K, V>>;
 
 /// Creates a ring of `size` beats, the only memory that is allocated. Returns both halves.
 ///
@@ -81,8 +87,8 @@ pub fn receive<K: Channel, const V: usize, A: Allocator>(
     intake: &mut RingReader<K, V, A>,
     inbox: &mut Inbox<K, V>,
 ) -> usize
-    ensures least { min (length (rtrb.known_items intake.old.half)) (inbox_room - length inbox.old) ≤
-        result }
+    ensures least { min (length (known_items (taking_of inbox.old intake.old.half)))
+        (inbox_room - length inbox.old) ≤ result }
     ensures most { result ≤ inbox_room - length inbox.old }
     ensures fetched { Fetched (taking_of inbox.old intake.old.half) result
         (taking_of inbox.new intake.new.half) }
@@ -91,7 +97,7 @@ pub fn receive<K: Channel, const V: usize, A: Allocator>(
         Takes (taking_of inbox.new intake.new.half) taken }
 {
     let room = STAGE_CAPACITY - inbox.len();
-    let count = intake.half.pop_partial_slice(&mut intake.passing[..room]);
+    let count = pop_stamped(&mut intake.half, &mut intake.passing[..room]);
     inbox.queue.append(&intake.passing[..count]);
     count
 }
@@ -110,42 +116,49 @@ pub fn taken_count<K: Channel, const V: usize, A: Allocator>(
     intake.half.count().saturating_sub(inbox.len() as u64)
 }
 
-// Moves the first items of a queue into a ring, as many as fit, and returns their number. It
-// depends only on the far width, so a program has one copy for each channel and far width.
+// Moves the first items of a queue into a ring, each with the clock's time, as many as fit, and
+// returns their number. It depends only on the far width, so a program has one copy for each
+// channel and far width.
 #[inline(never)]
-fn push_queue<T: Copy, A: Allocator, P: Protocol<T>>(
-    producer: &mut CountingProducer<T, A, P>,
+fn push_queue<T: Copy + Drop, A: Allocator, P: Protocol<Stamped<T>>>(
+    producer: &mut CountingProducer<Stamped<T>, A, P>,
     queue: &mut Queue<T>,
+    clock: &Clock,
 ) -> usize
-    requires { EachAllowed P.allows (rtrb.sent producer.old) queue.old }
+    requires { (before : List (Stamped T)) →
+        All (λ x. P.allows before (stamped x clock.now.time)) queue.old }
     ensures least { min (length queue.old) (rtrb.known_free producer.old) ≤ result }
     ensures most { (result ≤ length queue.old) × (result ≤ STAGE_CAPACITY) }
     ensures queue { queue.new ≡ drop result queue.old }
     ensures ring { rtrb.SameProducer producer.old producer.new }
-    ensures sent { rtrb.sent producer.new ≡ rtrb.sent producer.old ++ take result queue.old }
+    ensures sent { rtrb.sent producer.new ≡
+        rtrb.sent producer.old ++ all_stamped clock.now.time (take result queue.old) }
     ensures known { rtrb.known_free producer.old ≤ rtrb.known_free producer.new + result }
 {
-    let (pushed, _) = producer.push_partial_slice(queue.as_slice());
-    let count = pushed.len();
+    let count = push_stamped(producer, queue.as_slice(), clock);
     queue.drop_front(count);
     count
 }
 
 /// Moves staged beats of an outbox into a ring, in order. Returns their number: at least the number
 /// of free positions that the half knows of, or all staged beats if these are fewer. After [`observe_both`]
-/// it knows every free position.
+/// it knows every free position. Each beat carries the time of `clock`, the clock of the side that
+/// sends.
 pub fn send_staged<K: Channel, const W: usize, const V: usize, A: Allocator>(
     outbox: &mut Outbox<K, W, V>,
     producer: &mut SendHalf<K, V, A>,
+    clock: &Clock,
 ) -> usize
     ensures least { min (length outbox.old.stage) (rtrb.known_free producer.old) ≤ result }
     ensures most { (result ≤ length outbox.old.stage) × (result ≤ STAGE_CAPACITY) }
     ensures pushed { Pushed (sending_of outbox.old producer.old) result
         (sending_of outbox.new producer.new) }
+    ensures times { rtrb.sent producer.new ≡
+        rtrb.sent producer.old ++ all_stamped clock.now.time (take result outbox.old.stage) }
     ensures stands { (x : World K.Head W V) → Sends K.rules (sending_of outbox.old producer.old) x →
         Sends K.rules (sending_of outbox.new producer.new) (passed result x) }
 {
-    push_queue(producer, &mut outbox.stage)
+    push_queue(producer, &mut outbox.stage, clock)
 }
 
 /// Inspects a ring from both its halves, in one thread. Returns the number of items in the ring.
@@ -156,11 +169,12 @@ pub fn observe_both<T, A: Allocator, P: Protocol<T>>(
     producer: &mut CountingProducer<T, A, P>,
     consumer: &mut CountingConsumer<T, A, P>,
 ) -> usize
-    requires { rtrb.IsPair producer.old consumer.old }
+    requires { rtrb.IsPair producer.old consumer.old.end }
     ensures producer { rtrb.ProducerLooked producer.old producer.new }
-    ensures consumer { rtrb.ConsumerLooked consumer.old consumer.new }
-    ensures count { result ≡ length (rtrb.known_items consumer.new) }
-    ensures fifo { rtrb.received consumer.new ++ rtrb.known_items consumer.new ≡
+    ensures consumer { rtrb.ConsumerLooked consumer.old.end consumer.new.end }
+    ensures clock { consumer.new.clock ≡ consumer.old.clock }
+    ensures count { result ≡ length (rtrb.known_items consumer.new.end) }
+    ensures fifo { rtrb.received consumer.new.end ++ rtrb.known_items consumer.new.end ≡
         rtrb.sent producer.new }
     // each position without an item is known to be free, and there are no more items than positions
     ensures places { (result ≤ rtrb.producer_capacity producer.old) ×

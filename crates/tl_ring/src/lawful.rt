@@ -1,5 +1,6 @@
 //! The property of each beat in a ring.
 
+use crate::stamped::Stamped;
 use rtrb::Protocol;
 use std::marker::PhantomData;
 use tl_msg::{Beat, Channel};
@@ -10,8 +11,8 @@ pub struct LawfulAt<K: Channel, const V: usize> {
     channel: PhantomData<K>,
 }
 
-impl<K: Channel, const V: usize> Protocol<Beat<K, V>> for LawfulAt<K, V> {
+impl<K: Channel, const V: usize> Protocol<Stamped<Beat<K, V>>> for LawfulAt<K, V> {
     ghost use Rattle.tl_msg.specs.Faults.{IsLawfulBeat};
 
-    ghost allows = { λ before beat. IsLawfulBeat K.rules beat };
+    ghost allows = { λ before sent. IsLawfulBeat K.rules sent.item };
 }

@@ -1,4 +1,5 @@
 //! The laws of the crossing. Each function does nothing; its contract is the law.
+ghost use Rattle.tl_ring.specs.Arriving.{Arrives};
 ghost use Rattle.tl_ring.specs.Laws.{EveryRunCrosses};
 ghost use Rattle.tl_ring.specs.Soon.{HowSoon};
 
@@ -19,4 +20,13 @@ pub fn every_run_crosses<K: Channel>()
 /// many pumps as the number of rings that they fill.
 pub fn how_soon<K: Channel>()
     ensures { HowSoon K.rules }
+{}
+
+/// Lemma: every accepted beat arrives. From every state of a crossing, also one with beats in
+/// stage, ring and inbox, a cycle is one pump, one fetch and a take of everything in the inbox.
+/// After as many cycles as beats are under way, all of them were taken, in order, and nothing is
+/// under way. The exact number of cycles, and the exact beats taken by each, follow from the room
+/// in ring and inbox.
+pub fn every_beat_arrives<K: Channel>()
+    ensures { Arrives K.rules }
 {}

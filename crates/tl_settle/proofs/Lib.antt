@@ -19,8 +19,10 @@ mod LastOpen
 mod Brings
 mod EndsSettled
 pub mod RunsObey
-mod Longer
+pub mod Longer
 mod WholeRuns
+pub mod InOrder
+pub mod Timing
 pub mod Entries
 pub mod Between
 pub mod Answering

@@ -177,12 +177,12 @@ module _ {C M : ℕ} (cw : IsWidth C) (mw : IsWidth M) where
           obeys (responses_go bs client manager (obeyed client oc) (obeyed manager om) from_client from_manager seen on)
 
 -- the beats of two histories, one after the other
-asked-append : {w : ℕ} (es fs : List (Event w)) → asked (es ++ fs) ≡ asked es ++ asked fs
+pub asked-append : {w : ℕ} (es fs : List (Event w)) → asked (es ++ fs) ≡ asked es ++ asked fs
 asked-append [] fs = refl
 asked-append (Ask b ∷ es) fs = ap (λ q. b ∷ q) (asked-append es fs)
 asked-append (Answer b ∷ es) fs = asked-append es fs
 
-answered-append : {w : ℕ} (es fs : List (Event w)) → answered (es ++ fs) ≡ answered es ++ answered fs
+pub answered-append : {w : ℕ} (es fs : List (Event w)) → answered (es ++ fs) ≡ answered es ++ answered fs
 answered-append [] fs = refl
 answered-append (Ask b ∷ es) fs = answered-append es fs
 answered-append (Answer b ∷ es) fs = ap (λ q. b ∷ q) (answered-append es fs)

@@ -36,7 +36,7 @@ pub obeyed : {w : ℕ} (es : List (Event w)) → ObeysRules es → Obeyed es
 obeyed es o = obeyed_on es [] es o silent refl
 
 -- an event is in a list with one more if it was in it before, or is the last one
-at_last : {X : Type 0} (es : List X) (x y : X) (before after : List X) → es ++ x ∷ [] ≡ before ++ y ∷ after →
+pub at_last : {X : Type 0} (es : List X) (x y : X) (before after : List X) → es ++ x ∷ [] ≡ before ++ y ∷ after →
     ((others : List X) × (es ≡ before ++ y ∷ others)) ⊎ ((es ≡ before) × (x ≡ y))
 at_last es x y before after e = ⊎_elim
     (λ none.

@@ -144,6 +144,7 @@ links_obey {C} {M} cw mw on_a on_b on_c on_d on_e fine_b fine_c fine_e script he
     record {
       client = w.client;
       manager = w.manager;
+      run = w.run;
       client_asked = r.client.accepted;
       client_answered = w.d_taken;
       manager_asked = w.a_taken;

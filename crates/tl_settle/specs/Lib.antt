@@ -5,6 +5,8 @@ pub mod Outcomes
 pub mod Histories
 pub mod Rounds
 pub mod Obeying
+pub mod OneOrder
+pub mod Clocks
 pub mod Channels
 pub mod Laws
 pub mod InMessages

@@ -1,6 +1,7 @@
 //! Laws of the definitions, for the proofs of the crates above. Each function does nothing; its
 //! contract is the law.
 ghost use Rattle.std.specs.Prelude.{◌≡◌, ◌<◌, ◌↔◌, ◌^◌, ◌++◌, ◌∷◌, [], ℕ, None, List, All};
+ghost use mathlib.Core.List.{IsPrefix};
 ghost use Rattle.tl_lanes.specs.Lanes.{IsWidth};
 ghost use Rattle.tl_msg.specs.declared.head.HeadA.{HeadA};
 ghost use Rattle.tl_msg.specs.declared.head.HeadD.{HeadD};
@@ -9,15 +10,18 @@ ghost use Rattle.tl_msg.specs.Beats.{IsBeat};
 ghost use Rattle.tl_msg.specs.Tables.{rules_a, rules_d};
 ghost use Rattle.tl_burst.specs.Handing.{IsHanded, IsHandedWith, IsAdmitted, homes_with, fault_after};
 ghost use Rattle.tl_convert.specs.Accepted.{AcceptedIsLongest};
+ghost use Rattle.tl_convert.specs.Due.{due};
 ghost use Rattle.tl_convert.specs.Laws.{DueIsOne, DueIsHanded, DueHasNoFaults};
 ghost use Rattle.tl_settle.specs.Steps.{Reaches};
 ghost use Rattle.tl_settle.specs.Settling.{IsSettledState, settled_state, goes_a, goes_d};
 ghost use Rattle.tl_settle.specs.Laws.{IsAtAdmitted, OpenIsLast};
 ghost use Rattle.tl_settle.specs.InMessages.{AreBeats, EndsInMessages};
 ghost use Rattle.tl_settle.specs.Outcomes.{Beats};
-ghost use Rattle.tl_settle.specs.Histories.{Event};
+ghost use Rattle.tl_settle.specs.Histories.{Event, asked, answered};
 ghost use Rattle.tl_settle.specs.Rounds.{Run, IsOver, IsSettledRun};
-ghost use Rattle.tl_settle.specs.Obeying.{LinksObey, ObeysRules};
+ghost use Rattle.tl_settle.specs.Obeying.{LinksObey, ObeysRules, RequestsObey, ResponsesObey};
+ghost use Rattle.tl_settle.specs.OneOrder.{InOneOrder, Timed, events, ClocksAgree};
+ghost use Rattle.tl_settle.specs.Clocks.{TimeGoesOn, TimesShowAnOrder, client_way, manager_way};
 ghost use Rattle.tl_settle.specs.Channels.{ArePrefixes, NoChannelBlocksAnother, OnlyLengthens};
 
 use tl_burst::laws::{faults_are_exact, homes_are_kept};
@@ -58,10 +62,10 @@ pub fn every_run_obeys<const C: usize, const M: usize>()
     one_channel::<ChD, M, C>();
 }
 
-/// Lemma: legal in, legal out, for a whole script of beats that memory can hold. The beats that
-/// come out on each link, together with those that the link's own side sends, obey the rules there.
-/// So a second bridge after this one, of widths `M` and any other, is offered only beats that its
-/// rules allow.
+/// Lemma: legal in, legal out, for a whole script of beats that memory can hold. One run of both
+/// sides ends at the settled state, and in its order the beats that come out on each link, together
+/// with those that the link's own side sends, obey the rules there. So a second bridge after this
+/// one, of widths `M` and any other, is offered only beats that its rules allow.
 pub fn links_obey<const C: usize, const M: usize>()
     requires client { IsWidth C }
     requires manager { IsWidth M }
@@ -76,6 +80,44 @@ pub fn links_obey<const C: usize, const M: usize>()
     due_has_no_faults::<ChC, C, M>();
     due_has_no_faults::<ChE, C, M>();
 }
+
+/// Lemma: legal in, legal out, in any one order. If the events of both sides are in one order, in
+/// which each beat is taken only after the beats that made it due were accepted, then both links
+/// obey the rules, whatever the order is. The other premises are those of a meeting: each side's
+/// offers were allowed by its own history, and the beats taken are the first of those that are due.
+pub fn one_order_obeys()
+    ensures { (c m : ℕ) → IsWidth c → IsWidth m →
+        (client : List (Event c)) (manager : List (Event m)) → InOneOrder client manager →
+        RequestsObey client → ResponsesObey manager → (a_homes d_homes : List ℕ) →
+        IsHandedWith rules_a (asked client) a_homes → IsHandedWith rules_d (answered manager) d_homes →
+        IsPrefix (asked manager) (due rules_a c m (asked client) a_homes) →
+        IsPrefix (answered client) (due rules_d m c (answered manager) d_homes) →
+        ObeysRules client × ObeysRules manager }
+{}
+
+/// Lemma: every run in rounds is in one order.
+pub fn every_run_is_in_order()
+    ensures { (c m : ℕ) → IsWidth c → IsWidth m →
+        (a : List (BeatOf HeadA c)) (d : List (BeatOf HeadD m)) →
+        (i j : ℕ) (client : List (Event c)) (manager : List (Event m)) →
+        Run a d i j client manager → InOneOrder client manager }
+{}
+
+/// Lemma: clocks show one order. If each event has a time, and each beat was taken at a time after
+/// those of the other side's events that made it due and of all before these, then the events of
+/// both sides are in one order.
+pub fn clocks_show_an_order()
+    ensures { (c m : ℕ) (client : List (Timed c)) (manager : List (Timed m)) →
+        ClocksAgree client manager → InOneOrder (events client) (events manager) }
+{}
+
+/// Lemma: the clocks of two sides. Each call of a side keeps its clock, and at a meeting both clocks
+/// show that the histories are in one order, whatever each side took since the last meeting.
+pub fn times_show_an_order()
+    ensures client { (c m : ℕ) → TimeGoesOn (client_way {C = c} {M = m}) }
+    ensures manager { (c m : ℕ) → TimeGoesOn (manager_way {C = c} {M = m}) }
+    ensures order { (c m : ℕ) → TimesShowAnOrder c m }
+{}
 
 /// Lemma: no channel blocks another. The far beats and the verdict of B depend only on the near
 /// beats of B. The same holds of C and of E. Those of A and D depend only on the near beats of A

@@ -12,6 +12,7 @@ use Rattle.tl_ring.specs.Pipe as piping
 use Rattle.tl_settle.specs.Books.{Client, Manager, KnowsClient, KnowsManager}
 use Rattle.tl_settle.specs.Inner.Noting.{begun_with}
 use Rattle.tl_settle.specs.Obeying.{ObeysRules}
+use Rattle.tl_settle.specs.OneOrder.{InOneOrder}
 use Rattle.tl_sides.specs.ChannelCalls.{pumped, fetched}
 use Rattle.tl_sides.specs.Separate.{each_pumped, each_fetched}
 use Rattle.tl_sides.specs.Bridges.{Bridge, Past, StandsFor, pump_count, fetch_count, all_pumped, all_fetched, after_pump, after_fetch}
@@ -108,6 +109,7 @@ module _ {C M : ℕ} (s : Bridge C M) (x : Past C M) (h : StandsFor s x) where
     manager = h.manager;
     client_obeys = h.client_obeys;
     manager_obeys = h.manager_obeys;
+    order = h.order;
   }
 
   -- the events between the ends of one crossing, and its closing
@@ -131,9 +133,9 @@ module _ {C M : ℕ} (s : Bridge C M) (x : Past C M) (h : StandsFor s x) where
   -- the client's side advances on A and D
   pub client_goes_on : (a : Pipe HeadA M) (d : Pipe HeadD C) (book : Client) (es : List (Event C)) (xa : World HeadA C M) (xd : World HeadD M C) →
       piping.StandsFor rules_a a xa → piping.StandsFor rules_d d xd → asked es ≡ xa.accepted → answered es ≡ xd.taken → KnowsClient book es →
-      ObeysRules es → xa.taken ≡ x.a.taken → (xd.accepted ≡ x.d.accepted) × (xd.homes ≡ x.d.homes) →
+      ObeysRules es → InOneOrder es x.manager → xa.taken ≡ x.a.taken → (xd.accepted ≡ x.d.accepted) × (xd.homes ≡ x.d.homes) →
       StandsFor (record s { a = a; d = d; client = book }) (record x { client = es; a = xa; d = xd })
-  client_goes_on a d book es xa xd ka kd asks answers knows obeys taken same = record {
+  client_goes_on a d book es xa xd ka kd asks answers knows obeys order taken same = record {
     a = ka;
     b = h.b;
     c = h.c;
@@ -148,14 +150,15 @@ module _ {C M : ℕ} (s : Bridge C M) (x : Past C M) (h : StandsFor s x) where
     manager = h.manager;
     client_obeys = obeys;
     manager_obeys = h.manager_obeys;
+    order = order;
   }
 
   -- and the manager's side
   pub manager_goes_on : (a : Pipe HeadA M) (d : Pipe HeadD C) (book : Manager) (es : List (Event M)) (xa : World HeadA C M) (xd : World HeadD M C) →
       piping.StandsFor rules_a a xa → piping.StandsFor rules_d d xd → asked es ≡ xa.taken → answered es ≡ xd.accepted →
-      manager_homes es ≡ xd.homes → KnowsManager book es → ObeysRules es → xa.accepted ≡ x.a.accepted → xd.taken ≡ x.d.taken →
+      manager_homes es ≡ xd.homes → KnowsManager book es → ObeysRules es → InOneOrder x.client es → xa.accepted ≡ x.a.accepted → xd.taken ≡ x.d.taken →
       StandsFor (record s { a = a; d = d; manager = book }) (record x { manager = es; a = xa; d = xd })
-  manager_goes_on a d book es xa xd ka kd asks answers homes knows obeys accepted taken = record {
+  manager_goes_on a d book es xa xd ka kd asks answers homes knows obeys order accepted taken = record {
     a = ka;
     b = h.b;
     c = h.c;
@@ -170,6 +173,7 @@ module _ {C M : ℕ} (s : Bridge C M) (x : Past C M) (h : StandsFor s x) where
     manager = knows;
     client_obeys = h.client_obeys;
     manager_obeys = obeys;
+    order = order;
   }
 
 -- the head of a lawful beat has no fault

@@ -18,7 +18,8 @@ use Rattle.tl_sides.proofs.BridgeSteps.{Moves, with_a, with_b, with_c, with_d, w
 use Rattle.tl_sides.proofs.BridgeSteps.{answered_asks, homes_asks}
 use Rattle.tl_convert.proofs.Extends.{extends-refl}
 use Rattle.tl_settle.proofs.Obeys.{obeys_none, obeys_ask, obeys_answer}
-use Rattle.tl_sides.proofs.Legal.{first_of, requests_taken, responses_taken}
+use Rattle.tl_settle.specs.OneOrder.{client_accepted, manager_accepted, none_yet}
+use Rattle.tl_sides.proofs.Legal.{first_of, all_in_order, requests_in_order, requests_taken, responses_in_order, responses_taken}
 use Rattle.tl_sides.proofs.Draining.{answered-all, asked-all}
 use Rattle.tl_sides.specs.ChannelCalls.{after_take_all}
 use Rattle.tl_sides.specs.Calls.{OffersBeat, ClosesChannel, TakesBeat}
@@ -83,6 +84,7 @@ module _ {A : Type 0} {C M : ℕ} (q : Inside C M A) (x : Past C M) (h : StandsF
         manager = subst (λ z. KnowsManager t'.book (x.manager ++ map Ask z)) h.a.inbox manager;
         client_obeys = responses_taken (as_bridge q) x h x.d.inbox (extends-refl x.d.inbox);
         manager_obeys = requests_taken (as_bridge q) x h x.a.inbox (extends-refl x.a.inbox);
+        order = all_in_order (as_bridge q) x h x.a.inbox x.d.inbox (extends-refl x.a.inbox) (extends-refl x.d.inbox);
       }))
 
 module _ {A : Type 0} {C M : ℕ} (q : Inside C M A) where
@@ -134,7 +136,7 @@ module _ {A : Type 0} {C M : ℕ} (q : Inside C M A) where
       (x.client ++ Ask y ∷ []) (offered rules_a y 0 x.a) x.d
       (stands_offered rules_a masked_a (pipe_of q.client.a q.a q.manager.a) x.a y 0 s.box ready.0 ready.1 (still_open stands.box ready.1)
       stands.box.sent h.a) h.d stands.accepted (answered_ask x.client y ∙ h.client_answered) stands.book
-      (obeys_ask x.client y h.client_obeys fine) refl (refl, refl))
+      (obeys_ask x.client y h.client_obeys fine) (client_accepted x.client x.manager y h.order) refl (refl, refl))
 
   pub bridge_offers_b : (o : Outgoing HeadB C) (y : BeatOf HeadB M) (r : Result (Unit {0}) SideFault) → IsOpen q.manager.b →
       OffersBeat (outbox_sends rules_b) y q.manager.b r o → OffersBeat (sends_b bridge_manager) y (as_bridge q) r (with_outbox_b o)
@@ -161,7 +163,7 @@ module _ {A : Type 0} {C M : ℕ} (q : Inside C M A) where
       (offered rules_d y home x.d) h.a
       (stands_offered rules_d masked_d (pipe_of q.manager.d q.d q.client.d) x.d y home s.box ready.0 ready.1 (still_open stands.box ready.1)
       stands.box.sent h.d) (asked_answer x.manager y ∙ h.manager_asked) stands.accepted stands.homes stands.book
-      (obeys_answer x.manager y h.manager_obeys fine) refl refl)
+      (obeys_answer x.manager y h.manager_obeys fine) (manager_accepted x.client x.manager y h.order) refl refl)
 
   pub bridge_offers_e : (o : Outgoing HeadE M) (y : BeatOf HeadE C) (r : Result (Unit {0}) SideFault) → IsOpen q.client.e →
       OffersBeat (outbox_sends rules_e) y q.client.e r o → OffersBeat (sends_e bridge_client) y (as_bridge q) r (with_outbox_e o)
@@ -185,7 +187,8 @@ module _ {A : Type 0} {C M : ℕ} (q : Inside C M A) where
       (asked-all x.manager (take 1 x.a.inbox) ∙ ap (λ z. z ++ take 1 x.a.inbox) h.manager_asked)
       (answered_asks x.manager (take 1 x.a.inbox) ∙ h.manager_answered) (homes_asks x.manager (take 1 x.a.inbox) ∙ h.homes)
       (subst (λ z. KnowsManager s.book (x.manager ++ map Ask (take 1 z))) h.a.inbox stands.1)
-      (requests_taken (as_bridge q) x h (take 1 x.a.inbox) (first_of x.a.inbox)) refl refl)))
+      (requests_taken (as_bridge q) x h (take 1 x.a.inbox) (first_of x.a.inbox))
+      (requests_in_order (as_bridge q) x h (take 1 x.a.inbox) (first_of x.a.inbox)) refl refl)))
 
   pub bridge_taken_b : (i : List (BeatOf HeadB C)) (r : Option (BeatOf HeadB C)) → TakesBeat (inbox_takes rules_b) q.client.b r i →
       TakesBeat (takes_b bridge_client) (as_bridge q) r (with_inbox_b i)
@@ -219,7 +222,8 @@ module _ {A : Type 0} {C M : ℕ} (q : Inside C M A) where
       (asked_answers x.client (take 1 x.d.inbox) ∙ h.client_asked)
       (answered-all x.client (take 1 x.d.inbox) ∙ ap (λ z. z ++ take 1 x.d.inbox) h.client_answered)
       (subst (λ z. KnowsClient s.book (x.client ++ map Answer (take 1 z))) h.d.inbox stands.1)
-      (responses_taken (as_bridge q) x h (take 1 x.d.inbox) (first_of x.d.inbox)) refl (refl, refl))))
+      (responses_taken (as_bridge q) x h (take 1 x.d.inbox) (first_of x.d.inbox))
+      (responses_in_order (as_bridge q) x h (take 1 x.d.inbox) (first_of x.d.inbox)) refl (refl, refl))))
 
   pub bridge_taken_e : (i : List (BeatOf HeadE M)) (r : Option (BeatOf HeadE M)) → TakesBeat (inbox_takes rules_e) q.manager.e r i →
       TakesBeat (takes_e bridge_manager) (as_bridge q) r (with_inbox_e i)
@@ -316,4 +320,5 @@ new_bridge s t a b c d e ring some made client manager ready none = record {
   manager = manager.book;
   client_obeys = obeys_none;
   manager_obeys = obeys_none;
+  order = none_yet;
 }

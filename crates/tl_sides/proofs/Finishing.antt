@@ -5,6 +5,8 @@ use Rattle.std.proofs.lemmas.Bool.{and_parts}
 use Rattle.tl_ring.specs.Ends.{Ended, LookedAfter, Shows, Shown}
 use Rattle.tl_sides.proofs.Words.{Rules, rules_a, rules_b, rules_c, rules_d, rules_e, ChA, ChB, ChC, ChD, ChE, HeadA, HeadB, HeadC, HeadD, HeadE}
 use Rattle.tl_sides.proofs.Words.{BeatOf, World, Taking, Takes, known_items, asked, answered}
+use Rattle.tl_settle.specs.Clocks.{client_way, manager_way}
+use Rattle.tl_sides.proofs.Times.{same_time}
 use Rattle.tl_sides.specs.Ends.{IsIdle}
 use Rattle.tl_sides.specs.Sides.{ClientState, ManagerState, ClientPast, ManagerPast, ClientStandsFor, ManagerStandsFor}
 use Rattle.tl_sides.specs.Receipts.{ShowsClient, ShowsManager, ClientIsShown, ManagerIsShown}
@@ -71,6 +73,7 @@ module _ {A : Type 0} {C M : ℕ} where
                 e = h.e;
                 accepted = h.accepted;
                 requests = h.requests;
+                time = same_time client_way refl on_d.looked.same_received_times on_d.looked.same_clock h.time;
                 book = h.book;
               };
               b = at_b;
@@ -114,6 +117,7 @@ module _ {A : Type 0} {C M : ℕ} where
                 accepted = h.accepted;
                 homes = h.homes;
                 responses = h.responses;
+                time = same_time manager_way refl on_a.looked.same_received_times on_a.looked.same_clock h.time;
                 book = h.book;
               };
               a = at_a;

@@ -7,7 +7,10 @@ pub mod Bridging
 mod Passing
 mod NewEnds
 pub mod SameSides
+mod Times
 pub mod SideSteps
+mod Arriving
+mod ArrivingSides
 pub mod Sums
 pub mod BridgeSize
 mod Layouts

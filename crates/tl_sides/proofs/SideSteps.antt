@@ -26,6 +26,14 @@ use Rattle.tl_sides.proofs.BridgeSteps.{asked_answers, answered_asks, homes_asks
 use Rattle.tl_sides.proofs.Bridging.{masked_a, masked_b, masked_c, masked_d, masked_e, away_of}
 use Rattle.tl_sides.proofs.Draining.{answered-all, asked-all}
 use Rattle.tl_sides.proofs.BoxSteps.{still_open}
+use Rattle.std.proofs.Common.{take-append-drop}
+use Rattle.tl_ring.specs.Ends.{known_times}
+use Rattle.tl_ring.specs.Halves.{all_stamped}
+use Rattle.tl_settle.proofs.Timing.{times_show_an_order}
+use Rattle.tl_settle.specs.Clocks.{client_way, manager_way}
+use Rattle.tl_sides.proofs.Words.{sent_times, received_times, clock}
+use Rattle.tl_sides.proofs.Times.{client_accepts, client_sends, client_took, first_times, heard_time, manager_accepts, manager_sends, manager_took, same_time}
+use Rattle.tl_sides.specs.Sides.{with_times}
 
 -- a side is its port and its halves of the rings
 abbrev pub client_side_of : {A : Type 0} {C M : ℕ} → client.Inside C M A → ClientState A C M
@@ -48,6 +56,8 @@ module _ {A : Type 0} {C M : ℕ} (q : client.Inside C M A) (x : ClientPast C M)
         e = h.e;
         accepted = asked_answers x.history q.port.d ∙ h.accepted;
         requests = requests_answers x.history q.port.d h.requests;
+        time = client_took x.history (with_times (sent_times (client_side_of q).a)) (received_times (client_side_of q).d) (clock (client_side_of q).d)
+            q.port.d [] q.port.d h.d (append-nil q.port.d) h.time;
         book = knows;
       })
 
@@ -86,6 +96,8 @@ module _ {A : Type 0} {C M : ℕ} (q : client.Inside C M A) where
         e = h.e;
         accepted = stands.accepted;
         requests = requests_ask x.history y h.requests fine;
+        time = client_accepts x.history (with_times (sent_times (client_side_of q).a)) (with_times (received_times (client_side_of q).d))
+            (clock (client_side_of q).d) y h.time;
         book = stands.book;
       }))
 
@@ -101,6 +113,7 @@ module _ {A : Type 0} {C M : ℕ} (q : client.Inside C M A) where
         e = h.e;
         accepted = h.accepted;
         requests = h.requests;
+        time = h.time;
         book = h.book;
       }))
 
@@ -116,6 +129,7 @@ module _ {A : Type 0} {C M : ℕ} (q : client.Inside C M A) where
         e = sends_offered rules_e masked_e (sending_of q.port.e q.e) x.e y 0 o ready.0 ready.1 (still_open stands ready.1) stands.sent h.e;
         accepted = h.accepted;
         requests = h.requests;
+        time = h.time;
         book = h.book;
       }))
 
@@ -133,6 +147,7 @@ module _ {A : Type 0} {C M : ℕ} (q : client.Inside C M A) where
         e = h.e;
         accepted = h.accepted;
         requests = h.requests;
+        time = h.time;
         book = h.book;
       }))
 
@@ -151,6 +166,8 @@ module _ {A : Type 0} {C M : ℕ} (q : client.Inside C M A) where
         e = h.e;
         accepted = asked_answers x.history (take 1 q.port.d) ∙ h.accepted;
         requests = requests_answers x.history (take 1 q.port.d) h.requests;
+        time = client_took x.history (with_times (sent_times (client_side_of q).a)) (received_times (client_side_of q).d) (clock (client_side_of q).d)
+            (take 1 q.port.d) (drop 1 q.port.d) q.port.d h.d (take-append-drop 1 q.port.d) h.time;
         book = stands.1;
       }))
 
@@ -167,6 +184,7 @@ module _ {A : Type 0} {C M : ℕ} (q : client.Inside C M A) where
         e = h.e;
         accepted = h.accepted;
         requests = h.requests;
+        time = h.time;
         book = h.book;
       }))
 
@@ -182,6 +200,7 @@ module _ {A : Type 0} {C M : ℕ} (q : client.Inside C M A) where
         e = h.e;
         accepted = h.accepted;
         requests = h.requests;
+        time = h.time;
         book = h.book;
       }))
 
@@ -197,6 +216,7 @@ module _ {A : Type 0} {C M : ℕ} (q : client.Inside C M A) where
         e = sends_shut rules_e masked_e (sending_of q.port.e q.e) x.e over h.e;
         accepted = h.accepted;
         requests = h.requests;
+        time = h.time;
         book = h.book;
       }))
 
@@ -216,6 +236,8 @@ module _ {A : Type 0} {C M : ℕ} (q : manager.Inside C M A) (x : ManagerPast C 
         accepted = answered_asks x.history q.port.a ∙ h.accepted;
         homes = homes_asks x.history q.port.a ∙ h.homes;
         responses = responses_asks x.history q.port.a h.responses;
+        time = manager_took x.history (with_times (sent_times (manager_side_of q).d)) (received_times (manager_side_of q).a)
+            (clock (manager_side_of q).a) q.port.a [] q.port.a h.a (append-nil q.port.a) h.time;
         book = knows;
       })
 
@@ -253,6 +275,7 @@ module _ {A : Type 0} {C M : ℕ} (q : manager.Inside C M A) where
         accepted = h.accepted;
         homes = h.homes;
         responses = h.responses;
+        time = h.time;
         book = h.book;
       }))
 
@@ -272,6 +295,8 @@ module _ {A : Type 0} {C M : ℕ} (q : manager.Inside C M A) where
         accepted = stands.accepted;
         homes = stands.homes;
         responses = responses_answer x.history y h.responses fine;
+        time = manager_accepts x.history (with_times (sent_times (manager_side_of q).d)) (with_times (received_times (manager_side_of q).a))
+            (clock (manager_side_of q).a) y h.time;
         book = stands.book;
       }))
 
@@ -291,6 +316,8 @@ module _ {A : Type 0} {C M : ℕ} (q : manager.Inside C M A) where
         accepted = answered_asks x.history (take 1 q.port.a) ∙ h.accepted;
         homes = homes_asks x.history (take 1 q.port.a) ∙ h.homes;
         responses = responses_asks x.history (take 1 q.port.a) h.responses;
+        time = manager_took x.history (with_times (sent_times (manager_side_of q).d)) (received_times (manager_side_of q).a)
+            (clock (manager_side_of q).a) (take 1 q.port.a) (drop 1 q.port.a) q.port.a h.a (take-append-drop 1 q.port.a) h.time;
         book = stands.1;
       }))
 
@@ -308,6 +335,7 @@ module _ {A : Type 0} {C M : ℕ} (q : manager.Inside C M A) where
         accepted = h.accepted;
         homes = h.homes;
         responses = h.responses;
+        time = h.time;
         book = h.book;
       }))
 
@@ -325,6 +353,7 @@ module _ {A : Type 0} {C M : ℕ} (q : manager.Inside C M A) where
         accepted = h.accepted;
         homes = h.homes;
         responses = h.responses;
+        time = h.time;
         book = h.book;
       }))
 
@@ -342,6 +371,7 @@ module _ {A : Type 0} {C M : ℕ} (q : manager.Inside C M A) where
         accepted = h.accepted;
         homes = h.homes;
         responses = h.responses;
+        time = h.time;
         book = h.book;
       }))
 
@@ -358,6 +388,7 @@ module _ {A : Type 0} {C M : ℕ} (q : manager.Inside C M A) where
         accepted = h.accepted;
         homes = h.homes;
         responses = h.responses;
+        time = h.time;
         book = h.book;
       }))
 
@@ -441,8 +472,9 @@ module _ {A : Type 0} {C M : ℕ} where
   pub client_pumped : {inside s : ClientState A C M} → inside ≡ s →
       (a : Sending ChA A HeadA M) (c : Sending ChC A HeadC M) (e : Sending ChE A HeadE M)
       (i j k : ℕ) → PumpsEnd rules_a C inside.a a i → PumpsEnd rules_c C inside.c c j → PumpsEnd rules_e C inside.e e k →
+      sent_times a ≡ sent_times inside.a ++ all_stamped (clock inside.d) (take i inside.a.stage) →
       ClientPumps s (record inside { a = a; c = c; e = e }) (i + j + k)
-  client_pumped {inside} view a c e i j k on_a on_c on_e =
+  client_pumped {inside} view a c e i j k on_a on_c on_e times =
       subst (λ s. ClientPumps s (record inside { a = a; c = c; e = e }) (i + j + k)) view (record {
         total = λ t. on_a.count t + on_c.count t + on_e.count t;
         most = omega (arith, on_a.most, on_c.most, on_e.most);
@@ -458,6 +490,8 @@ module _ {A : Type 0} {C M : ℕ} where
           e = on_e.stands x.e h.e;
           accepted = h.accepted;
           requests = h.requests;
+          time = client_sends x.history inside.a a (with_times (received_times inside.d)) (clock inside.d) (take i inside.a.stage)
+              (after_pump inside.a a x.a) times h.accepted (on_a.stands x.a h.a) h.time;
           book = h.book;
         };
       })
@@ -473,8 +507,10 @@ module _ {A : Type 0} {C M : ℕ} where
   }
 
   pub manager_pumped : {inside s : ManagerState A C M} → inside ≡ s → (b : Sending ChB A HeadB C) (d : Sending ChD A HeadD C) (i j : ℕ) →
-      PumpsEnd rules_b M inside.b b i → PumpsEnd rules_d M inside.d d j → ManagerPumps s (record inside { b = b; d = d }) (i + j)
-  manager_pumped {inside} view b d i j on_b on_d = subst (λ s. ManagerPumps s (record inside { b = b; d = d }) (i + j)) view (record {
+      PumpsEnd rules_b M inside.b b i → PumpsEnd rules_d M inside.d d j →
+      sent_times d ≡ sent_times inside.d ++ all_stamped (clock inside.a) (take j inside.d.stage) →
+      ManagerPumps s (record inside { b = b; d = d }) (i + j)
+  manager_pumped {inside} view b d i j on_b on_d times = subst (λ s. ManagerPumps s (record inside { b = b; d = d }) (i + j)) view (record {
     total = λ t. on_b.count t + on_d.count t;
     most = omega (arith, on_b.most, on_d.most);
     b = on_b.pumps;
@@ -489,6 +525,8 @@ module _ {A : Type 0} {C M : ℕ} where
       accepted = h.accepted;
       homes = h.homes;
       responses = h.responses;
+      time = manager_sends x.history inside.d d (with_times (received_times inside.a)) (clock inside.a) (take j inside.d.stage)
+          (after_pump inside.d d x.d) times h.accepted (on_d.stands x.d h.d) h.time;
       book = h.book;
     };
   })
@@ -522,6 +560,8 @@ module _ {A : Type 0} {C M : ℕ} where
           e = h.e;
           accepted = h.accepted;
           requests = h.requests;
+          time = heard_time client_way x.history (with_times (sent_times inside.a)) (received_times inside.d) (received_times d) (clock inside.d)
+              (clock d) on_d.fetched.heard h.time;
           book = h.book;
         };
       })
@@ -561,6 +601,8 @@ module _ {A : Type 0} {C M : ℕ} where
           accepted = h.accepted;
           homes = h.homes;
           responses = h.responses;
+          time = heard_time manager_way x.history (with_times (sent_times inside.d)) (received_times inside.a) (received_times a) (clock inside.a)
+              (clock a) on_a.fetched.heard h.time;
           book = h.book;
         };
       })
@@ -634,6 +676,8 @@ module _ {A : Type 0} {C M : ℕ} where
             let on_c = at_c.meets x.c y.c h.c k.c in
             let on_d = at_d.meets y.d (answered x.history) k.d h.d in
             let on_e = at_e.meets x.e y.e h.e k.e in
+            let client_time = same_time client_way at_a.met.same_sent_times at_d.met.same_received_times at_d.met.same_clock h.time in
+            let manager_time = same_time manager_way at_d.met.same_sent_times at_a.met.same_received_times at_a.met.same_clock k.time in
             record {
               client = record {
                 a = on_a.sends;
@@ -643,6 +687,7 @@ module _ {A : Type 0} {C M : ℕ} where
                 e = on_e.sends;
                 accepted = h.accepted;
                 requests = h.requests;
+                time = client_time;
                 book = h.book;
               };
               manager = record {
@@ -654,6 +699,7 @@ module _ {A : Type 0} {C M : ℕ} where
                 accepted = k.accepted;
                 homes = k.homes;
                 responses = k.responses;
+                time = manager_time;
                 book = k.book;
               };
               a = on_a;
@@ -661,5 +707,9 @@ module _ {A : Type 0} {C M : ℕ} where
               c = on_c;
               d = on_d;
               e = on_e;
+              order = times_show_an_order x.history y.history (with_times (sent_times a)) (with_times (received_times ta)) (with_times (sent_times td))
+                  (with_times (received_times d)) (clock d) (clock ta) client_time manager_time
+                  (first_times (received_times ta) (known_times ta) (sent_times a) at_a.met.ring_times)
+                  (first_times (received_times d) (known_times d) (sent_times td) at_d.met.ring_times);
             };
       }))

@@ -2,13 +2,16 @@
 use Rattle.std.proofs.Common.{◌≡◌, ◌++◌, ℕ, List, [], length, take, sym, ap, ◌∙◌, arith, length-append, append-nil}
 use Rattle.std.proofs.Math.Seq.{take-append_seam}
 use Rattle.std.proofs.lemmas.List.{nil_from_length}
+use Rattle.tl_ring.proofs.Times.{items_length}
 use Rattle.tl_ring.specs.Counts.{IsNumberOf, counted}
+use Rattle.tl_ring.specs.Halves.{items}
+use Rattle.tl_ring.specs.declared.stamped.Stamped.{Stamped}
 use Rattle.tl_sides.proofs.Words.{Rules, World, BeatOf, Sending, Taking, Meets, known_items}
 use Rattle.tl_sides.specs.Receipts.{AllIfAsMany}
 
 -- the number of the beats that a sending end has sent
-pub number_sent : {X : Type 0} {n : ℕ} (sent beats : List X) → n ≡ counted (length sent) → sent ≡ beats → IsNumberOf n beats
-number_sent sent beats count same small = let size = ap length same in omega (arith, count, size, small)
+pub number_sent : {X : Type 0} {n : ℕ} (sent : List (Stamped X)) (beats : List X) → n ≡ counted (length sent) → items sent ≡ beats → IsNumberOf n beats
+number_sent sent beats count same small = let size = ap length same in let all = items_length sent in omega (arith, count, size, all, small)
 
 module _ {X : Type 0} where
   none_else : (taken inbox ring sent stage : List X) → (taken ++ inbox ++ ring) ++ stage ≡ sent ++ stage → length taken ≡ length sent →

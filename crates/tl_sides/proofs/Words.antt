@@ -39,7 +39,7 @@ pub use Rattle.tl_ring.proofs.Same.{same_send, same_send_then, same_take_then, s
 pub use Rattle.tl_ring.specs.Boxes.{HasSent, HasTaken, IsOpen, Outgoing, as_sent}
 pub use Rattle.tl_ring.specs.Crossing.{World, inbox_room, offered, popped, pushed, shut, took}
 pub use Rattle.tl_ring.specs.Ends.{Fetched, Meets, Met, Pushed, SameSend, SameTake, Sending, Sends, Takes, Taking, known_free, known_items, passed}
-pub use Rattle.tl_ring.specs.Ends.{received, seen_by, sending_of, taking_of}
+pub use Rattle.tl_ring.specs.Ends.{clock, received, received_times, seen_by, sending_of, sent, sent_times, taking_of}
 pub use Rattle.tl_ring.specs.Pipe.{Pipe}
 pub use Rattle.tl_ring.specs.declared.fault.EndFault.{EndFault}
 pub use Rattle.tl_ring.specs.declared.queue.TheConstants.{STAGE_CAPACITY}

@@ -7,6 +7,7 @@ use Rattle.tl_sides.specs.Words.{popped, inbox_room, Outgoing, Pipe, outbox_of, 
 use Rattle.tl_ring.specs.Pipe as piping
 use Rattle.tl_settle.specs.Books.{Client, Manager, KnowsClient, KnowsManager}
 use Rattle.tl_settle.specs.Obeying.{ObeysRules}
+use Rattle.tl_settle.specs.OneOrder.{InOneOrder}
 use Rattle.tl_sides.specs.Calls.{Holds}
 use Rattle.tl_sides.specs.Ports.{ClientNow, ManagerNow, PortPast}
 
@@ -52,6 +53,8 @@ pub record StandsFor {C M : ℕ} (s : Bridge C M) (x : Past C M) : Type 0 where
   -- legal in, legal out: at each side, all beats that went in or came out obey the rules that an offer is held to
   pub client_obeys : ObeysRules x.client
   pub manager_obeys : ObeysRules x.manager
+  -- both histories are in one order, in which each beat was taken only after the beats that made it due were accepted
+  pub order : InOneOrder x.client x.manager
 
 -- a pipe with another sender's part
 abbrev pub with_outbox : {H : Type 0} {v : ℕ} → Outgoing H v → Pipe H v → Pipe H v

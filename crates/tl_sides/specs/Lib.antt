@@ -10,4 +10,6 @@ pub mod Sides
 pub mod Legal
 pub mod Inner
 pub mod Separate
+pub mod Arriving
+pub mod ArrivingSides
 pub mod Receipts

@@ -5,8 +5,12 @@ use Rattle.std.proofs.Common.{◌≡◌, ◌++◌, ℕ, List, [], map, refl}
 use Rattle.tl_sides.specs.Words.{rules_a, rules_b, rules_c, rules_d, rules_e, ChA, ChB, ChC, ChD, ChE, HeadA, HeadB, HeadC, HeadD, HeadE, BeatOf}
 use Rattle.tl_sides.specs.Words.{Outgoing, World, empty, Sending, Taking, SendHalf, TakeHalf, as_pipe, outbox_of, sending_of, taking_of, Sends, Takes}
 use Rattle.tl_sides.specs.Words.{Meets, ArePair, SameSend, SameTake, known_free, Event, Ask, Answer, asked, answered, manager_homes}
+use Rattle.tl_sides.specs.Words.{sent_times, received_times, clock}
+use Rattle.tl_ring.specs.declared.stamped.Stamped.{Stamped}
 use Rattle.tl_settle.specs.Books.{Client, Manager, KnowsClient, KnowsManager}
+use Rattle.tl_settle.specs.Clocks.{Sent, KeepsTime, client_way, manager_way}
 use Rattle.tl_settle.specs.Obeying.{RequestsObey, ResponsesObey}
+use Rattle.tl_settle.specs.OneOrder.{InOneOrder}
 use Rattle.tl_sides.specs.Calls.{Holds}
 use Rattle.tl_sides.specs.Ports.{ClientNow, ManagerNow, PortPast}
 use Rattle.tl_sides.specs.Ends.{after_pump, IsIdle}
@@ -75,6 +79,10 @@ pub record ManagerPast (C M : ℕ) : Type 0 where
   pub d : World HeadD M C
   pub e : List (BeatOf HeadE M)
 
+-- the beats of a ring with the times at which they were sent
+abbrev pub with_times : {X : Type 0} → List (Stamped X) → List (Sent X)
+with_times ss = map (λ s. record { item = s.item; time = s.stamp.time }) ss
+
 -- a side represents a past: the history has the beats of A and D that it accepted and took, and its book is kept up to
 -- the history
 pub record ClientStandsFor {A : Type 0} {C M : ℕ} (s : ClientState A C M)
@@ -87,6 +95,8 @@ pub record ClientStandsFor {A : Type 0} {C M : ℕ} (s : ClientState A C M)
   pub accepted : asked x.history ≡ x.a.accepted
   -- its own offers obeyed the rules
   pub requests : RequestsObey x.history
+  -- the side has kept its clock, which is that of its end of D
+  pub time : KeepsTime client_way x.history (with_times (sent_times s.a)) (with_times (received_times s.d)) (clock s.d)
   pub book : KnowsClient s.book x.history
 
 pub record ManagerStandsFor {A : Type 0} {C M : ℕ} (s : ManagerState A C M)
@@ -101,6 +111,8 @@ pub record ManagerStandsFor {A : Type 0} {C M : ℕ} (s : ManagerState A C M)
   pub homes : manager_homes x.history ≡ x.d.homes
   -- its own offers obeyed the rules
   pub responses : ResponsesObey x.history
+  -- the side has kept its clock, which is that of its end of A
+  pub time : KeepsTime manager_way x.history (with_times (sent_times s.d)) (with_times (received_times s.a)) (clock s.a)
   pub book : KnowsManager s.book x.history
 
 module _ {C M : ℕ} where
@@ -214,3 +226,6 @@ module _ {A : Type 0} {C M : ℕ} where
     pub c : Meets rules_c s.c t.c x.c y.c
     pub d : Meets rules_d t.d s.d y.d (answered x.history)
     pub e : Meets rules_e s.e t.e x.e y.e
+    -- the events of A and D of both sides are in one order, in which each beat was taken only after the beats that made it
+    -- due were accepted, whatever each side took since the last meeting
+    pub order : InOneOrder x.history y.history

@@ -20,7 +20,7 @@ pub use Rattle.tl_msg.specs.declared.head.HeadE.{HeadE}
 pub use Rattle.tl_ring.specs.Boxes.{HasSent, HasTaken, Outgoing, as_sent}
 pub use Rattle.tl_ring.specs.Crossing.{World, empty, inbox_room, offered, popped, pushed, shut, took}
 pub use Rattle.tl_ring.specs.Ends.{ArePair, Fetched, Meets, Pushed, SameSend, SameTake, SendHalf, Sending, Sends, TakeHalf, Takes, Taking, as_pipe, closing}
-pub use Rattle.tl_ring.specs.Ends.{known_free, known_items, passed, sending_of, taking_of, took_first}
+pub use Rattle.tl_ring.specs.Ends.{clock, known_free, known_items, passed, received_times, sending_of, sent_times, taking_of, took_first}
 pub use Rattle.tl_ring.specs.Pipe.{Pipe, outbox_of}
 pub use Rattle.tl_ring.specs.declared.fault.EndFault.{EndFault}
 pub use Rattle.tl_ring.specs.declared.queue.TheConstants.{STAGE_CAPACITY}

@@ -208,9 +208,10 @@ impl<const C: usize, const M: usize, A: Allocator> ClientSide<C, M, A> {
         ensures stands { (x : ClientPast C M) → ClientStandsFor self.old x →
             ClientStandsFor self.new (client_pumps self.old self.new x) }
     {
-        let a = send_staged(&mut self.port.a, &mut self.a);
-        let c = send_staged(&mut self.port.c, &mut self.c);
-        let e = send_staged(&mut self.port.e, &mut self.e);
+        let clock = self.d.half.clock();
+        let a = send_staged(&mut self.port.a, &mut self.a, clock);
+        let c = send_staged(&mut self.port.c, &mut self.c, clock);
+        let e = send_staged(&mut self.port.e, &mut self.e, clock);
         a + c + e
     }
 

@@ -1,6 +1,8 @@
 //! Laws of both sides, for the proofs of the crates above. Each function does nothing; its contract
 //! is the law.
 ghost use Rattle.tl_lanes.specs.Lanes.{IsWidth};
+ghost use Rattle.tl_sides.specs.Arriving.{EveryBeatArrives};
+ghost use Rattle.tl_sides.specs.ArrivingSides.{AllBeatsCome};
 ghost use Rattle.tl_sides.specs.Bridges.{Bridge, Past, StandsFor};
 ghost use Rattle.tl_sides.specs.Legal.{BothLinksObey, SidesObey};
 ghost use Rattle.tl_sides.specs.Receipts.{AsManyAreAll};
@@ -9,7 +11,8 @@ ghost use Rattle.tl_sides.specs.Sides.{ClientState, ManagerState, ClientPast, Ma
 
 use std::alloc::Allocator;
 use tl_convert::laws::due_has_no_faults;
-use tl_msg::{ChB, ChC, ChE};
+use tl_msg::{ChA, ChB, ChC, ChD, ChE};
+use tl_ring::laws::every_beat_arrives;
 
 /// Lemma: legal in, legal out. After any calls, the beats that came out of a bridge obey, at the
 /// far link's width, the rules that beats offered there are held to. No beat taken has a fault or
@@ -25,9 +28,9 @@ pub fn legal_in_legal_out<const C: usize, const M: usize>()
     due_has_no_faults::<ChE, C, M>();
 }
 
-/// Lemma: the same for two sides in threads of their own, from meeting to meeting. If both links
-/// obeyed the rules at a meeting, they obey them after any later calls of each side, if each side
-/// took no more of A and D than had arrived by the meeting.
+/// Lemma: the same for two sides in threads of their own. At every meeting both links have obeyed
+/// the rules, whatever each side did since the last one. They still obey them after later calls of
+/// each side, if these took no more of A and D than had arrived by the meeting.
 pub fn sides_obey<const C: usize, const M: usize, A: Allocator>()
     requires client { IsWidth C }
     requires manager { IsWidth M }
@@ -44,6 +47,28 @@ pub fn sides_obey<const C: usize, const M: usize, A: Allocator>()
 /// was not yet taken. That is a rule of the link, and holds back no beat that was accepted.)
 pub fn no_channel_blocks_another<const C: usize, const M: usize, A: Allocator>()
     ensures { NoChannelBlocks A C M }
+{}
+
+/// Lemma: every accepted beat arrives, in one thread. From every state of a bridge, a round is one
+/// pump, one fetch and a take of everything in the inboxes. After as many rounds as beats are under
+/// way on any one channel, all of them were taken, in order, and these are all that the accepted
+/// beats made due. Each channel needs exactly the rounds that its crossing alone needs.
+pub fn all_beats_arrive<const C: usize, const M: usize>()
+    ensures { EveryBeatArrives C M }
+{
+    every_beat_arrives::<ChA>();
+    every_beat_arrives::<ChB>();
+    every_beat_arrives::<ChC>();
+    every_beat_arrives::<ChD>();
+    every_beat_arrives::<ChE>();
+}
+
+/// Lemma: every accepted beat arrives at two sides that meet. From every state that a meeting
+/// leaves, a round is a pump of both sides, a meeting, a fetch of both, a take of everything in the
+/// inboxes, and a meeting. After as many rounds as beats are under way on any one channel, the beats
+/// taken are all that the accepted ones made due, in order.
+pub fn all_beats_of_sides_arrive<const C: usize, const M: usize, A: Allocator>()
+    ensures { AllBeatsCome A C M }
 {}
 
 /// As many beats taken as sent are all beats that were sent. If the two numbers of a channel are

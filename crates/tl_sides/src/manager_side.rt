@@ -195,8 +195,9 @@ impl<const C: usize, const M: usize, A: Allocator> ManagerSide<C, M, A> {
         ensures stands { (x : ManagerPast C M) → ManagerStandsFor self.old x →
             ManagerStandsFor self.new (manager_pumps self.old self.new x) }
     {
-        let b = send_staged(&mut self.port.b, &mut self.b);
-        let d = send_staged(&mut self.port.d, &mut self.d);
+        let clock = self.a.half.clock();
+        let b = send_staged(&mut self.port.b, &mut self.b, clock);
+        let d = send_staged(&mut self.port.d, &mut self.d, clock);
         b + d
     }
 

@@ -8,6 +8,7 @@ use Rattle.tl_trace.specs.declared.fault.TraceFault.{TraceFault}
 use Rattle.tl_trace.specs.declared.fault.TraceKind.{TraceKind}
 use Rattle.tl_trace.specs.declared.fault.TraceKind.TheVariants as kinds
 use Rattle.tl_stream.specs.Faults.{of_kind, of_trace}
+use Rattle.std.proofs.lemmas.List.{length-take}
 use Rattle.tl_stream.proofs.Lengths.{lines-below}
 
 -- the lines that the input holds can be read
@@ -31,6 +32,15 @@ reading {C} {M} client manager {discarded} unread left lines input b =
 pub held_size : (input : Input) → input.from ≤ input.to → input.to ≤ length input.buffer.items → length (held input) ≡ input.to - input.from
 held_size input from to =
     let after = length-drop input.from input.buffer.items in length-take-le (input.to - input.from) (drop input.from input.buffer.items) (omega arith)
+
+-- a part of the held bytes is no longer than the buffer
+taken_few : (n : ℕ) (input : Input) → length (take n (held input)) ≤ length input.buffer.items
+taken_few n input =
+    let rest = drop input.from input.buffer.items in
+    let some = length-take n (held input) in
+    let all = length-take (input.to - input.from) rest in
+    let after = length-drop input.from input.buffer.items in
+    omega (arith, some, all, after)
 
 -- n bytes can be used
 pub inside_held : (input : Input) (bytes : List ℕ) (n : ℕ) → bytes ≡ held input → input.from ≤ input.to → input.to ≤ length input.buffer.items →
@@ -96,6 +106,7 @@ module _ (input input' : Input) (n : ℕ) (from : input'.from ≡ input.from + n
 
     pub has_read : (more : Bool) → HasGrown lines.script lines'.script → IsUnfinished (drop n bytes) →
         more ≡ nat_eq input'.to (length input'.buffer.items) → (more ≡ false → held input' ≡ []) → HasReadHeld lines input lines' input' more
+    unfolding between_read between_on
     has_read more grown rest full end = record {
       version = version;
       grown = grown;
@@ -106,6 +117,9 @@ module _ (input input' : Input) (n : ℕ) (from : input'.from ≡ input.from + n
       full = full;
       end = end;
       between = between_read;
+      piece = take n (held input);
+      piece_few = taken_few n input;
+      piece_used = λ unread left discarded b. refl;
     }
 
 -- ---- faults

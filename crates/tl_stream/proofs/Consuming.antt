@@ -7,6 +7,7 @@ use Rattle.tl_stream.proofs.Names.{AreFew, HasReadHeld, HasTaken, HasUsedHeader,
 use Rattle.tl_stream.proofs.Names.{IsRefused, ReadsScript, held}
 use Rattle.tl_stream.proofs.Names.{most_bytes, TextFault, Input}
 use Rattle.tl_trace.specs.declared.script.Counts.{Counts}
+use Rattle.tl_stream.specs.Consuming.{HasAdvanced, none_yet, one_more, IsConsumedInPieces}
 use Rattle.tl_stream.specs.Inner.Keeping.{Keeps}
 use Rattle.tl_stream.specs.declared.fault.TextFault.TheVariants as faults
 use Rattle.tl_stream.specs.declared.keep_all.KeepAll.{KeepAll}
@@ -26,14 +27,16 @@ refused-read unread left input faults.Write kinds long = let no : faults.Write �
 refused-read unread left input faults.TooLong kinds long = long refl
 refused-read unread left input faults.OutOfMemory kinds long = tt
 
-module _ {L : Type 0} {C M : ℕ} (HasConsumed : L → Discarded C M → Script C M → Type 0) (unread left : Option (List ℕ)) (v : ℕ) (lines : ScriptReader C M)
-    (input : Input) (consumer : L) where
+module _ {L : Type 0} {C M : ℕ} (HasConsumed : L → Discarded C M → Script C M → Type 0) (ConsumesOn : L → L → Script C M → Counts → Type 0) (most : ℕ)
+    (first : L) (unread left : Option (List ℕ)) (v : ℕ) (lines : ScriptReader C M) (input : Input) (consumer : L) where
   -- the consumer advanced over the lines that were used, and relates to the beats that are read after them
   pub record IsAhead : Type 0 where
     pub discarded : Discarded C M
     pub between : IsBetweenPast discarded unread left lines input
     pub has_consumed : (more : Script C M) → HasGrown lines.script more → AreFew discarded more → HasConsumed consumer discarded more
     pub version : lines.version ≡ v
+    pub size : length input.buffer.items ≡ most
+    pub advanced : HasAdvanced ConsumesOn v most first consumer between.used discarded
 
   -- more lines were read after those that the consumer advanced over
   pub record IsBehind : Type 0 where
@@ -41,6 +44,12 @@ module _ {L : Type 0} {C M : ℕ} (HasConsumed : L → Discarded C M → Script 
     pub between : IsBetweenPast discarded unread left lines input
     pub has_consumed : HasConsumed consumer discarded lines.script
     pub version : lines.version ≡ v
+    pub size : length input.buffer.items ≡ most
+    pub text : List ℕ
+    pub piece : List ℕ
+    pub whole : between.used ≡ text ++ piece
+    pub few : length piece ≤ most
+    pub advanced : HasAdvanced ConsumesOn v most first consumer text discarded
 
 module _ {C M : ℕ} where
   -- the beats that were removed, with those that the script holds, can be counted
@@ -61,13 +70,15 @@ module _ {C M : ℕ} where
         few_e = few-chosen (beat_of_e C) b.read.lines few_lines (discarded.e ++ s.e.items) is.e;
       }
 
-  module _ {L : Type 0} {HasConsumed : L → Discarded C M → Script C M → Type 0} {unread left : Option (List ℕ)} {v : ℕ} where
+  module _ {L : Type 0} {HasConsumed : L → Discarded C M → Script C M → Type 0} {ConsumesOn : L → L → Script C M → Counts → Type 0} {most : ℕ} {first : L}
+      {unread left : Option (List ℕ)} {v : ℕ} where
     -- the first piece
     first-consumed : (lines : ScriptReader C M) (input input' : Input) (consumer : L) → lines.version ≡ v → IsNew HasConsumed consumer →
         HasTaken unread left [] input → HasHeader (held input) v C M →
         ((text : List ℕ) → IsHeaderLine text v C M → HasRead v text lines.script lines.line) →
-        HasUsedHeader input input' → IsAhead HasConsumed unread left v lines input' consumer
-    first-consumed lines input input' consumer version new taken named none h = record {
+        HasUsedHeader input input' → length input'.buffer.items ≡ most → consumer ≡ first →
+        IsAhead HasConsumed ConsumesOn most first unread left v lines input' consumer
+    first-consumed lines input input' consumer version new taken named none h size is = record {
       discarded = none_gone;
       between = record {
         used = h.line;
@@ -76,12 +87,14 @@ module _ {C M : ℕ} where
       };
       has_consumed = λ more grown few. new more few;
       version = version;
+      size = size;
+      advanced = subst (λ k. HasAdvanced ConsumesOn v most first k h.line none_gone) (sym is) (none_yet h.line (h.header v C M named));
     }
 
     -- the lines that the input held were read
     pub behind : {lines lines' : ScriptReader C M} {input input' : Input} {consumer : L} {more : Bool} →
-        IsAhead HasConsumed unread left v lines input consumer → HasReadHeld lines input lines' input' more →
-        IsBehind HasConsumed unread left v lines' input' consumer
+        IsAhead HasConsumed ConsumesOn most first unread left v lines input consumer → HasReadHeld lines input lines' input' more →
+        IsBehind HasConsumed ConsumesOn most first unread left v lines' input' consumer
     behind {lines' = lines'} {input' = input'} a r =
         let between = r.between unread left a.discarded a.between in
         record {
@@ -89,18 +102,32 @@ module _ {C M : ℕ} where
           between = between;
           has_consumed = a.has_consumed lines'.script r.grown (counted unread left a.discarded lines' input' between);
           version = r.version ∙ a.version;
+          size = ap length r.buffer ∙ a.size;
+          text = a.between.used;
+          piece = r.piece;
+          whole = r.piece_used unread left a.discarded a.between;
+          few = subst (λ n. length r.piece ≤ n) a.size r.piece_few;
+          advanced = a.advanced;
         }
+
+    -- the text up to the end of these lines
+    read-behind : {lines : ScriptReader C M} {input : Input} {consumer : L} (b : IsBehind HasConsumed ConsumesOn most first unread left v lines input consumer) →
+        HasReadPast v (b.text ++ b.piece) b.discarded lines.script lines.line
+    read-behind {lines = lines} b =
+        subst (λ n. HasReadPast n (b.text ++ b.piece) b.discarded lines.script lines.line) b.version
+        (subst (λ done. HasReadPast lines.version done b.discarded lines.script lines.line) b.whole b.between.read)
 
     -- they were consumed, some went, and more was read
     pub consumed : {left' : Option (List ℕ)} {lines : ScriptReader C M} {input : Input} {consumer : L}
-        (b : IsBehind HasConsumed unread left v lines input consumer)
+        (b : IsBehind HasConsumed ConsumesOn most first unread left v lines input consumer)
         (lines' : ScriptReader C M) (input' : Input) (consumer' : L) (counts : Counts) → lines'.version ≡ lines.version
         → ((done : List ℕ) (discarded : Discarded C M) → HasReadPast lines.version done discarded lines.script lines.line →
         HasReadPast lines.version done (more_discarded discarded counts lines.script) lines'.script lines'.line)
+        → ConsumesOn consumer consumer' lines.script counts → length input'.buffer.items ≡ length input.buffer.items
         → ((more : Script C M) → HasGrown lines'.script more → AreFew (more_discarded b.discarded counts lines.script) more →
         HasConsumed consumer' (more_discarded b.discarded counts lines.script) more)
-        → HasTaken unread left' b.between.used input' → IsAhead HasConsumed unread left' v lines' input' consumer'
-    consumed {lines = lines} b lines' input' consumer' counts version told has_consumed taken =
+        → HasTaken unread left' b.between.used input' → IsAhead HasConsumed ConsumesOn most first unread left' v lines' input' consumer'
+    consumed {lines = lines} {consumer = consumer} b lines' input' consumer' counts version told on size has_consumed taken =
         let after = more_discarded b.discarded counts lines.script in
         let used = b.between.used in
         record {
@@ -112,27 +139,42 @@ module _ {C M : ℕ} where
           };
           has_consumed = has_consumed;
           version = version ∙ b.version;
+          size = size ∙ b.size;
+          advanced = subst (λ done. HasAdvanced ConsumesOn v most first consumer' done after) (sym b.whole)
+              (one_more consumer consumer' b.text b.piece b.discarded lines.script lines.line counts b.advanced b.few (read-behind b) on);
         }
 
     -- nothing is left
     pub read-through : {lines lines' : ScriptReader C M} {input input' : Input} {consumer : L} {more : Bool} →
-        IsBehind HasConsumed unread left v lines' input' consumer → HasReadHeld lines input lines' input' more → more ≡ false →
-        IsReadThrough HasConsumed unread left v consumer lines'.script
+        IsBehind HasConsumed ConsumesOn most first unread left v lines' input' consumer → HasReadHeld lines input lines' input' more → more ≡ false →
+        IsReadThrough HasConsumed unread left v consumer lines'.script × IsConsumedInPieces ConsumesOn v most first unread left consumer lines'.script
     read-through {lines' = lines'} {input' = input'} b r none =
         let used = b.between.used in
         let t = b.between.taken in
         let all : used ++ held input' ≡ used = ap (λ bytes. used ++ bytes) (r.end none) ∙ append-nil used in
-        record {
-          text = used;
-          took = subst (λ bytes. Consumes unread left bytes) all t.took;
-          end = t.end (unlike input'.to (length input'.buffer.items) (sym r.full ∙ none));
-          few = let same = ap length all in omega (arith, same, t.count, t.few);
-          lines = b.between.read.lines;
-          told = subst (λ v. Tells used v C M b.between.read.lines) b.version b.between.read.told;
-          discarded = b.discarded;
-          rest = b.between.read.script;
-          has_consumed = b.has_consumed;
-        }
+        let took = subst (λ bytes. Consumes unread left bytes) all t.took in (
+          record {
+            text = used;
+            took = took;
+            end = t.end (unlike input'.to (length input'.buffer.items) (sym r.full ∙ none));
+            few = let same = ap length all in omega (arith, same, t.count, t.few);
+            lines = b.between.read.lines;
+            told = subst (λ v. Tells used v C M b.between.read.lines) b.version b.between.read.told;
+            discarded = b.discarded;
+            rest = b.between.read.script;
+            has_consumed = b.has_consumed;
+          },
+          record {
+            text = b.text;
+            piece = b.piece;
+            took = subst (λ bytes. Consumes unread left bytes) b.whole took;
+            discarded = b.discarded;
+            advanced = b.advanced;
+            few = b.few;
+            line = lines'.line;
+            read = read-behind b;
+          },
+        )
 
   module _ {L : Type 0} (HasConsumed : ℕ → L → Discarded C M → Script C M → Type 0) where
     -- the widths of a text that begins
@@ -141,19 +183,20 @@ module _ {C M : ℕ} where
     beginning_widths {input = input} b = widths_named (held input) b.0 C M b.3
 
     -- its header was used
-    pub begins : {left : Option (List ℕ)} {input input' : Input} {lines : ScriptReader C M} {consumer : L} →
+    pub begins : (ConsumesOn : L → L → Script C M → Counts → Type 0) {left : Option (List ℕ)} {input input' : Input} {lines : ScriptReader C M} {consumer : L} →
         IsBeginning HasConsumed left input lines consumer → HasUsedHeader input input'
-        → IsAhead (HasConsumed lines.version) (unread_of input left) left lines.version lines input' consumer
-    begins {left} {input} {input'} {lines} {consumer} b h =
-        subst (λ v. IsAhead (HasConsumed v) (unread_of input left) left v lines input' consumer) (sym b.1)
-        (first-consumed lines input input' consumer b.1 b.4 b.2.taken b.3 b.5 h)
+        → IsAhead (HasConsumed lines.version) ConsumesOn (length input.buffer.items) consumer (unread_of input left) left lines.version lines input' consumer
+    begins ConsumesOn {left} {input} {input'} {lines} {consumer} b h =
+        subst (λ v. IsAhead (HasConsumed v) ConsumesOn (length input.buffer.items) consumer (unread_of input left) left v lines input' consumer) (sym b.1)
+        (first-consumed lines input input' consumer b.1 b.4 b.2.taken b.3 b.5 h h.size refl)
 
-    module _ (unread left : Option (List ℕ)) (v : ℕ) (lines : ScriptReader C M) (input : Input) (consumer : L) where
+    module _ (ConsumesOn : L → L → Script C M → Counts → Type 0) (most : ℕ) (first : L) (unread left : Option (List ℕ)) (v : ℕ)
+        (lines : ScriptReader C M) (input : Input) (consumer : L) where
       -- at the beginning of a round: the lines can be read, and the consumer can advance over them, in the form that `read_on` requires
       abbrev pub GoesOn : Type 0
-      GoesOn = IsAhead (HasConsumed v) unread left v lines input consumer × IsReading lines input × CanConsume HasConsumed lines input consumer
+      GoesOn = IsAhead (HasConsumed v) ConsumesOn most first unread left v lines input consumer × IsReading lines input × CanConsume HasConsumed lines input consumer
 
-      pub goes-on : IsWidth C × IsWidth M → IsAhead (HasConsumed v) unread left v lines input consumer → GoesOn
+      pub goes-on : IsWidth C × IsWidth M → IsAhead (HasConsumed v) ConsumesOn most first unread left v lines input consumer → GoesOn
       goes-on widths ahead = (
         ahead,
         reading widths.0 widths.1 unread left lines input ahead.between,

@@ -72,6 +72,7 @@ header_used input input' bytes end same forward within line lt from to buffer to
       line = take (end + 1) (held input);
       taken = λ unread left t. advanced input input' (end + 1) from to buffer total inside unread left [] t;
       header = λ version client manager named. header_line (held input) end version client manager line' lt' named;
+      size = ap length buffer;
     }
 
 -- the widths that a header names are widths

@@ -1,4 +1,9 @@
 -- The state after some writes of a text.
+use Rattle.std.specs.Prelude.{OnErr, OnOk}
+use Rattle.std.specs.Io.KnownBytes.{Keeps}
+use Rattle.std.proofs.lemmas.List.{take-append-drop}
+use Rattle.tl_stream.specs.Outputs.{AppendsPart}
+use Rattle.tl_stream.proofs.Names.{Result, Ok, Err, None, Some, [], sym, append-nil, Appends-kept}
 use Rattle.tl_stream.proofs.Names.{◌≡◌, ℕ, ◌+◌, ◌-◌, ◌≤◌, List, length, take, drop, Option}
 use Rattle.tl_stream.proofs.Names.{subst, ap, ◌∙◌, arith, length-drop, Appends-trans, Appends}
 use Rattle.std.proofs.Math.Seq.{take-add, take-length}
@@ -24,3 +29,31 @@ goes_on a b c text rest n m e h few bytes =
           (Appends-trans a b c (take n text) (take m (drop n text)) h.some (subst (λ l. Appends b c (take m l)) same bytes));
       few = omega (arith, long, few, here);
     }
+
+-- no more went out
+nothing_out : (b c : Option (List ℕ)) → Appends b c [] → Keeps b c
+nothing_out None c out = tt
+nothing_out (Some xs) None out = absurd out
+nothing_out (Some xs) (Some ys) out = out ∙ append-nil xs
+
+pub none_taken : (b c : Option (List ℕ)) (text : List ℕ) (n : ℕ) → n ≡ 0 → Appends b c (take n text) → Keeps b c
+none_taken b c text n none out = nothing_out b c (subst (λ n. Appends b c (take n text)) none out)
+
+pub part_out : (a b c : Option (List ℕ)) (text : List ℕ) (n : ℕ) → SoFar a b text n → Keeps b c → AppendsPart a c text
+part_out a b c text n h kept = record {
+  part = take n text;
+  rest = drop n text;
+  whole = sym (take-append-drop n text);
+  appended = Appends-kept a b c (take n text) h.some kept;
+}
+
+-- all went out, and nothing after it
+pub all_out : {E : Type 0} (a b c : Option (List ℕ)) (text : List ℕ) (r : Result (Unit {0}) E) → Appends a b text → Keeps b c → OnErr r (AppendsPart a c text)
+all_out a b c text (Ok done) out kept = tt
+all_out a b c text (Err fault) out kept =
+    record { part = text; rest = []; whole = sym (append-nil text); appended = Appends-kept a b c text out kept }
+
+-- whatever holds, holds of a result that is Ok
+pub on_ok : {T E P : Type 0} (r : Result T E) → P → OnOk r P
+on_ok (Ok done) p = p
+on_ok (Err fault) p = tt

@@ -1,7 +1,8 @@
 //! Functions that read or write all bytes of a text.
-ghost use Rattle.std.specs.Prelude.{◌≡◌, ◌≢◌, ◌≤◌, ◌<◌, [], length, IfSome, IfOk, OnOk, IfErr, IsErrOf};
+ghost use Rattle.std.specs.Prelude.{◌≡◌, ◌≢◌, ◌≤◌, ◌<◌, [], length, IfSome, IfOk, OnOk, IfErr, IsErrOf, OnErr};
 ghost use Rattle.std.specs.Io.KnownBytes.{Appends, Keeps, IsAtEnd};
 ghost use Rattle.tl_stream.specs.Inputs.{most_bytes};
+ghost use Rattle.tl_stream.specs.Outputs.{AppendsPart};
 ghost use Rattle.tl_stream.specs.Inner.Reading.{ReadsAll};
 ghost use Rattle.tl_stream.specs.declared.fault.TextFault.TheVariants.{Read as ReadFault, Write as WriteFault, TooLong, OutOfMemory};
 
@@ -57,13 +58,15 @@ pub fn read_all<R: Read>(alloc: Global, reader: &mut R) -> Result<Vec<u8>, TextF
 /// Writes all bytes without flushing. Errors: as `write_all`.
 pub fn write_bytes<W: Write>(writer: &mut W, bytes: &[u8]) -> Result<(), TextFault>
     ensures all { OnOk result (Appends (W.contents writer.old) (W.contents writer.new) bytes.now) }
+    ensures part { OnErr result (AppendsPart (W.contents writer.old) (W.contents writer.new) bytes.now) }
     ensures kind { IfErr result (λ e. e ≡ WriteFault) }
 {
     let mut written = 0;
     while written < bytes.len() {
         match writer.write(&bytes[written..]) {
-            Ok(0) | Err(_) => return Err(TextFault::Write),
+            Ok(0) => return Err(TextFault::Write),
             Ok(n) => written += n,
+            Err(_) => return Err(TextFault::Write),
         }
     }
     Ok(())
@@ -71,7 +74,7 @@ pub fn write_bytes<W: Write>(writer: &mut W, bytes: &[u8]) -> Result<(), TextFau
 
 /// Flushes a writer. Errors: as `write_all`.
 pub fn flush<W: Write>(writer: &mut W) -> Result<(), TextFault>
-    ensures all { OnOk result (Keeps (W.contents writer.old) (W.contents writer.new)) }
+    ensures kept { Keeps (W.contents writer.old) (W.contents writer.new) }
     ensures kind { IfErr result (λ e. e ≡ WriteFault) }
 {
     if writer.flush().is_err() {
@@ -83,9 +86,10 @@ pub fn flush<W: Write>(writer: &mut W) -> Result<(), TextFault>
 /// Writes all bytes and flushes.
 ///
 /// Errors: only `Write`, if a write or the flush fails, is interrupted or takes no byte. After an
-/// error it is not specified how much was written.
+/// error it is not specified how much was written, but it is the first of these bytes.
 pub fn write_all<W: Write>(writer: &mut W, bytes: &[u8]) -> Result<(), TextFault>
     ensures all { OnOk result (Appends (W.contents writer.old) (W.contents writer.new) bytes.now) }
+    ensures part { OnErr result (AppendsPart (W.contents writer.old) (W.contents writer.new) bytes.now) }
     ensures kind { IfErr result (λ e. e ≡ WriteFault) }
 {
     write_bytes(writer, bytes)?;

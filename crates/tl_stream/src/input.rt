@@ -4,6 +4,7 @@ ghost use Rattle.std.specs.Io.KnownBytes.{IsAtEnd};
 ghost use Rattle.tl_stream.specs.Inner.Filling.{Fills};
 ghost use Rattle.tl_stream.specs.Inputs.{HasTaken, held};
 ghost use Rattle.tl_stream.specs.Inputs.{most_bytes};
+ghost use Rattle.tl_stream.specs.declared.input.TheConstants.{PIECE_BYTES};
 ghost use Rattle.tl_stream.specs.declared.fault.TextFault.TheVariants.{Read as ReadFault, TooLong, OutOfMemory};
 
 use crate::fault::TextFault;
@@ -14,7 +15,7 @@ use std::io::Read;
 pub const MAX_BYTES: usize = 67_108_864;
 
 /// The number of bytes of a piece of a text.
-const PIECE_BYTES: usize = 262_144;
+pub const PIECE_BYTES: usize = 262_144;
 
 /// Allocates a buffer of `bytes` bytes.
 pub fn read_buffer(alloc: Global, bytes: usize) -> Result<Vec<u8>, AllocError>
@@ -73,6 +74,7 @@ impl Input {
     pub fn open<R: Read>(alloc: Global, reader: &mut R) -> Result<Input, TextFault>
         ensures ok { IfOk result (HasTaken (R.remaining reader.old) (R.remaining reader.new) []) }
         ensures first { IfOk result (λ input. input.from ≡ 0) }
+        ensures size { IfOk result (λ input. length input.buffer.items ≡ PIECE_BYTES) }
         ensures long { IsErrOf result TooLong → IfSome (R.remaining reader.old) (λ text.
             most_bytes < length text) }
         ensures kinds { IfErr result (λ e. (e ≢ ReadFault) → (e ≢ TooLong) → e ≡ OutOfMemory) }
@@ -129,6 +131,7 @@ impl Input {
             HasTaken unread (R.remaining reader.old) used self.old →
             OnOk result (HasTaken unread (R.remaining reader.new) used self.new) }
         ensures from { OnOk result (self.new.from ≡ 0) }
+        ensures size { OnOk result (length self.new.buffer.items ≡ length self.old.buffer.items) }
         ensures more { OnOk result (self.old.total ≤ self.new.total) }
         ensures grown { OnOk result (self.new.to ≡ length self.new.buffer.items →
             self.old.to - self.old.from < length self.old.buffer.items →

@@ -5,7 +5,7 @@ ghost use Rattle.tl_trace.specs.Faults.{HasHeader};
 ghost use Rattle.tl_trace.specs.Scripts.{Discarded};
 ghost use Rattle.tl_stream.specs.Inner.Lines.{IsBeginning, IsReading, ReadsHeld, UsesHeader};
 ghost use Rattle.tl_stream.specs.Inner.Consuming.{CanConsume, ReadsThrough};
-ghost use Rattle.tl_stream.specs.Consuming.{IsNew, IsReadThrough};
+ghost use Rattle.tl_stream.specs.Consuming.{IsConsumedInPieces, IsNew, IsReadThrough};
 ghost use Rattle.tl_stream.specs.Inputs.{IsFresh, IsRefused, ReadsScript, held, unread_of};
 
 use crate::beat_consumer::BeatConsumer;
@@ -86,7 +86,7 @@ fn read_pieces<R: Read, By, L: BeatConsumer<By, C, M>, const C: usize, const M: 
     consumer: &mut L,
 ) -> Result<(), TextFault>
     requires { IsBeginning L.HasConsumed (R.remaining reader.old) input.old lines.old consumer.old }
-    ensures { ReadsThrough (L.HasConsumed lines.old.version)
+    ensures { ReadsThrough (L.HasConsumed lines.old.version) L.ConsumesOn (length input.old.buffer.items) consumer.old
         (unread_of input.old (R.remaining reader.old)) (R.remaining reader.new)
         lines.old.version consumer.new lines.new.script input.new result }
 {
@@ -112,7 +112,8 @@ fn read_pieces<R: Read, By, L: BeatConsumer<By, C, M>, const C: usize, const M: 
 /// Reads a text to its end, incrementally. Its header names this version and these widths. The
 /// input holds its first piece, nothing of it was used, and the consumer is new. After each piece
 /// except the last one, the consumer advances over the beats that were read, and the beats that it
-/// no longer needs are removed. Returns the beats of the script that are left at the end.
+/// no longer needs are removed. A piece has at most as many bytes as the input's buffer. Returns the
+/// beats of the script that are left at the end.
 ///
 /// Errors: as [`script_of_input`], and `OutOfMemory` if the consumer fails.
 pub fn read_through<R: Read, By, L: BeatConsumer<By, C, M>, const C: usize, const M: usize>(
@@ -127,6 +128,8 @@ pub fn read_through<R: Read, By, L: BeatConsumer<By, C, M>, const C: usize, cons
     ensures ok { IfOk result (IsReadThrough (L.HasConsumed version)
         (unread_of input.old (R.remaining reader.old)) (R.remaining reader.new)
         version consumer.new) }
+    ensures pieces { IfOk result (IsConsumedInPieces L.ConsumesOn version (length input.old.buffer.items) consumer.old
+        (unread_of input.old (R.remaining reader.old)) (R.remaining reader.new) consumer.new) }
     ensures err { IfErr result (IsRefused
         (unread_of input.old (R.remaining reader.old)) (R.remaining reader.new) input.new) }
 {

@@ -1,11 +1,11 @@
 -- The options that clap finds, by its rows.
-use Rattle.std.proofs.Common.{◌≡◌, ◌∙◌, ap₂, false, true, ℕ, Bor, box_value, List, [], ◌∷◌, Option, Some, None, Err, IfOk}
+use Rattle.std.proofs.Common.{◌≡◌, ◌∙◌, ap₂, false, true, ℕ, Bor, box_value, List, [], ◌∷◌, Option, Some, None, Err, IfErr, IfOk, inl, inr}
 use Rattle.std.proofs.Common.{IsOkAnd, Ok, Result, ◌++◌, option_map, codes, refl, subst, sym, ap, arith}
 use Rattle.std.specs.Prelude.{◌||◌, OnOk, unwrap_or}
 use Rattle.std.specs.Result.{result_and}
-use Rattle.std.specs.Str.Parse.{ParsesUnsigned, digits_value, without_leading_plus}
+use Rattle.std.specs.Str.Parse.{ParsesUnsigned}
 use Rattle.clap.specs.Simple.{app_of_fields}
-use Rattle.clap.specs.Kinds.{FailsBy, Kinds}
+use Rattle.clap.specs.Kinds.{FailsBy, HasKind, Kinds, or_else}
 use Rattle.clap.specs.declared.error.Error.{Error}
 use Rattle.clap.specs.Words.{AddsArg, AddsInTurn, AddsSubcommand, App, Row, Rule, Text, app_of, first_of, is_simple, is_simple_and_free, new_app}
 use Rattle.clap.specs.Words.{subcommand_name_of, subcommand_rows, subcommand_rows_of, with_rule, with_subcommand}
@@ -18,7 +18,7 @@ use Rattle.clap.specs.declared.parser.matches.ArgMatches.TheViews.{out-ArgMatche
 use Rattle.clap.proofs.OnLiterals.{clap_on_literals}
 use Rattle.tl_order.specs.declared.Order.{Order}
 use Rattle.tl_order.specs.declared.Order.TheVariants.{Run, Check}
-use Rattle.tl_words.specs.CommandLines.{IsOrderOf, IsRunOf, check_shape, file_of, program, run_shape}
+use Rattle.tl_words.specs.CommandLines.{IsNumberOf, IsOrderOf, IsRunOf, check_shape, file_of, program, run_shape}
 use Rattle.tl_words.specs.Inner.Rules.{HasApp, HasRule, HasShape, bare}
 
 -- clap's definitions apply to the words of this command
@@ -35,6 +35,20 @@ program_is_free = refl
 pub none_found : {T : Type 0} (kinds : Kinds) (r : Result T Error) → FailsBy kinds r → IfOk r (λ _. kinds ≡ [])
 none_found kinds (Ok x) none = none
 none_found kinds (Err e) some = tt
+
+-- words that were refused have a kind of error that clap finds
+pub some_found : {T : Type 0} (kinds : Kinds) (r : Result T Error) → FailsBy kinds r → IfErr r (HasKind kinds)
+some_found kinds (Ok x) none = tt
+some_found kinds (Err e) some = some
+
+-- an error of clap's is one of the whole command line, and so is a later one if clap finds none
+pub first_kinds : (kinds next : Kinds) (e : Error) → HasKind kinds e → HasKind (or_else kinds next) e
+first_kinds [] next e (inl memory) = inl memory
+first_kinds [] next e (inr none) = absurd none
+first_kinds (k ∷ ks) next e has = has
+
+pub next_kinds : (kinds next : Kinds) (e : Error) → kinds ≡ [] → HasKind next e → HasKind (or_else kinds next) e
+next_kinds kinds next e none has = subst (λ k. HasKind (or_else k next) e) (sym none) has
 
 -- the word of `file` is found in the rows of the subcommand
 pub file_by_rows : (called : Option (Text × List Row)) (rows : List Row) → Some rows ≡ option_map (λ c. c.1) called
@@ -61,18 +75,18 @@ pub check_by_rows : (called : Option (Text × List Row)) (rows : List Row) → o
 check_by_rows None rows name found = cc
 check_by_rows (Some c) rows name found = (rows, grind arith)
 
--- the number of a word that was read
-pub number_of_word : {E : Type 0} (o : Option (Bor Text)) (d w : Bor Text) (first : Option Text) (n : ℕ) (r : Result ℕ E)
-    → w ≡ unwrap_or o d → d.now ≡ [] → ParsesUnsigned 64 10 w.now r → r ≡ Ok n → option_map (λ s. s.now) o ≡ first
-    → option_map (λ word. digits_value 10 (without_leading_plus word)) first ≡ Some n
-number_of_word None d w first n r is empty parsed ok said =
+-- a word that was read is a numeral, and the number is its value
+pub number_of_word : {E : Type 0} (o : Option (Bor Text)) (d w : Bor Text) (name : Text) (rows : List Row) (n : ℕ) (r : Result ℕ E)
+    → w ≡ unwrap_or o d → d.now ≡ [] → ParsesUnsigned 64 10 w.now r → r ≡ Ok n → option_map (λ s. s.now) o ≡ first_of name rows
+    → IsNumberOf name rows n
+number_of_word None d w name rows n r is empty parsed ok said =
     let none : w.now ≡ [] = ap (λ s. s.now) is ∙ empty in
     let has = rw (none, ok) at parsed in
     absurd (omega arith)
-number_of_word (Some s) d w first n r is empty parsed ok said =
+number_of_word (Some s) d w name rows n r is empty parsed ok said =
     let there : w.now ≡ s.now = ap (λ s. s.now) is in
     let has = rw (there, ok) at parsed in
-    rw (← said) (ap Some (sym has.1))
+    record { word = s.now; is_first = sym said; numeral = has.0.0; value = sym has.1 }
 
 -- a command with a text above its help
 pub with_about : (new about : Command) (x : Option (Bor Text)) (app : App) → fields_of about ≡ record (fields_of new) { about = x }

@@ -1,5 +1,5 @@
 -- The meaning of whole command lines, computed.
-use Rattle.std.proofs.Common.{◌≡◌, ◌∷◌, [], List, Some, None, true, false, codes, refl}
+use Rattle.std.proofs.Common.{◌≡◌, ◌∷◌, [], List, Some, None, true, false, codes, refl, lit<}
 use Rattle.clap.specs.Words.{Text, takes}
 use Rattle.clap.proofs.OnLiterals.{clap_on_literals}
 use Rattle.tl_order.specs.declared.Order.TheVariants.{Run, Check}
@@ -12,7 +12,15 @@ line words = codes "tlbridge" ∷ words
 -- the defaults
 run : IsOrderOf (called_by (line (codes "run" ∷ []))) (Run 16 4 false)
 unfolding called_by clap_on_literals
-run = (_, refl, (refl, refl, record { none = λ e. refl; set = λ e. cc; unset = λ e. refl }))
+run = (
+  _,
+  refl,
+  (
+    record { word = codes "16"; is_first = refl; numeral = (lit< tt, (lit< tt, (lit< tt, tt))); value = refl },
+    record { word = codes "4"; is_first = refl; numeral = (lit< tt, (lit< tt, tt)); value = refl },
+    record { none = λ e. refl; set = λ e. cc; unset = λ e. refl },
+  ),
+)
 
 run_reads_standard_input : file_of (called_by (line (codes "run" ∷ []))) ≡ None
 unfolding called_by clap_on_literals
@@ -32,7 +40,15 @@ whole = line (codes "run" ∷ codes "--sync" ∷ codes "--ring=4096" ∷ codes "
 
 whole_order : IsOrderOf (called_by whole) (Run 4096 1000 true)
 unfolding called_by clap_on_literals
-whole_order = (_, refl, (refl, refl, record { none = λ e. cc; set = λ e. refl; unset = λ e. cc }))
+whole_order = (
+  _,
+  refl,
+  (
+    record { word = codes "4096"; is_first = refl; numeral = (lit< tt, (lit< tt, (lit< tt, (lit< tt, (lit< tt, tt))))); value = refl },
+    record { word = codes "1000"; is_first = refl; numeral = (lit< tt, (lit< tt, (lit< tt, (lit< tt, (lit< tt, tt))))); value = refl },
+    record { none = λ e. cc; set = λ e. refl; unset = λ e. cc },
+  ),
+)
 
 whole_file : file_of (called_by whole) ≡ Some (codes "a.trace")
 unfolding called_by clap_on_literals

@@ -1,11 +1,12 @@
 -- The order and the file that a command line names: `tlbridge run [--ring N] [--turns N] [--sync] [FILE]`, or `tlbridge
 -- check [FILE]`. How words are matched to a command is clap's (`subcommand_of`). The command, its names and its
 -- defaults are this project's choice.
-use Rattle.std.specs.Prelude.{◌≡◌, ℕ, Bool, true, false, List, [], ◌∷◌, Option, Some, None, option_map, option_and_then, codes}
-use Rattle.std.specs.Str.Parse.{digits_value, without_leading_plus}
+use Rattle.std.specs.Prelude.{◌≡◌, ℕ, Bool, true, false, List, [], ◌∷◌, Option, Some, None, option_and_then, codes}
+use Rattle.std.specs.Str.Parse.{IsNumeral, digits_value, without_leading_plus}
 use Rattle.clap.specs.Words.{App, Row, Rule, Shape, Text, fault_of, first_of, new_rule, one_of, subcommand_of}
-use Rattle.clap.specs.Kinds.{Kinds}
+use Rattle.clap.specs.Kinds.{Kinds, or_else}
 use Rattle.clap.specs.Simple.{new_shape}
+use Rattle.clap.specs.declared.error.kind.ErrorKind.TheVariants.{ValueValidation}
 use Rattle.clap.specs.declared.builder.action.ArgAction.TheVariants.{SetTrue}
 use Rattle.tl_order.specs.declared.Order.{Order}
 use Rattle.tl_order.specs.declared.Order.TheVariants.{Run, Check}
@@ -53,9 +54,16 @@ called_by words = subcommand_of program words
 unfoldable pub faults_in : List Text → Kinds
 faults_in words = fault_of program words
 
--- the number that an option's word is
-abbrev pub number_in : (name : Text) → List Row → Option ℕ
-number_in name rows = option_map (λ word. digits_value 10 (without_leading_plus word)) (first_of name rows)
+-- the kinds that the error for these words may have: clap's, and if clap takes them, that of a number out of range
+abbrev pub refused_kinds : List Text → Kinds
+refused_kinds words = or_else (faults_in words) (ValueValidation ∷ [])
+
+-- the word of an option is a decimal numeral, after a plus or without one, and this is its number
+pub record IsNumberOf (name : Text) (rows : List Row) (number : ℕ) : Type 0 where
+  pub word : Text
+  pub is_first : first_of name rows ≡ Some word
+  pub numeral : IsNumeral 10 (without_leading_plus word)
+  pub value : digits_value 10 (without_leading_plus word) ≡ number
 
 -- whether `--sync` is one of the words
 pub record IsSync (rows : List Row) (sync : Bool) : Type 0 where
@@ -65,7 +73,7 @@ pub record IsSync (rows : List Row) (sync : Bool) : Type 0 where
 
 -- a run with the numbers and the flag of the options
 abbrev pub IsRunOf : List Row → Order → Type 0
-IsRunOf rows (Run ring turns sync) = (number_in (codes "ring") rows ≡ Some ring) × (number_in (codes "turns") rows ≡ Some turns) × IsSync rows sync
+IsRunOf rows (Run ring turns sync) = IsNumberOf (codes "ring") rows ring × IsNumberOf (codes "turns") rows turns × IsSync rows sync
 IsRunOf rows Check = ⊥
 
 -- the order if this was called: a run if it was `run`, and a check if it was `check`

@@ -2,11 +2,14 @@
 //! refused.
 #![tactic(auto)]
 
-ghost use Rattle.std.specs.Prelude.{◌≡◌, ◌≤◌, ◌++◌, ◌∷◌, [], Some, IfOk, IsOkAnd, OnOk, codes, map, option_map};
+ghost use Rattle.std.specs.Prelude.{◌≡◌, ◌≤◌, ◌++◌, ◌∷◌, [], IfErr, IfOk, IsOkAnd, OnOk, codes, map, option_map};
+ghost use Rattle.clap.specs.Kinds.{HasKind};
+ghost use Rattle.clap.specs.Values.{kind_of};
+ghost use Rattle.clap.specs.declared.error.kind.ErrorKind.TheVariants.{ValueValidation};
 ghost use Rattle.clap.specs.Words.{app_of, found_of, rows_of, subcommand_rows_of};
 ghost use Rattle.tl_order.specs.Orders.{IsInRange};
-ghost use Rattle.tl_words.specs.CommandLines.{IsOrderOf, IsRunOf, called_by, check_shape, faults_in, file_of, file_rule};
-ghost use Rattle.tl_words.specs.CommandLines.{number_in, number_rule, program, run_shape, sync_rule};
+ghost use Rattle.tl_words.specs.CommandLines.{IsOrderOf, IsRunOf, called_by, check_shape, faults_in, file_of, file_rule, refused_kinds};
+ghost use Rattle.tl_words.specs.CommandLines.{IsNumberOf, number_rule, program, run_shape, sync_rule};
 ghost use Rattle.tl_words.specs.Inner.Rules.{HasRule, HasShape, bare};
 
 use clap::error::{Error, ErrorKind};
@@ -118,6 +121,7 @@ fn command<'a>(alloc: Global) -> Result<Command<'a>, AllocError>
 fn matches_of<'a>(alloc: Global, words: &'a [&'a str]) -> Result<ArgMatches<'a>, Error>
     ensures called { IfOk result (λ m. subcommand_rows_of m ≡ called_by (map (λ w. w.now) words.entry.now)) }
     ensures taken { IfOk result (λ _. faults_in (map (λ w. w.now) words.entry.now) ≡ []) }
+    ensures refused { IfErr result (HasKind (faults_in (map (λ w. w.now) words.entry.now))) }
 {
     match command(alloc) {
         Ok(command) => command.try_get_matches_from(words),
@@ -125,8 +129,10 @@ fn matches_of<'a>(alloc: Global, words: &'a [&'a str]) -> Result<ArgMatches<'a>,
     }
 }
 
-/// Returns an error with this message, followed by the usage.
-fn refusal(alloc: Global, message: &str) -> Result<Error, AllocError> {
+/// Returns an error with this message, followed by the usage. Its `exit_code` is 2.
+fn refusal(alloc: Global, message: &str) -> Result<Error, AllocError>
+    ensures { IfOk result (λ e. kind_of e ≡ ValueValidation) }
+{
     match command(alloc) {
         Ok(mut command) => {
             let refused = command.error(ErrorKind::ValueValidation, message);
@@ -138,7 +144,9 @@ fn refusal(alloc: Global, message: &str) -> Result<Error, AllocError> {
 }
 
 /// Returns the error for an option whose word is not a number from 1 to `max`.
-fn out_of_range(alloc: Global, name: &str, word: &str, max: usize) -> Result<Error, AllocError> {
+fn out_of_range(alloc: Global, name: &str, word: &str, max: usize) -> Result<Error, AllocError>
+    ensures { IfOk result (λ e. kind_of e ≡ ValueValidation) }
+{
     let message = format!(in alloc;
         "invalid value '{word}' for '--{name} <N>': it has to be a number from 1 to {max}"
     )?;
@@ -153,7 +161,8 @@ fn number_of(
     max: usize,
 ) -> Result<usize, Error>
     ensures range { IfOk result (λ n. (1 ≤ n) × (n ≤ max)) }
-    ensures said { IfOk result (λ n. number_in name.now (rows_of (found_of matches.now)) ≡ Some n) }
+    ensures said { IfOk result (IsNumberOf name.now (rows_of (found_of matches.now))) }
+    ensures refused { IfErr result (HasKind (ValueValidation ∷ [])) }
 {
     let word = matches.get_str(name).unwrap_or("");
     match word.parse::<usize>() {
@@ -166,6 +175,7 @@ fn number_of(
 fn run_order(alloc: Global, matches: &ArgMatches<'_>) -> Result<Order, Error>
     ensures range { IfOk result IsInRange }
     ensures said { IfOk result (IsRunOf (rows_of (found_of matches.now))) }
+    ensures refused { IfErr result (HasKind (ValueValidation ∷ [])) }
 {
     Ok(Order::Run {
         ring: number_of(alloc, matches, "ring", MAX_RING)?,
@@ -179,6 +189,7 @@ fn run_order(alloc: Global, matches: &ArgMatches<'_>) -> Result<Order, Error>
 fn check_order(alloc: Global, matches: &ArgMatches<'_>) -> Result<Order, Error>
     ensures range { IfOk result IsInRange }
     ensures said { IfOk result (IsOrderOf (subcommand_rows_of matches.now)) }
+    ensures refused { IfErr result (HasKind (ValueValidation ∷ [])) }
 {
     match matches.subcommand_matches("check") {
         Some(_) => Ok(Order::Check),
@@ -190,6 +201,7 @@ fn check_order(alloc: Global, matches: &ArgMatches<'_>) -> Result<Order, Error>
 fn order_in(alloc: Global, matches: &ArgMatches<'_>) -> Result<Order, Error>
     ensures range { IfOk result IsInRange }
     ensures said { IfOk result (IsOrderOf (subcommand_rows_of matches.now)) }
+    ensures refused { IfErr result (HasKind (ValueValidation ∷ [])) }
 {
     match matches.subcommand_matches("run") {
         Some(inner) => run_order(alloc, inner),
@@ -219,6 +231,7 @@ pub fn command_line_of<'a>(alloc: Global, words: &'a [&'a str]) -> Result<Comman
     ensures range { IfOk result (λ line. IsInRange line.order) }
     ensures order { IfOk result (λ line. IsOrderOf (called_by (map (λ w. w.now) words.entry.now)) line.order) }
     ensures file { IfOk result (λ line. option_map (λ s. s.now) line.file ≡ file_of (called_by (map (λ w. w.now) words.entry.now))) }
+    ensures refused { IfErr result (HasKind (refused_kinds (map (λ w. w.now) words.entry.now))) }
 {
     let matches = match matches_of(alloc, words) {
         Ok(matches) => matches,
@@ -239,6 +252,7 @@ pub fn order_of<'a>(alloc: Global, words: &'a [&'a str]) -> Result<Order, Error>
     ensures taken { IfOk result (λ _. faults_in (map (λ w. w.now) words.entry.now) ≡ []) }
     ensures range { IfOk result IsInRange }
     ensures said { IfOk result (IsOrderOf (called_by (map (λ w. w.now) words.entry.now))) }
+    ensures refused { IfErr result (HasKind (refused_kinds (map (λ w. w.now) words.entry.now))) }
 {
     match command_line_of(alloc, words) {
         Ok(line) => Ok(line.order),
@@ -246,7 +260,9 @@ pub fn order_of<'a>(alloc: Global, words: &'a [&'a str]) -> Result<Order, Error>
     }
 }
 
-/// Returns the error for a command line with a word that is not UTF-8.
-pub fn not_utf8(alloc: Global) -> Result<Error, AllocError> {
+/// Returns the error for a command line with a word that is not UTF-8. Its `exit_code` is 2.
+pub fn not_utf8(alloc: Global) -> Result<Error, AllocError>
+    ensures { IfOk result (λ e. kind_of e ≡ ValueValidation) }
+{
     refusal(alloc, "a word of the command line is not UTF-8")
 }

@@ -1,6 +1,6 @@
 //! The result of both runs if an allocation or the start of a thread fails. It is `OutOfMemory`,
 //! which is then also the result of the test, or the whole outcome. The script is unchanged.
-//! `bench/refusals` makes each fail in turn. If none fails, the tests pass.
+//! `tests/program/test_refusals.py` makes each fail in turn. If none fails, the tests pass.
 #![tactic(auto, using(tl_lanes::proofs::Widths::width_4, tl_lanes::proofs::Widths::width_8))]
 
 ghost use Rattle.tl_run.specs.Scripts.{HasShortLists};

@@ -1,5 +1,5 @@
 -- The state between two pieces of a text. Only private contracts use these words.
-use Rattle.std.specs.Prelude.{◌≡◌, ◌≤◌, ◌<◌, ◌+◌, ◌^◌, ℕ, Bool, true, false, nat_eq, List, [], length, Option, Result, Ok, Err}
+use Rattle.std.specs.Prelude.{◌≡◌, ◌≤◌, ◌<◌, ◌+◌, ◌++◌, ◌^◌, ℕ, Bool, true, false, nat_eq, List, [], length, Option, Result, Ok, Err}
 use Rattle.tl_lanes.specs.Lanes.{IsWidth}
 use Rattle.tl_trace.specs.Faults.{HasHeader}
 use Rattle.tl_trace.specs.Scripts.{Discarded, HasGrown, HasRead, HasReadPast, IsHeaderLine, IsUnfinished, none_gone}
@@ -43,6 +43,7 @@ pub record HasUsedHeader (input input' : Input) : Type 0 where
   pub line : List ℕ
   pub taken : (unread left : Option (List ℕ)) → HasTaken unread left [] input → HasTaken unread left line input'
   pub header : (version client manager : ℕ) → HasHeader (held input) version client manager → IsHeaderLine line version client manager
+  pub size : length input'.buffer.items ≡ length input.buffer.items
 
 -- the result of using a header, for every text that has one
 abbrev pub UsesHeader : (input input' : Input) → Result (Unit {0}) TextFault → Type 0
@@ -63,6 +64,11 @@ pub record HasReadHeld {C M : ℕ} (lines : ScriptReader C M) (input : Input) (l
   pub end : more ≡ false → held input' ≡ []
   pub between : (unread left : Option (List ℕ)) (discarded : Discarded C M) → IsBetweenPast discarded unread left lines input →
       IsBetweenPast discarded unread left lines' input'
+  -- the bytes of these lines
+  pub piece : List ℕ
+  pub piece_few : length piece ≤ length input.buffer.items
+  pub piece_used : (unread left : Option (List ℕ)) (discarded : Discarded C M) (b : IsBetweenPast discarded unread left lines input) →
+      (between unread left discarded b).used ≡ b.used ++ piece
 
 -- the result of reading these lines
 abbrev pub ReadsHeld : {C M : ℕ} (lines : ScriptReader C M) (input : Input) (lines' : ScriptReader C M) (input' : Input) →

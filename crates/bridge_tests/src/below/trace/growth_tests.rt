@@ -1,5 +1,5 @@
 //! The result of each call if an allocation fails. It is the call's own memory error, which is then
-//! also the result of the test, and the arguments are unchanged. `bench/refusals` makes each
+//! also the result of the test, and the arguments are unchanged. `tests/program/test_refusals.py` makes each
 //! allocation fail in turn. If none fails, the tests pass.
 #![tactic(auto, using(tl_lanes::proofs::Widths::width_4, tl_lanes::proofs::Widths::width_8))]
 

@@ -1,5 +1,6 @@
 use Rattle.std.proofs.Common.{refl, sym, ◌∙◌, subst}
-use Rattle.tl_c.specs.Calls.{HoldsClient, HoldsManager, HoldSides, HaveMet}
+use Rattle.tl_c_beats.proofs.Rounds.{met_known}
+use Rattle.tl_c.specs.Calls.{HoldsClient, HoldsManager, HoldSides, HaveMet, AreKnown}
 use Rattle.tl_c.proofs.Counting.{counted}
 use Rattle.tl_c.proofs.Keeping.{held_at, kept, kept_none, client_same, manager_same}
 use Rattle.tl_c.proofs.Meeting.{not_open, bridge_mismatch, unmoved, client_stays, manager_stays, for_both, answer_no_client, answer_no_manager, answer_others, answer_met}
@@ -16,6 +17,7 @@ returns-in_default c =
     record {
       answer = answer_no_client _ _ client;
       met = λ x y h k zero. not_open zero;
+      known = λ zero. not_open zero;
       counts = λ zero. not_open zero;
       sides = λ zero. not_open zero;
       kept = (kept_none _ client c.take.ensures.after c.take.ensures.number, unmoved _);
@@ -29,6 +31,7 @@ returns-in_default-take c =
     record {
       answer = answer_no_manager _ _ manager;
       met = λ x y h k zero. not_open zero;
+      known = λ zero. not_open zero;
       counts = λ zero. not_open zero;
       sides = λ zero. not_open zero;
       kept = (
@@ -38,15 +41,16 @@ returns-in_default-take c =
       same = λ not. (c.put.ensures.held ∙ sym client, c.take-2.ensures.after ∙ sym manager, refl);
     }
 
-pub returns-then-client-manager : goal.returns-then-client-manager
-returns-then-client-manager c =
+pub returns-then-not-is : goal.returns-then-not-is
+returns-then-not-is c =
     let client = c.in-Some.ensures.some in
     let manager = c.in-Some-take.ensures.some in
-    let put = c.put-then-client-manager.ensures in
-    let put_2 = c.put-then-client-manager-2.ensures in
+    let put = c.put-then-not-is.ensures in
+    let put_2 = c.put-then-not-is-2.ensures in
     record {
-      answer = answer_others client manager c.take.ensures.number c.take-2.ensures.number c.if-client-manager.true;
+      answer = answer_others client manager c.take.ensures.number c.take-2.ensures.number c.is.ensures.result c.if-not-is.true;
       met = λ x y h k zero. bridge_mismatch zero;
+      known = λ zero. bridge_mismatch zero;
       counts = λ zero. bridge_mismatch zero;
       sides = λ zero. bridge_mismatch zero;
       kept = (
@@ -64,9 +68,16 @@ returns c =
     let client_now = c.put-2.ensures.held in
     let manager_now = c.put-3.ensures.held in
     record {
-      answer = answer_met client manager c.take.ensures.number c.take-2.ensures.number c.if-client-manager.false;
+      answer = answer_met client manager c.take.ensures.number c.take-2.ensures.number c.is.ensures.result c.if-not-is.false;
       met = λ x y h k zero. for_both (λ s t. HaveMet s t x y) client_now manager_now (meet_legally c.sides_obey.ensures
           (met.ensures.meets x y (subst (λ s. HoldsClient s x) client h) (subst (λ t. HoldsManager t y) manager k)));
+      known = λ zero. for_both AreKnown client_now manager_now (record {
+        a = met_known met.ensures.a;
+        b = met_known met.ensures.b;
+        c = met_known met.ensures.c;
+        d = met_known met.ensures.d;
+        e = met_known met.ensures.e;
+      });
       counts = λ zero. counted {s = record { side = met.new.client }} {t = record { side = met.new.manager }} client_now manager_now
           c.channel_counts.ensures met.ensures.standing_a met.ensures.standing_b met.ensures.standing_c met.ensures.standing_d met.ensures.standing_e;
       sides = λ zero. for_both HoldSides client_now manager_now (record {

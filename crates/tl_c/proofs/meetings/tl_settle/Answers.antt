@@ -1,6 +1,6 @@
 use Rattle.std.proofs.Common.{refl, sym, ◌∙◌, subst}
 use Rattle.tl_sides.proofs.SameSides.{still_sides}
-use Rattle.tl_c.specs.Calls.{HoldsClient, HoldsManager, HoldSides}
+use Rattle.tl_c.specs.Calls.{HoldsClient, HoldsManager, HoldSides, AreKnown}
 use Rattle.tl_c.specs.Settling.{HaveSettled, AreStill}
 use Rattle.tl_c.proofs.Counting.{counted}
 use Rattle.tl_c.proofs.Keeping.{held_at, kept, kept_none, client_same, manager_same}
@@ -19,6 +19,7 @@ returns-in_default c =
       answer = answer_no_client _ _ client;
       settled = λ x y h k zero. not_open zero;
       still = λ zero. not_open zero;
+      known = λ zero. not_open zero;
       counts = λ zero. not_open zero;
       sides = λ zero. not_open zero;
       kept = (kept_none _ client c.take.ensures.after c.take.ensures.number, untouched _);
@@ -33,6 +34,7 @@ returns-in_default-take c =
       answer = answer_no_manager _ _ manager;
       settled = λ x y h k zero. not_open zero;
       still = λ zero. not_open zero;
+      known = λ zero. not_open zero;
       counts = λ zero. not_open zero;
       sides = λ zero. not_open zero;
       kept = (
@@ -42,16 +44,17 @@ returns-in_default-take c =
       same = λ not. (c.put.ensures.held ∙ sym client, c.take-2.ensures.after ∙ sym manager, refl);
     }
 
-pub returns-then-client-manager : goal.returns-then-client-manager
-returns-then-client-manager c =
+pub returns-then-not-is : goal.returns-then-not-is
+returns-then-not-is c =
     let client = c.in-Some.ensures.some in
     let manager = c.in-Some-take.ensures.some in
-    let put = c.put-then-client-manager.ensures in
-    let put_2 = c.put-then-client-manager-2.ensures in
+    let put = c.put-then-not-is.ensures in
+    let put_2 = c.put-then-not-is-2.ensures in
     record {
-      answer = answer_others client manager c.take.ensures.number c.take-2.ensures.number c.if-client-manager.true;
+      answer = answer_others client manager c.take.ensures.number c.take-2.ensures.number c.is.ensures.result c.if-not-is.true;
       settled = λ x y h k zero. bridge_mismatch zero;
       still = λ zero. bridge_mismatch zero;
+      known = λ zero. bridge_mismatch zero;
       counts = λ zero. bridge_mismatch zero;
       sides = λ zero. bridge_mismatch zero;
       kept = (
@@ -66,16 +69,17 @@ returns c =
     let settled = c.settle-standings in
     let client = held_at c.in-Some.ensures.some c.deref_mut.ensures.value in
     let manager = held_at c.in-Some-take.ensures.some c.deref_mut-2.ensures.value in
-    let numbers = sym c.take.ensures.number ∙ c.if-client-manager.false ∙ c.take-2.ensures.number in
+    let numbers = sym c.take.ensures.number ∙ c.is.ensures.same c.if-not-is.false ∙ c.take-2.ensures.number in
     let client_now = c.put-2.ensures.held in
     let manager_now = c.put-3.ensures.held in
     record {
-      answer = answer_met client manager c.take.ensures.number c.take-2.ensures.number c.if-client-manager.false;
+      answer = answer_met client manager c.take.ensures.number c.take-2.ensures.number c.is.ensures.result c.if-not-is.false;
       settled = λ x y h k zero.
           let settles = settled.ensures.settled x y (subst (λ s. HoldsClient s x) client h) (subst (λ t. HoldsManager t y) manager k) in
           for_both (λ s t. HaveSettled s t x y) client_now manager_now
           (record { settles = settles; legal = meet_legally c.sides_obey.ensures settles.meets });
       still = λ zero. for_both AreStill client_now manager_now settled.ensures.still;
+      known = λ zero. for_both AreKnown client_now manager_now settled.ensures.known;
       counts = λ zero. counted {s = record { side = settled.new.client }} {t = record { side = settled.new.manager }} client_now manager_now
           c.channel_counts.ensures settled.ensures.standing_a settled.ensures.standing_b settled.ensures.standing_c
           settled.ensures.standing_d settled.ensures.standing_e;

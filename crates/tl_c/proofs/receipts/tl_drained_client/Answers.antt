@@ -17,6 +17,6 @@ returns c =
     let is = held_at c.on_held-put.ensures.held c.deref.ensures in
     let told = c.drained_client.ensures in
     record {
-      drained = drains_some was is told.drained told.taken;
+      drained = drains_some was is told.drained told.right told.taken;
       kept = kept _ was is (client_same _) c.on_held-take.ensures.number c.on_held-put.ensures.number;
     }

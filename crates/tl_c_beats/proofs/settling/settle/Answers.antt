@@ -29,6 +29,9 @@ pub returns-then-is_still-clause-settled : goal.returns-then-is_still-clause-set
 returns-then-is_still-clause-settled g c = λ x y client manager.
     settles_then (c.rounds.invariant.settled x y client manager) c.round-moved.ensures.went
 
+pub returns-then-is_still-clause-known : goal.returns-then-is_still-clause-known
+returns-then-is_still-clause-known g c = c.round-moved.ensures.known
+
 pub returns-then-is_still-clause-still : goal.returns-then-is_still-clause-still
 returns-then-is_still-clause-still g c =
     c.round-moved.ensures.still c.if-is_still.true

@@ -1,4 +1,6 @@
-use Rattle.tl_ring.proofs.Names.{◌≤◌, length, refl, arith, lit<, STAGE_CAPACITY}
+use Rattle.tl_ring.proofs.Names.{◌≤◌, length, refl, sym, ap, ◌∙◌, arith, lit<, STAGE_CAPACITY}
+use Rattle.tl_ring.proofs.Times.{items_append, items_length}
+use Rattle.tl_ring.specs.Halves.{items}
 use Rattle.tl_ring.specs.Ends.{LookedAfter, taking_of}
 use Rattle.tl_ring.proofs.EndSteps.{shown_of}
 use denote.Param.{layout, param, number, copied}
@@ -26,10 +28,12 @@ looked g c =
     record {
       receipt = after.finished.0;
       take = after.looked.0;
-      same_sent = after.finished.1;
+      same_sent = ap items after.finished.1;
       same_inbox = refl;
-      same_received = after.looked.1;
-      ring = after.fifo;
+      same_received = ap items after.looked.1;
+      same_received_times = after.looked.1;
+      same_clock = after.clock;
+      ring = sym (items_append _ _) ∙ ap items after.fifo;
     }
 
 pub returns-clause-looked : goal.returns-clause-looked
@@ -37,7 +41,7 @@ returns-clause-looked g c = rw (← c.receipt.view_is) (looked g c)
 
 pub returns-clause-drained : goal.returns-clause-drained
 returns-clause-drained g c = none_in_two c.args.inbox.now _ c.len-waiting.result c.slots_after-in_ring.result c.len-waiting.ensures.count
-    c.slots_after-in_ring.ensures.value
+    (c.slots_after-in_ring.ensures.value ∙ sym (items_length _))
 
 pub returns-clause-shown : goal.returns-clause-shown
 returns-clause-shown g c =

@@ -1,7 +1,10 @@
 use denote.Memory.{lone}
 use Rattle.std.proofs.Common.{lit<}
-use Rattle.tl_ring.proofs.Names.{refl, All-drop, IsLawfulBeat}
+use Rattle.tl_ring.proofs.Names.{refl, ap, ◌∙◌, take, ◌++◌, All-drop, IsLawfulBeat}
 use Rattle.tl_ring.proofs.EndSteps.{sends_passed}
+use Rattle.tl_ring.proofs.Times.{items_append, items_stamped}
+use Rattle.tl_ring.specs.Halves.{items, all_stamped}
+use Rattle.rtrb.specs.Ring as rtrb
 use denote.Param.{layout, param, number, copied}
 use Rattle.tl_ring.specs.contracts.outbox.Outbox.{the_row}
 use Rattle.tl_ring.proofs.FieldSizes.{part_small, beat_in_queue}
@@ -27,6 +30,10 @@ push_queue-requires-room-P-Protocol-2 g c κs within = push_queue-requires-room-
 pub returns : goal.returns
 returns g c =
     let p = c.push_queue.ensures in
+    let before = rtrb.sent c.args.producer.now in
+    let moved = take c.push_queue.result c.outbox.inside.stage in
+    let sent = ap items p.sent ∙ items_append before (all_stamped c.args.clock.now.time moved) ∙
+    ap (λ l. items before ++ l) (items_stamped c.args.clock.now.time moved) in
     rw (← c.outbox.view_is) (record {
       least = p.least;
       most = p.most;
@@ -35,8 +42,9 @@ returns g c =
         same_converter = refl {a = c.outbox.inside.converter};
         same_closed = refl {a = c.outbox.inside.closed};
         stage = p.queue;
-        more_sent = p.sent;
+        more_sent = sent;
         known = p.known;
       };
-      stands = λ x h. sends_passed g.K.Channel.rules g.met.K.Channel.partial_masked c.push_queue.result _ _ x refl p.queue p.sent p.ring.1 refl h;
+      times = p.sent;
+      stands = λ x h. sends_passed g.K.Channel.rules g.met.K.Channel.partial_masked c.push_queue.result _ _ x refl p.queue sent p.ring.1 refl h;
     })

@@ -1,6 +1,7 @@
-use Rattle.tl_ring.proofs.Names.{◌≤◌, ◌∙◌, length, arith, STAGE_CAPACITY}
+use Rattle.tl_ring.proofs.Names.{◌≤◌, sym, ◌∙◌, length, arith, STAGE_CAPACITY}
 use Rattle.tl_ring.specs.Ends.{sending_of, taking_of}
 use Rattle.tl_ring.proofs.EndSteps.{meeting_of}
+use Rattle.tl_ring.proofs.Times.{items_length}
 use denote.Memory.{lone}
 use denote.Param.{layout, param, number, copied}
 use Rattle.tl_ring.specs.contracts.ends.ClosingEnd as send
@@ -36,12 +37,12 @@ returns g c =
     let s = sending_of c.send.inside.outbox c.send.inside.producer in
     let t = taking_of c.take.inside.inbox c.take.inside.intake.half in
     let held : length c.take.inside.inbox ≤ STAGE_CAPACITY = omega (arith, stand.inbox, stand.most) in
-    let meeting = meeting_of g.K.Channel.rules s t seen.new.producer seen.new.consumer seen.result pair seen.ensures.producer seen.ensures.consumer
-    seen.ensures.count seen.ensures.fifo seen.ensures.places held in
+    let meeting = meeting_of g.K.Channel.rules s t seen.new.producer seen.new.consumer seen.result pair seen.ensures.producer
+    seen.ensures.consumer seen.ensures.clock seen.ensures.count seen.ensures.fifo seen.ensures.places held in
     rw (← c.send.view_is, ← c.take.view_is) (record {
       met = meeting.0;
       staged = stand.staged;
-      in_ring = stand.in_ring ∙ seen.ensures.count;
+      in_ring = stand.in_ring ∙ seen.ensures.count ∙ sym (items_length _);
       inbox = stand.inbox;
       most = stand.most;
       meets = meeting.1;

@@ -1,4 +1,5 @@
-use Rattle.tl_ring.proofs.Names.{refl, arith}
+use Rattle.tl_ring.proofs.Names.{refl, ap, arith}
+use Rattle.tl_ring.specs.Halves.{items}
 use denote.Memory.{lone}
 use denote.Param.{layout, param, number, copied}
 use Rattle.tl_ring.specs.contracts.ends.SendEnd.{the_row}
@@ -44,9 +45,9 @@ returns-in-Ok g c =
     record {
       pair = rw c.from_half.ensures new.pair;
       send = sends_new g.K.Channel.rules g.met.K.Channel.partial_masked _ c.args.ring new.some_room
-          (c.new.ensures.stands c.requires.near c.requires.far) c.new.ensures.ready.0 new.none_sent new.room c.new.ensures.ready.1;
-      take = rw (c.from_half.ensures, c.new-in-Ok.ensures) new.none_received;
-      known = rw c.from_half.ensures (new.all_free, new.none_known, c.new-in-Ok.ensures);
+          (c.new.ensures.stands c.requires.near c.requires.far) c.new.ensures.ready.0 (ap items new.none_sent) new.room c.new.ensures.ready.1;
+      take = rw (c.from_half.ensures, c.new-in-Ok.ensures) (ap items new.none_received);
+      known = rw c.from_half.ensures (new.all_free, ap items new.none_known, c.new-in-Ok.ensures);
       size = λ made. c.in-Ok.ensures.size refl;
       ring_size = tt;
     }

@@ -6,6 +6,7 @@ pub returns : goal.returns
 returns g c bridge x h = record {
   client = h.client_obeys;
   manager = h.manager_obeys;
+  order = h.order;
   b = taken_fine rules_b x.b h.b.crosses c.due_has_no_faults.ensures;
   c = taken_fine rules_c x.c h.c.crosses c.due_has_no_faults-2.ensures;
   e = taken_fine rules_e x.e h.e.crosses c.due_has_no_faults-3.ensures;

@@ -1,4 +1,5 @@
-use Rattle.std.proofs.Common.{◌∙◌}
+use Rattle.std.proofs.Common.{◌∙◌, sym}
+use Rattle.tl_ring.proofs.Times.{items_length}
 use Rattle.tl_sides.proofs.Words.{rules_a, rules_b, rules_c, rules_d, rules_e, met_of}
 use denote.Memory.{lone}
 use denote.Param.{layout}
@@ -73,22 +74,22 @@ returns g c =
     let n = c.standings_between.ensures in
     sides_met c.client.view_is c.manager.view_is _ _ _ _ _ _ _ _ _ _ _ _ _ _ _
     (let l = c.observe_both-a in ends_meet rules_a g.row.C _ _ _ _ _
-    (met_of _ _ l.new.producer l.new.consumer l.result sides.a l.ensures.producer l.ensures.consumer l.ensures.count
+    (met_of _ _ l.new.producer l.new.consumer l.result sides.a l.ensures.producer l.ensures.consumer l.ensures.clock l.ensures.count
     l.ensures.fifo l.ensures.places)
-    n.a.staged n.a.most.0 (n.a.in_ring ∙ l.ensures.count) n.a.inbox n.a.most.1)
+    n.a.staged n.a.most.0 (n.a.in_ring ∙ l.ensures.count ∙ sym (items_length _)) n.a.inbox n.a.most.1)
     (let l = c.observe_both-b in ends_meet rules_b g.row.M _ _ _ _ _
-    (met_of _ _ l.new.producer l.new.consumer l.result sides.b l.ensures.producer l.ensures.consumer l.ensures.count
+    (met_of _ _ l.new.producer l.new.consumer l.result sides.b l.ensures.producer l.ensures.consumer l.ensures.clock l.ensures.count
     l.ensures.fifo l.ensures.places)
-    n.b.staged n.b.most.0 (n.b.in_ring ∙ l.ensures.count) n.b.inbox n.b.most.1)
+    n.b.staged n.b.most.0 (n.b.in_ring ∙ l.ensures.count ∙ sym (items_length _)) n.b.inbox n.b.most.1)
     (let l = c.observe_both-c in ends_meet rules_c g.row.C _ _ _ _ _
-    (met_of _ _ l.new.producer l.new.consumer l.result sides.c l.ensures.producer l.ensures.consumer l.ensures.count
+    (met_of _ _ l.new.producer l.new.consumer l.result sides.c l.ensures.producer l.ensures.consumer l.ensures.clock l.ensures.count
     l.ensures.fifo l.ensures.places)
-    n.c.staged n.c.most.0 (n.c.in_ring ∙ l.ensures.count) n.c.inbox n.c.most.1)
+    n.c.staged n.c.most.0 (n.c.in_ring ∙ l.ensures.count ∙ sym (items_length _)) n.c.inbox n.c.most.1)
     (let l = c.observe_both-d in ends_meet rules_d g.row.M _ _ _ _ _
-    (met_of _ _ l.new.producer l.new.consumer l.result sides.d l.ensures.producer l.ensures.consumer l.ensures.count
+    (met_of _ _ l.new.producer l.new.consumer l.result sides.d l.ensures.producer l.ensures.consumer l.ensures.clock l.ensures.count
     l.ensures.fifo l.ensures.places)
-    n.d.staged n.d.most.0 (n.d.in_ring ∙ l.ensures.count) n.d.inbox n.d.most.1)
+    n.d.staged n.d.most.0 (n.d.in_ring ∙ l.ensures.count ∙ sym (items_length _)) n.d.inbox n.d.most.1)
     (let l = c.observe_both-e in ends_meet rules_e g.row.C _ _ _ _ _
-    (met_of _ _ l.new.producer l.new.consumer l.result sides.e l.ensures.producer l.ensures.consumer l.ensures.count
+    (met_of _ _ l.new.producer l.new.consumer l.result sides.e l.ensures.producer l.ensures.consumer l.ensures.clock l.ensures.count
     l.ensures.fifo l.ensures.places)
-    n.e.staged n.e.most.0 (n.e.in_ring ∙ l.ensures.count) n.e.inbox n.e.most.1)
+    n.e.staged n.e.most.0 (n.e.in_ring ∙ l.ensures.count ∙ sym (items_length _)) n.e.inbox n.e.most.1)

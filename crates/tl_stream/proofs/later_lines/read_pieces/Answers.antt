@@ -11,8 +11,8 @@ pub returns-in-Err : goal.returns-in-Err
 returns-in-Err g c = c.in-Err.ensures _ _ _ _ c.requires.2 c.requires.3
 
 pub pieces-init : goal.pieces-init
-pieces-init g c = goes-on g.L.BeatConsumer.HasConsumed _ _ _ c.args.lines.now c.use_header.new.input c.args.consumer.now
-    (beginning_widths g.L.BeatConsumer.HasConsumed c.requires) (begins g.L.BeatConsumer.HasConsumed c.requires c.in_default.ensures)
+pieces-init g c = goes-on g.L.BeatConsumer.HasConsumed g.L.BeatConsumer.ConsumesOn _ c.args.consumer.now _ _ _ c.args.lines.now c.use_header.new.input c.args.consumer.now
+    (beginning_widths g.L.BeatConsumer.HasConsumed c.requires) (begins g.L.BeatConsumer.HasConsumed g.L.BeatConsumer.ConsumesOn c.requires c.in_default.ensures)
 
 pub returns-in-Ok-false : goal.returns-in-Ok-false
 returns-in-Ok-false g c =
@@ -44,8 +44,8 @@ pub pieces-preserved : goal.pieces-preserved
 pieces-preserved g c =
     let b = behind c.pieces.invariant.0 c.in-Ok-true.ensures.read in
     let went = c.remove_front.ensures in
-    goes-on g.L.BeatConsumer.HasConsumed _ _ _ c.remove_front.new.self c.refill.new.self c.consume.new.self (beginning_widths g.L.BeatConsumer.HasConsumed c.requires)
-    (consumed b c.remove_front.new.self c.refill.new.self c.consume.new.self c.in-Ok.counts went.version went.told
+    goes-on g.L.BeatConsumer.HasConsumed g.L.BeatConsumer.ConsumesOn _ c.args.consumer.now _ _ _ c.remove_front.new.self c.refill.new.self c.consume.new.self (beginning_widths g.L.BeatConsumer.HasConsumed c.requires)
+    (consumed b c.remove_front.new.self c.refill.new.self c.consume.new.self c.in-Ok.counts went.version went.told c.in-Ok.ensures.consumed c.in_default-refill.ensures.size
     (λ more grown few. c.in-Ok.ensures.on c.args.lines.now.version b.discarded b.has_consumed c.remove_front.new.self.script more went.left grown few)
     (c.in_default-refill.ensures.ok _ b.between.used b.between.taken))
 

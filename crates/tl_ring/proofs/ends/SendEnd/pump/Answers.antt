@@ -20,4 +20,5 @@ send_staged-requires g c =
 
 pub returns : goal.returns
 returns g c =
-    rw (← c.self.view_is) c.send_staged.ensures
+    let e = c.send_staged.ensures in
+    rw (← c.self.view_is) (record { least = e.least; most = e.most; pushed = e.pushed; stands = e.stands })

@@ -5,10 +5,18 @@ use denote.Memory.{lone}
 use denote.Param.{layout}
 use Rattle.tl_msg.specs.contracts.head.HeadA as head_a
 use Rattle.tl_msg.specs.contracts.head.HeadC as head_c
+use Rattle.tl_msg.specs.contracts.head.HeadD as head_d
 use Rattle.tl_msg.specs.contracts.head.HeadE as head_e
 use Rattle.tl_sides.proofs.Layouts.{client_side_layout, part, part_small, inner_small, beat_in_queue}
 use Rattle.tl_sides.proofs.SideSteps.{client_side_of, client_pumped, pumps_end}
+use Rattle.tl_sides.proofs.Times.{at_time}
 use Rattle.tl_sides.proofs.client_side.ClientSide.pump.Goals as goal
+
+pub clock-clock-requires-room-P-Protocol-2 : goal.clock-clock-requires-room-P-Protocol-2
+clock-clock-requires-room-P-Protocol-2 g c κs within =
+    beat_in_queue (lone head_d.the_row.mir) (layout head_d.the_row) g.row.C 9223372036854775808
+    (part_small (part (part (client_side_layout g.row.C g.row.M g.row.A g.A.Allocator) 0) 3) 0 9223372036854775808
+    (inner_small (client_side_layout g.row.C g.row.M g.row.A g.A.Allocator) 0 3 9223372036854775808 c.requires-raw.1.1.1))
 
 pub send_staged-a-requires : goal.send_staged-a-requires
 send_staged-a-requires g c =
@@ -49,3 +57,4 @@ returns g c =
     pumps_end rules_c g.row.C _ _ _ (record { least = said.least; most = said.most; pushed = said.pushed; stands = said.stands }))
     (let said = c.send_staged-e.ensures in
     pumps_end rules_e g.row.C _ _ _ (record { least = said.least; most = said.most; pushed = said.pushed; stands = said.stands }))
+    (at_time _ _ _ _ _ c.clock-clock.ensures c.send_staged-a.ensures.times)

@@ -4,6 +4,8 @@ use denote.Param.{layout}
 use Rattle.tl_msg.specs.contracts.head.HeadA as head_a
 use Rattle.tl_msg.specs.contracts.head.HeadC as head_c
 use Rattle.tl_msg.specs.contracts.head.HeadE as head_e
+use Rattle.tl_ring.proofs.Times.{items_length}
+use Rattle.tl_ring.specs.Counts.{counted}
 use Rattle.tl_sides.specs.Sides.{ClientStandsFor}
 use Rattle.tl_sides.proofs.Layouts.{client_side_layout, part, part_small, inner_small, beat_in_queue}
 use Rattle.tl_sides.proofs.SideSteps.{client_side_of}
@@ -39,6 +41,17 @@ taken_count-requires-2 g c = (
   part_small (client_side_layout g.row.C g.row.M g.row.A g.A.Allocator) 4 9223372036854775808 c.requires-raw.1.1.1,
   inner_small (client_side_layout g.row.C g.row.M g.row.A g.A.Allocator) 0 3 9223372036854775808 c.requires-raw.1.1.1,
 )
+
+pub returns-clause-totals : goal.returns-clause-totals
+returns-clause-totals g c =
+    let view = ap (λ z. client_side_of z) c.self-inside.view_is ∙ c.self.view_is in
+    rw (← view) (λ i. record {
+      a = (c.count.ensures ∙ ap counted (sym (items_length _))) i;
+      b = c.taken_count.ensures.count i;
+      c = (c.count-2.ensures ∙ ap counted (sym (items_length _))) i;
+      d = c.taken_count-2.ensures.count i;
+      e = (c.count-3.ensures ∙ ap counted (sym (items_length _))) i;
+    })
 
 pub returns-clause-exact : goal.returns-clause-exact
 returns-clause-exact g c = λ x h.

@@ -3,6 +3,8 @@ use denote.Memory.{lone}
 use denote.Param.{layout}
 use Rattle.tl_msg.specs.contracts.head.HeadB as head_b
 use Rattle.tl_msg.specs.contracts.head.HeadD as head_d
+use Rattle.tl_ring.proofs.Times.{items_length}
+use Rattle.tl_ring.specs.Counts.{counted}
 use Rattle.tl_sides.specs.Sides.{ManagerStandsFor}
 use Rattle.tl_sides.proofs.Layouts.{manager_side_layout, part, part_small, inner_small, beat_in_queue}
 use Rattle.tl_sides.proofs.SideSteps.{manager_side_of}
@@ -38,6 +40,17 @@ taken_count-requires-3 g c = (
   part_small (manager_side_layout g.row.C g.row.M g.row.A g.A.Allocator) 5 9223372036854775808 c.requires-raw.1.1.1,
   inner_small (manager_side_layout g.row.C g.row.M g.row.A g.A.Allocator) 0 4 9223372036854775808 c.requires-raw.1.1.1,
 )
+
+pub returns-clause-totals : goal.returns-clause-totals
+returns-clause-totals g c =
+    let view = ap (λ z. manager_side_of z) c.self-inside.view_is ∙ c.self.view_is in
+    rw (← view) (λ i. record {
+      a = c.taken_count.ensures.count i;
+      b = (c.count.ensures ∙ ap counted (sym (items_length _))) i;
+      c = c.taken_count-2.ensures.count i;
+      d = (c.count-2.ensures ∙ ap counted (sym (items_length _))) i;
+      e = c.taken_count-3.ensures.count i;
+    })
 
 pub returns-clause-exact : goal.returns-clause-exact
 returns-clause-exact g c = λ y h.

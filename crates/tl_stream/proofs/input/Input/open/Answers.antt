@@ -15,6 +15,7 @@ returns-in-Ok-fill g c =
       ok = opened _ _ room to c.in-Ok-fill.ensures (omega (arith, size, c.in-Ok.ensures))
           (record { buffer = with_items buffer room; from = 0; to = to; total = to }) put refl refl refl;
       first = refl;
+      size = ap length put ∙ size ∙ c.in-Ok.ensures;
       long = no-fault;
       kinds = tt;
     }
@@ -23,9 +24,10 @@ pub returns-in-Err : goal.returns-in-Err
 returns-in-Err g c = record {
   ok = tt;
   first = tt;
+  size = tt;
   long = λ e. opened-long _ _ (named-fault (IsReadFault _) c.in-Err.fault _ c.in-Err.ensures e);
   kinds = λ no long. absurd (long (read-kinds _ c.in-Err.fault c.in-Err.ensures no));
 }
 
 pub returns-in_default : goal.returns-in_default
-returns-in_default g c = record { ok = tt; first = tt; long = memory-not-long; kinds = λ no long. refl }
+returns-in_default g c = record { ok = tt; first = tt; size = tt; long = memory-not-long; kinds = λ no long. refl }

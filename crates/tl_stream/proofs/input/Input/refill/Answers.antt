@@ -27,6 +27,7 @@ returns-in-Ok g c =
           (record { buffer = with_items input.buffer buffer; from = 0; to = kept + c.in-Ok.read; total = input.total + c.in-Ok.read })
           put refl refl refl;
       from = refl;
+      size = now ∙ size;
       more = no-less input.total c.in-Ok.read;
       grown = λ full part. read-some kept c.in-Ok.read _ _ input.total full part (now ∙ size);
       long = λ unread used h e. no-fault e;
@@ -37,6 +38,7 @@ pub returns-in-Err : goal.returns-in-Err
 returns-in-Err g c = record {
   ok = λ unread used h. tt;
   from = tt;
+  size = tt;
   more = tt;
   grown = tt;
   long = λ unread used h e. refilled-long unread _ _ used c.args.self.now h (named-fault (IsReadFault _) c.in-Err.fault _ c.in-Err.ensures e);
