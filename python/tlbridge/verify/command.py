@@ -1,0 +1,908 @@
+"""Plays random lawful TileLink traffic through a design, judges it, and shrinks a run that fails.
+
+    tlbridge-verify adapter.sv --top adapter              a bridge between two links, by the names of its ports
+    tlbridge-verify ram.sv --top ram                      a device: reads return what was written tlbridge-verify
+    fragmenter.sv --top f --rules-only    no plain bridge: each link by its rules, with a memory behind it
+    tlbridge-verify adapter.sv --top adapter --seeds 1-1000 --jobs 4 --junit report.xml tlbridge-verify merge FOLDER ..
+    joins the verdicts and the coverage of several runs
+"""
+from __future__ import annotations
+
+import argparse
+import concurrent.futures
+import json
+import multiprocessing
+import os
+import re
+import shutil
+import subprocess
+import sys
+import tempfile
+import threading
+import time
+import xml.etree.ElementTree as tree
+from dataclasses import dataclass, field
+from pathlib import Path
+from typing import Any, Dict, Iterator, List, Mapping, Optional, Sequence, Tuple
+
+from ..judge import find_program
+from .bench import Bench, Cancel, Settings, Simulation, SimulatorError, repeat_text, sv_folder
+from .design import Choice, DesignError, Source, described, read_design, read_file_list
+from .judge import Beat, Beats, Judge, Problem, Rules, is_near, name_of, trace_of
+from .report import Coverage, not_compared, speed_of
+from .shrink import Shrinker, needs_of, options_of
+from .skew import skewed
+from .traffic import KINDS, Limits, Message, Traffic, limits_of
+
+PROGRAM = "tlbridge-verify"
+RIGHT, MISTAKE, INCOMPLETE, FAILED = "right", "mistake", "incomplete", "failed"
+STATUSES = """
+exit status:
+  0  no mistake was found, and each kind of message that should pass has arrived
+  1  a mistake; or some kind of message never arrived, so that the design is not called right
+  2  a wrong command line, or two readings of the ports are possible: the message names the option that decides
+  3  the design does not compile
+  4  a simulator is missing, dies or does not end; a file cannot be written
+"""
+_FIRST_ROUNDS = 13  # in Icarus, if both simulators are used: two directed rounds and each style once
+_SHORT, _LONG = 200, 1500  # messages of a round, in Icarus and in Verilator
+_DEFAULT_MESSAGES = 40000
+_HOST_ROUNDS, _HOST_CYCLES = 6, 3000  # of a host, which sends by itself: rounds in Icarus, and their cycles
+
+
+# ---- the command line
+
+
+def _arguments() -> argparse.ArgumentParser:
+    words = argparse.ArgumentParser(
+        prog=PROGRAM, description=__doc__, epilog=STATUSES, formatter_class=argparse.RawDescriptionHelpFormatter
+    )
+    design = words.add_argument_group("the design")
+    design.add_argument("files", nargs="*", metavar="FILE", help="Verilog or SystemVerilog files")
+    design.add_argument("--top", metavar="MODULE", help="the module to verify [the name of the only file]")
+    design.add_argument(
+        "-f", action="append", default=[], dest="lists", metavar="LIST", help="a file list, as Verilator has them"
+    )
+    design.add_argument(
+        "-P", action="append", default=[], dest="parameters", metavar="NAME=VALUE", help="a parameter of the module"
+    )
+    design.add_argument("-D", action="append", default=[], dest="defines", metavar="NAME[=VALUE]", help="a macro")
+    design.add_argument(
+        "-I", action="append", default=[], dest="includes", metavar="FOLDER", help="a folder of include files"
+    )
+    design.add_argument(
+        "-y",
+        action="append",
+        default=[],
+        dest="libraries",
+        metavar="FOLDER",
+        help="a folder with a file for each module",
+    )
+    ports = words.add_argument_group("its ports")
+    ports.add_argument("--client", metavar="PREFIX", help="the link on which the design receives A")
+    ports.add_argument("--manager", metavar="PREFIX", help="the link on which the design sends A")
+    ports.add_argument("--device", action="store_true", help="use the link to the client only")
+    ports.add_argument("--host", action="store_true", help="use the link to the manager only")
+    for side in ("client", "manager"):
+        ports.add_argument(f"--{side}-clock", metavar="NAME")
+        ports.add_argument(f"--{side}-reset", metavar="NAME", help="with ! before it if it is active low")
+    ports.add_argument("--one-clock", action="store_true", help="both clock inputs get the same clock")
+    ports.add_argument(
+        "--tie", action="append", default=[], metavar="NAME=VALUE", help="the value of another input [0]"
+    )
+    ports.add_argument(
+        "--struct",
+        action="append",
+        default=[],
+        metavar="FIELDS",
+        help="the layout of a vector port, highest field first: a_valid:1,a_opcode:3,..",
+    )
+    traffic = words.add_argument_group("the traffic")
+    traffic.add_argument("--seed", type=int, metavar="N", help="[1]")
+    traffic.add_argument("--seeds", metavar="FIRST-LAST", help="a run for each seed, each in a folder of its own")
+    traffic.add_argument("--jobs", type=int, metavar="N", help="runs side by side, with --seeds [1]")
+    traffic.add_argument(
+        "--messages",
+        type=int,
+        default=_DEFAULT_MESSAGES,
+        metavar="N",
+        help=f"that the tool sends of its own accord [{_DEFAULT_MESSAGES}]",
+    )
+    traffic.add_argument("--level", choices=tuple(KINDS), help="TL-UL, TL-UH or TL-C [by the ports]")
+    traffic.add_argument(
+        "--largest",
+        type=int,
+        metavar="BYTES",
+        help="the largest message [UL: the narrower bus; else what the size field can say, at most 4096]",
+    )
+    traffic.add_argument("--only", metavar="KIND,..", help=f"kinds of messages, of {', '.join(KINDS['C'])}")
+    traffic.add_argument("--window", metavar="BASE:BYTES", help="the addresses to use, as 0x1000:256")
+    traffic.add_argument("--in-order", action="store_true", help="the manager answers in order")
+    traffic.add_argument("--no-early", action="store_true", help="no response before the last beat of its request")
+    traffic.add_argument("--no-reuse", action="store_true", help="no source again before the last beat of its response")
+    traffic.add_argument("--no-denied", action="store_true", help="no denied response")
+    traffic.add_argument(
+        "--no-blocking",
+        action="store_true",
+        help="no side refuses beats because it has work on a channel of higher priority",
+    )
+    traffic.add_argument("--no-reset", action="store_true", help="no reset while messages are under way")
+    traffic.add_argument("--same-cycle", action="store_true", help="also responses in the cycle of their request")
+    traffic.add_argument("--withdraw", action="store_true", help="also a valid that falls before ready")
+    traffic.add_argument(
+        "--skew", action="store_true", help="bits that cross to another clock may each arrive late (needs yosys)"
+    )
+    traffic.add_argument(
+        "--plusarg", action="append", default=[], metavar="WORD", help="passed to the simulation as +WORD"
+    )
+    judging = words.add_argument_group("judging")
+    judging.add_argument(
+        "--rules-only",
+        action="store_true",
+        help="the design is no plain bridge: each link by its rules, with a memory behind it",
+    )
+    judging.add_argument("--no-memory", action="store_true", help="reads need not return what was written")
+    judging.add_argument(
+        "--may-withdraw", action="store_true", help="the design may take back a valid, or change a beat, before ready"
+    )
+    running = words.add_argument_group("running")
+    running.add_argument("--simulator", choices=("auto", "icarus", "verilator"), default="auto")
+    running.add_argument(
+        "--shrink-seconds", type=float, default=45, metavar="S", help="how long a failing run is shrunk [45]"
+    )
+    running.add_argument("--no-waves", action="store_true", help="no waves.vcd of a failing run")
+    running.add_argument(
+        "--out", type=Path, default=Path("tlbridge-verify.out"), metavar="FOLDER", help="[tlbridge-verify.out]"
+    )
+    running.add_argument("--junit", type=Path, metavar="FILE", help="write the verdicts as JUnit XML")
+    return words
+
+
+def _pairs(words: Sequence[str], option: str) -> Dict[str, str]:
+    for word in words:
+        if not re.fullmatch(r"\w[\w$]*=.+", word):
+            raise DesignError(f"{option} {word}: it has to be NAME=VALUE")
+    return dict(word.split("=", 1) for word in words)
+
+
+def _source_of(options: argparse.Namespace) -> Source:
+    lists = [read_file_list(Path(name)) for name in options.lists]
+    files = tuple(options.files) + tuple(name for made in lists for name in made.files)
+    if not files:
+        raise DesignError("name the files of the design, or a file list with -f")
+    top = options.top or (Path(files[0]).stem if len(files) == 1 else "")
+    if not top:
+        raise DesignError("--top MODULE is needed, since there are several files")
+    parameters = {name: value for made in lists for name, value in made.parameters.items()}
+    parameters.update(_pairs(options.parameters, "-P"))
+    defines = tuple(name for made in lists for name in made.defines) + tuple(options.defines)
+    includes = tuple(options.includes) + tuple(name for made in lists for name in made.includes)
+    libraries = tuple(options.libraries) + tuple(name for made in lists for name in made.libraries)
+    for folder in (*includes, *libraries):
+        if not Path(folder).is_dir():
+            raise DesignError(f"there is no folder {folder}")
+    return Source(top, files, parameters, defines, includes, libraries)
+
+
+def _choice_of(options: argparse.Namespace) -> Choice:
+    sides = ("client", "manager")
+    return Choice(
+        client=options.client,
+        manager=options.manager,
+        clocks={side: name for side in sides if (name := getattr(options, f"{side}_clock"))},
+        resets={side: name for side in sides if (name := getattr(options, f"{side}_reset"))},
+        ties=_pairs(options.tie, "--tie"),
+        structs=tuple(options.struct),
+        only="client" if options.device else "manager" if options.host else None,
+    )
+
+
+def _window_of(text: Optional[str]) -> Optional[Tuple[int, int]]:
+    if text is None:
+        return None
+    found = re.fullmatch(r"(0x[0-9a-fA-F]+|\d+):(0x[0-9a-fA-F]+|\d+)", text)
+    if not found or int(found[2], 0) < 1:
+        raise DesignError(f"--window {text}: it has to be BASE:BYTES, as 0x1000:256")
+    return int(found[1], 0), int(found[2], 0)
+
+
+def _seeds_of(options: argparse.Namespace) -> List[int]:
+    if options.seeds is None:
+        return [options.seed if options.seed is not None else 1]
+    if options.seed is not None:
+        raise DesignError("--seed and --seeds exclude each other")
+    found = re.fullmatch(r"(\d+)-(\d+)", options.seeds)
+    if not found or int(found[1]) > int(found[2]):
+        raise DesignError(f"--seeds {options.seeds}: it has to be FIRST-LAST, as 1-1000")
+    return list(range(int(found[1]), int(found[2]) + 1))
+
+
+# ---- what a run found
+
+
+@dataclass
+class Outcome:
+    """The verdict of a seed."""
+
+    seed: int
+    verdict: str
+    words: str = ""  # the mistake, or what never arrived
+    judge: str = ""
+    beats: int = 0
+    cycles: int = 0
+    found_seconds: float = 0
+    found_processor_seconds: float = 0
+    seconds: float = 0
+    messages: int = 0  # of the shrunk run
+    coverage: Dict[str, Any] = field(default_factory=dict)
+    text: List[str] = field(default_factory=list)  # for a reader
+
+    def as_json(self) -> Dict[str, Any]:
+        counted = ("seed", "verdict", "words", "judge", "beats", "cycles")
+        timed = ("found_seconds", "found_processor_seconds", "seconds", "messages")
+        names = (*counted, *timed)
+        return {name: getattr(self, name) for name in names}
+
+
+def _written(path: Path, text: str) -> None:
+    """Writes a file under another name first, so that no half of it is ever found under its own."""
+    beside = path.with_name(f".{path.name}.{os.getpid()}")
+    try:
+        beside.write_text(text)
+        os.replace(beside, path)
+    except OSError as error:
+        beside.unlink(missing_ok=True)
+        raise SimulatorError(f"{path} cannot be written: {error.strerror}") from error
+
+
+class Folder:
+    """The folder of a verdict. It is filled under another name, and replaces an older one of this program when it is
+    complete."""
+
+    def __init__(self, path: Path):
+        self.path = path
+        if path.exists() and not path.is_dir() or path.is_dir() and any(path.iterdir()) and not self._is_ours():
+            raise DesignError(f"--out {path} exists and is no folder of {PROGRAM}: choose another name")
+        try:
+            path.parent.mkdir(parents=True, exist_ok=True)
+            self.draft = Path(tempfile.mkdtemp(prefix=f".{path.name}.", dir=path.parent))
+            self.draft.chmod(0o755)
+        except OSError as error:
+            raise SimulatorError(f"{path} cannot be written: {error.strerror}") from error
+
+    def _is_ours(self) -> bool:
+        return (self.path / "verdict.json").exists() or any(self.path.glob("seed-*/verdict.json"))
+
+    def publish(self) -> None:
+        old = self.draft.with_name(self.draft.name + ".old")
+        if self.path.exists():
+            self.path.rename(old)
+        self.draft.rename(self.path)
+        shutil.rmtree(old, ignore_errors=True)
+
+    def discard(self) -> None:
+        shutil.rmtree(self.draft, ignore_errors=True)
+
+
+# ---- a session: one design, one build, one or more seeds
+
+
+class Session:
+    """A design with its benches."""
+
+    def __init__(self, options: argparse.Namespace, room: Path):
+        self.options, self.room = options, room
+        self.start = time.monotonic()
+        source, choice = _source_of(options), _choice_of(options)
+        if options.messages < 1:
+            raise DesignError("--messages has to be 1 or more")
+        self.design = read_design(source, choice)
+        self._examine()
+        self.is_bridge = self.design.is_bridge and not options.rules_only
+        self.one_clock = options.one_clock
+        window = _window_of(options.window)
+        self.limits = limits_of(self.design, self.is_bridge, options.level, options.largest, options.only, window)
+        plain = not set(self.limits.kinds) & {"acquire", "acquireperm", "release", "probe"}
+        self.has_memory = not self.is_bridge and plain
+        self.rules = Rules(self.is_bridge, self.has_memory and self.design.client is not None and not options.no_memory)
+        self._limit_window()
+        self.judge = Judge(self.design, self.rules)
+        self.extra: List[Path] = []
+        self.played = self.design
+        self.late_bits = 0
+        if options.skew:
+            self.played, self.late_bits = skewed(self.design, room)
+            self.extra = [sv_folder() / "tl_skew.sv"]
+            if not self.late_bits:
+                raise DesignError("--skew: no bit of the design crosses directly to a flip-flop of another clock")
+        self.bench = Bench(self.played, self.is_bridge, self.one_clock, self.has_memory)
+        self.bench.text()
+        self.forced = self._forced()
+        self.compiled: Dict[str, Simulation] = {}
+        self.failed: Dict[str, DesignError] = {}
+        self.background: Optional[threading.Thread] = None
+        self.cancel = Cancel()
+
+    def _examine(self) -> None:
+        options, design = self.options, self.design
+        if options.one_clock and not design.has_two_clocks:
+            raise DesignError("--one-clock: the design has one clock")
+        if options.skew and (not design.has_two_clocks or options.one_clock):
+            raise DesignError("--skew: the design has one clock, so no bit crosses")
+        if options.rules_only and not design.is_bridge:
+            raise DesignError("--rules-only: a design with one link is judged so anyway")
+        if options.no_memory and design.is_bridge and not options.rules_only:
+            raise DesignError("--no-memory is for a design with one link, or with --rules-only")
+        if options.no_memory and design.client is None:
+            raise DesignError("--no-memory: a host has no link on which memory is judged")
+        if options.jobs is not None and options.seeds is None:
+            raise DesignError("--jobs is for --seeds")
+        if options.jobs is not None and options.jobs < 1:
+            raise DesignError("--jobs has to be 1 or more")
+        if "client" not in design.links:
+            for name in ("only", "level", "largest", "window", "no_reuse"):
+                if getattr(options, name):
+                    raise DesignError(f"--{name.replace('_', '-')}: a host sends its own traffic")
+
+    def _limit_window(self) -> None:
+        limits, design = self.limits, self.design
+        if limits.window is None and self.rules.is_memory:
+            span = 256 if not design.is_bridge else 4096
+            span = min(span, 1 << min(link.bits("address") for link in design.links.values()))
+            limits = Limits(limits.kinds, limits.largest, (0, span))
+        if limits.window and limits.largest > limits.window[1]:
+            if self.options.largest:
+                raise DesignError(f"--largest {limits.largest}: the window has {limits.window[1]} bytes")
+            limits = Limits(limits.kinds, 1 << (limits.window[1].bit_length() - 1), limits.window)
+        self.limits = limits
+
+    def _forced(self) -> Settings:
+        options = self.options
+        forced = {"in_order": 1} if options.in_order else {}
+        for name, setting in (
+            ("no_early", "early"),
+            ("no_reuse", "reuse"),
+            ("no_denied", "denied"),
+            ("no_blocking", "blocking"),
+            ("no_reset", "reset_at"),
+            ("may_withdraw", "steady"),
+        ):
+            if getattr(options, name):
+                forced[setting] = 0
+        return forced
+
+    def describe(self) -> List[str]:
+        lines = described(self.design)
+        if self.design.has_two_clocks:
+            how = (
+                "one clock for both inputs"
+                if self.one_clock
+                else "two clocks of any ratio (--one-clock if both inputs have to get the same clock)"
+            )
+            lines.append(f"  {how}")
+        if self.late_bits:
+            lines.append(
+                f"  {self.late_bits} bits cross directly to a flip-flop of another clock: each may arrive late"
+            )
+        limits, level = self.limits, self.options.level or self.design.level
+        if self.design.client is not None:
+            where = f", at {limits.window[0]:#x} to {sum(limits.window) - 1:#x}" if limits.window else ""
+            lines.append(
+                f"  traffic: TL-{level}, up to {limits.largest} bytes{where}: {', '.join(limits.kinds)} (--level,"
+                " --largest, --only)"
+            )
+        if self.is_bridge and not_compared(self.design):
+            lines.append(f"  not compared, since only one link has it: {', '.join(not_compared(self.design))}")
+        lines.append(f"  judged by {self.judge.name}")
+        return lines
+
+    # -- building
+
+    def build(self, name: str, cancel: Optional[Cancel] = None) -> Optional[Simulation]:
+        """Compiles the bench once. Returns None if it cannot be compiled, and `failed` has the reason."""
+        if name not in self.compiled and name not in self.failed:
+            try:
+                plusargs = self.options.plusarg
+                self.compiled[name] = Simulation(
+                    self.played, name, self.room / name, self.bench, self.extra, plusargs, cancel=cancel
+                )
+            except DesignError as error:
+                self.failed[name] = error
+        return self.compiled.get(name)
+
+    def build_in_background(self, name: str) -> None:
+        """Begins to compile the bench for another simulator, unless that was done."""
+        if self.background is None and name not in self.compiled and name not in self.failed:
+            self.background = threading.Thread(target=self.build, args=(name, self.cancel))
+            self.background.start()
+
+    def cancel_background(self) -> None:
+        """Ends a compilation in the background, whose result nobody needs."""
+        if self.background is not None:
+            self.cancel.set()
+            self.background.join()
+            self.background = None
+
+    def simulation(self, name: str) -> Simulation:
+        """Returns the compiled bench. Errors: it cannot be compiled."""
+        if self.background is not None and name not in self.compiled:
+            self.background.join()
+            self.background = None
+        made = self.build(name)
+        if made is None:
+            raise self.failed[name]
+        return made
+
+    def first_simulator(self, say: "Voice") -> str:
+        """Compiles the first simulator: Icarus if it can read the design, since it starts at once and knows x."""
+        wanted: str = self.options.simulator
+        begun = time.monotonic()
+        if wanted == "auto":
+            wanted = "icarus" if shutil.which("iverilog") else "verilator"
+            if wanted == "icarus" and not self.build("icarus"):
+                reason = str(self.failed["icarus"]).partition(": ")[2]
+                say(f"  Icarus cannot compile it ({reason[:160]}), so Verilator plays all rounds")
+                wanted = "verilator"
+        self.simulation(wanted)
+        say(f"  compiled for {wanted} in {time.monotonic() - begun:.1f} s")
+        return wanted
+
+    def simulator_of(self, number: int, first: str) -> str:
+        """Which simulator plays a round: it does not depend on the speed of the machine."""
+        is_mixed = first == "icarus" and self.options.simulator == "auto" and shutil.which("verilator") is not None
+        return "verilator" if is_mixed and number >= self.first_rounds else first
+
+    @property
+    def first_rounds(self) -> int:
+        """How many rounds Icarus plays."""
+        return _FIRST_ROUNDS if self.design.client is not None else _HOST_ROUNDS
+
+    def needs_verilator(self) -> bool:
+        """Whether there are rounds after those of Icarus."""
+        return bool(self.options.messages > _FIRST_ROUNDS * _SHORT) or self.design.client is None
+
+
+class Voice:
+    """Prints lines; with several seeds only what is final. Progress goes to a terminal only."""
+
+    def __init__(self, is_quiet: bool = False):
+        self.is_quiet = is_quiet
+        self.has_progress = not is_quiet and sys.stderr.isatty()
+
+    def __call__(self, *lines: str) -> None:
+        if self.is_quiet:
+            return
+        self.progress("")
+        for line in lines:
+            print(line, flush=True)
+
+    def progress(self, text: str) -> None:
+        if self.has_progress:
+            print(f"\r\x1b[K{text}", end="", file=sys.stderr, flush=True)
+
+
+class Play:
+    """One seed of a session."""
+
+    def __init__(self, session: Session, seed: int, say: Voice, room: Path):
+        self.session, self.seed, self.say, self.room = session, seed, say, room
+        options = session.options
+        has_two = session.bench.has_two
+        self.traffic = Traffic(session.design, session.limits, seed, session.is_bridge, has_two, session.has_memory)
+        self.coverage = Coverage(session.design, session.is_bridge)
+        self.start = session.start if options.seeds is None else time.monotonic()
+
+    def rounds(self, first: str) -> Iterator[Tuple[Simulation, List[Message], Settings]]:
+        session, options = self.session, self.session.options
+        sent = number = 0
+        while sent < options.messages:
+            name = session.simulator_of(number, first)
+            simulation = (
+                session.simulation(name) if name != first or name not in session.compiled else session.compiled[name]
+            )
+            length = _SHORT if number < _FIRST_ROUNDS else _LONG
+            if session.design.client is None:
+                script, settings = self.host_round(number)
+                sent += options.messages // 14 + 1
+            else:
+                script, settings = self.traffic.round(number, min(length, options.messages - sent))
+                script = script[: options.messages - sent]
+                sent += len(script)
+            if options.same_cycle and number % 2:
+                settings["same_cycle"] = 1
+            if options.withdraw and number % 3 == 1:
+                settings["withdraw"] = 1
+            yield simulation, script, {**settings, **session.forced}
+            number += 1
+            if number == 3 and session.simulator_of(session.first_rounds, first) != first and session.needs_verilator():
+                session.build_in_background("verilator")
+            self.say.progress(
+                f"round {number}, {sent} of {options.messages} messages, {self.coverage.counts['beats']} beats"
+            )
+        yield from self.aimed(simulation)
+
+    def host_round(self, number: int) -> Tuple[List[Message], Settings]:
+        size = self.session.limits.largest.bit_length() - 1
+        has_probes = "B" in self.session.design.channels
+        script = [self.traffic.message("probe", min(size, 6), 0) for _ in range(60)] if has_probes else []
+        _, settings = self.traffic.styled(
+            ("any", "full", "reset", "blocking", "all sources", "long stalls")[number % 6], 1
+        )
+        return script, {**settings, "most": _HOST_CYCLES * (1 if number < _HOST_ROUNDS else 6)}
+
+    def aimed(self, simulation: Simulation) -> Iterator[Tuple[Simulation, List[Message], Settings]]:
+        """A round for what no other round has sent."""
+        holes = self.coverage.holes(self.session.limits)[:2000]
+        if holes and self.session.options.messages >= 2000 and self.session.design.client is not None:
+            traffic = self.traffic
+            sources = range(traffic.sources)
+            script = [
+                traffic.message(
+                    kind,
+                    size,
+                    traffic.random.choice(sources),
+                    traffic.random.getrandbits(48) // traffic.wide * traffic.wide + offset,
+                )
+                for kind, size, offset in holes
+            ]
+            yield simulation, script, {**traffic.settings(0x3FF), **self.session.forced}
+
+    def outcome(self, first: str, out: Path) -> Outcome:
+        """Plays all rounds. Writes what is found into `out`."""
+        session = self.session
+        simulation = None
+        is_first = True
+        for simulation, script, settings in self.rounds(first):
+            run = simulation.run(script, settings, self.room / "run")
+            beats = Beats(session.design, run)
+            problems = session.judge.problems(run, beats)
+            if is_first:
+                is_first = False
+                found = problems[0].kind if problems else "no mistake"
+                self.say(f"  first verdict after {time.monotonic() - self.start:.1f} s: {found} in {len(beats)} beats")
+            self.coverage.add(beats, run, settings, session.bench.has_two)
+            if problems:
+                return self.failed(simulation, script, settings, problems[0], out)
+        assert simulation
+        return self.passed(simulation, out)
+
+    def base(self, verdict: str, words: str = "") -> Outcome:
+        counts = self.coverage.counts
+        seconds, processor = round(time.monotonic() - self.start, 2), round(sum(os.times()[:4]), 2)
+        return Outcome(
+            self.seed,
+            verdict,
+            words,
+            self.session.judge.name,
+            counts["beats"],
+            counts["cycles"],
+            seconds,
+            processor,
+            seconds,
+            coverage=self.coverage.as_json(),
+        )
+
+    def passed(self, simulation: Simulation, out: Path) -> Outcome:
+        session, coverage = self.session, self.coverage
+        unseen = coverage.unseen(session.limits, session.is_bridge)
+        outcome = self.base(INCOMPLETE if unseen else RIGHT, "; ".join(unseen))
+        seconds = max(outcome.seconds, 0.01)
+        processor = sum(os.times()[:4])
+        size = (
+            f"{outcome.beats} beats, {coverage.messages_sent()} messages, {outcome.cycles} cycles, {seconds:.0f} s "
+            f"({outcome.beats / max(processor, 0.01):.0f} beats a processor second)"
+        )
+        if unseen:
+            outcome.text.append(
+                f"NOT CALLED RIGHT: these never arrived: {'; '.join(unseen)}. No other mistake in {size}"
+            )
+            outcome.text.append("  More --messages may bring them; --only leaves out what the design need not pass.")
+        else:
+            outcome.text.append(f"NO MISTAKE in {size}")
+        outcome.text += coverage.table(session.limits)
+        if session.is_bridge:
+            outcome.text += speed_of(self.traffic, simulation, session.judge, session.limits, self.room / "speed")
+        outcome.seconds = round(time.monotonic() - self.start, 2)
+        self.store(outcome, out)
+        return outcome
+
+    def store(self, outcome: Outcome, out: Path) -> None:
+        out.mkdir(parents=True, exist_ok=True)
+        try:
+            (out / "coverage.json").write_text(json.dumps(outcome.coverage) + "\n")
+            (out / "report.txt").write_text("\n".join(outcome.text) + "\n")
+            (out / "verdict.json").write_text(json.dumps(outcome.as_json(), indent=1) + "\n")
+        except OSError as error:
+            raise SimulatorError(f"{out} cannot be written: {error.strerror}") from error
+
+    def failed(
+        self, simulation: Simulation, script: List[Message], settings: Settings, problem: Problem, out: Path
+    ) -> Outcome:
+        session = self.session
+        session.cancel_background()
+        found = self.base(MISTAKE, problem.words)
+        self.say(f"  found after {found.seconds:.1f} s, {found.beats} beats: {problem.words}", "  shrinking ..")
+        shrinker = Shrinker(simulation, session.judge, self.room / "shrink", session.options.shrink_seconds, problem)
+        before = len(script)
+        script, settings = shrinker.shrink(script, settings, self.room / "run")
+        waver = self.with_waves(simulation)
+        out.mkdir(parents=True, exist_ok=True)
+        run = waver.run(script, settings, out, waves=not session.options.no_waves)
+        beats = Beats(session.design, run)
+        problems = session.judge.problems(run, beats)
+        if not problems:  # the last run is no longer than the one that failed, and must fail as it did
+            run = simulation.run(script, settings, out)
+            beats = Beats(session.design, run)
+            problems = session.judge.problems(run, beats) or [problem]
+        (out / "trace").write_text(trace_of(session.design, beats.near()))
+        shutil.copy(simulation.bench, out / simulation.bench.name)
+        repeat = out / "repeat.sh"
+        repeat.write_text(
+            repeat_text(
+                waver,
+                script,
+                settings,
+                session.options.out.resolve() if session.options.seeds is None else out.resolve(),
+            )
+        )
+        repeat.chmod(0o755)
+        outcome = self.base(MISTAKE, problems[0].words)
+        outcome.found_seconds, outcome.messages = found.seconds, len(script)
+        outcome.found_processor_seconds = found.found_processor_seconds
+        outcome.text = self.explained(problems, beats.all(), script, settings, shrinker, before, outcome)
+        self.page(out)
+        written = ["trace", *(f"{side}.beats" for side in session.design.links), "repeat.sh"]
+        written += [name for name in ("waves.vcd", "page.html") if (out / name).exists()]
+        outcome.text.append(f"Written: {session.options.out}: {', '.join(written)}. Judged by {session.judge.name}.")
+        for name in out.glob("*.sent"):
+            name.unlink()
+        self.store(outcome, out)
+        return outcome
+
+    def with_waves(self, simulation: Simulation) -> Simulation:
+        """The simulation that writes waves: Icarus if it can compile the bench, or Verilator compiled again."""
+        session = self.session
+        if session.options.no_waves or simulation.simulator == "icarus":
+            return simulation
+        made = session.build("icarus") if shutil.which("iverilog") else None
+        if made is not None:
+            return made
+        self.say("  compiling again for waves.vcd ..")
+        try:
+            plusargs = session.options.plusarg
+            return Simulation(
+                session.played,
+                "verilator",
+                session.room / "waves",
+                session.bench,
+                session.extra,
+                plusargs,
+                has_waves=True,
+            )
+        except DesignError:
+            return simulation
+
+    def page(self, out: Path) -> None:
+        program = find_program("tlexplain")
+        if program:
+            done = subprocess.run([program, "--html", "--in-order", str(out / "trace")], capture_output=True)
+            if done.stdout:
+                (out / "page.html").write_bytes(done.stdout)
+
+    def explained(
+        self,
+        problems: List[Problem],
+        beats: List[Beat],
+        script: List[Message],
+        settings: Settings,
+        shrinker: Shrinker,
+        before: int,
+        outcome: Outcome,
+    ) -> List[str]:
+        """The text of a mistake: one line, the lanes, what it needs, and the shrunk run."""
+        design, problem = self.session.design, problems[0]
+        has_two = self.session.bench.has_two
+        lines = [f"MISTAKE: {problem.words}"] + [f"    {line}" for line in problem.picture]
+        if problem.kind == "hang" and all(is_near(beat.side, beat.channel) for beat in beats):
+            lines.append(
+                "    Nothing ever came out. Is the polarity of the reset right? (--client-reset !NAME is active low)"
+            )
+        needs = "; ".join(needs_of(settings, design, has_two))
+        if shrinker.ended_early:
+            lines.append(f"It may need: {needs}. Not all was tried: --shrink-seconds.")
+        else:
+            lines.append(f"It needs: {needs}.")
+        lines.append(
+            f"The shrunk run has {len(script)} of {before} messages ({shrinker.runs} runs,"
+            f" {outcome.seconds - outcome.found_seconds:.1f} s):"
+        )
+        last = sum(beat.time <= problem.time for beat in beats)
+        first = max(0, last - 30) if len(beats) > 40 else 0
+        if first:
+            lines.append(f"    .. {first} beats before")
+        for beat in beats[first : last + 8]:
+            mark = f"  <-- {problem.kind}" if beat == problem.beat else ""
+            lines.append(f"    {beat.time / 1000:>9.1f} ns  {beat.side:7} {beat.line}   {name_of(beat.line)}{mark}")
+        if len(beats) > last + 8:
+            lines.append(f"    .. {len(beats) - last - 8} beats after")
+        options = options_of(settings, script, design, has_two, problem.kind)
+        if options:
+            lines.append(f"If the design need not hold this: {', or '.join(options)}.")
+        others = [other for other in problems[1:] if other.words != problem.words][:2]
+        return lines + [f"Also: {other.words}" for other in others]
+
+
+# ---- several seeds
+
+
+_session: Optional[Session] = None
+
+
+def _play(seed: int, first: str, out: str) -> Outcome:
+    """Plays a seed in a process of its own, which has inherited the session."""
+    assert _session
+    folder = Folder(Path(out) / f"seed-{seed}")
+    with tempfile.TemporaryDirectory(prefix=f"seed-{seed}.", dir=_session.room) as room:
+        try:
+            outcome = Play(_session, seed, Voice(True), Path(room)).outcome(first, folder.draft)
+            folder.publish()
+            return outcome
+        except DesignError as error:
+            folder.discard()
+            return Outcome(seed, FAILED, str(error), _session.judge.name)
+
+
+def _run_seeds(session: Session, seeds: Sequence[int], first: str) -> List[Outcome]:
+    global _session
+    out: Path = session.options.out
+    if session.needs_verilator() and session.simulator_of(session.first_rounds, first) == "verilator":
+        session.simulation("verilator")
+    _session = session
+    outcomes = []
+    context = multiprocessing.get_context("fork")
+    with concurrent.futures.ProcessPoolExecutor(session.options.jobs or 1, mp_context=context) as pool:
+        waiting = [pool.submit(_play, seed, first, str(out)) for seed in seeds]
+        for future in concurrent.futures.as_completed(waiting):
+            outcome = future.result()
+            outcomes.append(outcome)
+            print(f"seed {outcome.seed}: {outcome.verdict}{': ' if outcome.words else ''}{outcome.words}", flush=True)
+    return sorted(outcomes, key=lambda outcome: outcome.seed)
+
+
+def _junit(path: Path, top: str, outcomes: Sequence[Mapping[str, Any]]) -> None:
+    """Writes the verdicts as JUnit XML: a mistake is a failure, a run without a verdict an error."""
+    failures = [o for o in outcomes if o["verdict"] in (MISTAKE, INCOMPLETE)]
+    errors = [o for o in outcomes if o["verdict"] == FAILED]
+    suite = tree.Element(
+        "testsuite", name=PROGRAM, tests=str(len(outcomes)), failures=str(len(failures)), errors=str(len(errors))
+    )
+    for outcome in outcomes:
+        case = tree.SubElement(
+            suite, "testcase", classname=top, name=f"seed {outcome['seed']}", time=str(outcome["seconds"])
+        )
+        if outcome["verdict"] != RIGHT:
+            tag = "error" if outcome["verdict"] == FAILED else "failure"
+            words = "".join(letter if letter.isprintable() else "?" for letter in str(outcome["words"]))
+            tree.SubElement(case, tag, message=words, type=str(outcome["verdict"]))
+    _written(path, '<?xml version="1.0" encoding="utf-8"?>\n' + tree.tostring(suite, encoding="unicode") + "\n")
+
+
+def _summary(outcomes: Sequence[Mapping[str, Any]]) -> List[str]:
+    counts = {
+        verdict: sum(o["verdict"] == verdict for o in outcomes) for verdict in (RIGHT, MISTAKE, INCOMPLETE, FAILED)
+    }
+    beats = sum(o["beats"] for o in outcomes)
+    lines = [
+        ", ".join(f"{number} {verdict}" for verdict, number in counts.items() if number)
+        + f" of {len(outcomes)} seeds, {beats} beats"
+    ]
+    said: Dict[str, List[int]] = {}
+    for outcome in outcomes:
+        if outcome["verdict"] != RIGHT:
+            key = re.sub(r"beat \d+ of", "a beat of", re.sub(r"\b[0-9a-f]{2,}\b", "..", str(outcome["words"])))[:110]
+            said.setdefault(key, []).append(int(outcome["seed"]))
+    for key, seeds in sorted(said.items(), key=lambda item: -len(item[1]))[:20]:
+        more = f" and {len(seeds) - 6} more" if len(seeds) > 6 else ""
+        lines.append(f"  seeds {', '.join(map(str, seeds[:6]))}{more}: {key}")
+    return lines
+
+
+def _status_of(verdicts: Sequence[str]) -> int:
+    return 4 if FAILED in verdicts and MISTAKE not in verdicts else int(any(verdict != RIGHT for verdict in verdicts))
+
+
+def _merge(words: Sequence[str]) -> int:
+    parser = argparse.ArgumentParser(
+        prog=f"{PROGRAM} merge", description="Joins the verdicts and the coverage of several runs."
+    )
+    parser.add_argument(
+        "folders", nargs="+", type=Path, metavar="FOLDER", help="as --out named it, of one seed or of several"
+    )
+    parser.add_argument("--json", type=Path, metavar="FILE", help="write the joint coverage")
+    parser.add_argument("--junit", type=Path, metavar="FILE", help="write the verdicts as JUnit XML")
+    options = parser.parse_args(words)
+    outcomes: List[Dict[str, Any]] = []
+    coverage = Coverage()
+    for folder in options.folders:
+        found = sorted(folder.glob("seed-*/verdict.json"), key=lambda path: int(path.parent.name[5:] or 0))
+        found = ([folder / "verdict.json"] if (folder / "verdict.json").exists() else []) + found
+        if not found:
+            raise DesignError(f"{folder} has no verdict.json, and no folder seed-N with one")
+        for path in found:
+            try:
+                outcomes.append(json.loads(path.read_text()))
+                coverage.merge(json.loads((path.parent / "coverage.json").read_text()))
+            except (OSError, ValueError, KeyError, TypeError) as error:
+                raise DesignError(f"{path.parent} has no verdict of this program: {error}") from error
+    print("\n".join(_summary(outcomes)))
+    kinds = KINDS["C"] if set("BCE") <= set(coverage.channels) else KINDS["UH"]
+    seen = {key[2] for key in coverage.messages}
+    kinds = tuple(kind for kind in kinds if kind in ("release", "probe") or _named(kind) in seen)
+    print("\n".join(coverage.table(Limits(kinds, 64))))
+    if options.json:
+        _written(options.json, json.dumps(coverage.as_json()) + "\n")
+    if options.junit:
+        _junit(options.junit, "merged", outcomes)
+    return _status_of([str(outcome["verdict"]) for outcome in outcomes])
+
+
+def _named(kind: str) -> str:
+    from .judge import NAMES
+    from .traffic import OPCODES
+
+    return NAMES["A"][OPCODES[kind]]
+
+
+# ---- the program
+
+
+def _verify(options: argparse.Namespace, room: Path) -> int:
+    seeds = _seeds_of(options)
+    folder = Folder(options.out) if options.seeds is None else None
+    try:
+        session = Session(options, room)
+        say = Voice()
+        say(*session.describe())
+        first = session.first_simulator(say)
+        try:
+            if folder is None:
+                outcomes = _run_seeds(session, seeds, first)
+                for line in _summary([outcome.as_json() for outcome in outcomes]):
+                    print(line)
+            else:
+                outcomes = [Play(session, seeds[0], say, room).outcome(first, folder.draft)]
+                folder.publish()
+                say(*outcomes[0].text)
+        finally:
+            session.cancel_background()
+        if options.junit:
+            _junit(options.junit, session.design.source.top, [outcome.as_json() for outcome in outcomes])
+        return _status_of([outcome.verdict for outcome in outcomes])
+    finally:
+        if folder:
+            folder.discard()
+
+
+def main(words: Optional[Sequence[str]] = None) -> int:
+    """Runs the program with the words of its command line, and returns the exit status."""
+    words = sys.argv[1:] if words is None else list(words)
+    try:
+        if words[:1] == ["merge"]:
+            return _merge(words[1:])
+        options = _arguments().parse_intermixed_args(words)
+        with tempfile.TemporaryDirectory(prefix="tlbridge-verify.") as room:
+            status = _verify(options, Path(room))
+        sys.stdout.flush()
+        return status
+    except DesignError as error:
+        print(f"{PROGRAM}: {error}", file=sys.stderr)
+        return error.status
+    except BrokenPipeError:
+        os.dup2(os.open(os.devnull, os.O_WRONLY), 1)
+        return 4
+    except OSError as error:
+        print(f"{PROGRAM}: {error.filename or 'a file'}: {error.strerror}", file=sys.stderr)
+        return 4
+    except KeyboardInterrupt:
+        print(f"{PROGRAM}: interrupted", file=sys.stderr)
+        return 130

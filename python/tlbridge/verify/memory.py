@@ -1,0 +1,230 @@
+"""Judges a memory by the link to its client: a byte that is read has to be one that may be there.
+
+Each read has an interval, from its request to its response, and so has each write. A byte that is read is right if it
+comes from a write that began before the read ended, and that no other write replaced for certain: none that began after
+that write had ended, and ended before the read began. Writes that overlap may come in any order. A byte of a write that
+was denied may have been written or not. A byte that was corrupt, or that an atomic is about to write, may have any
+value.
+"""
+from __future__ import annotations
+
+from dataclasses import dataclass, field
+from typing import Dict, List, Optional, Tuple
+
+from ..protocol import CARRIES_DATA, beat_count
+from .design import Design
+from .judge import Beat, Beats, Problem, is_unknown, lanes_of, name_of, values_of
+
+_FOREVER = 1 << 62
+_PUTS, _ARITHMETIC, _LOGICAL, _GET = (0, 1), 2, 3, 4
+
+
+@dataclass
+class _Write:
+    """A write of one byte. `value` is None if it is not known. Positions count the beats of the link."""
+
+    value: Optional[int]
+    begin: int
+    end: int = _FOREVER
+    is_certain: bool = True  # it was not denied
+
+
+@dataclass
+class _Request:
+    opcode: int
+    param: int
+    size: int
+    address: int
+    begin: int
+    writes: Dict[int, _Write] = field(default_factory=dict)  # by address
+    operand: Dict[int, str] = field(default_factory=dict)
+    beats: int = 0  # that came
+    is_corrupt: bool = False
+
+
+def _computed(request: _Request, old: int, operand: int) -> int:
+    bits = 8 << request.size
+    if request.opcode == _LOGICAL:
+        return (old ^ operand, old | operand, old & operand, operand)[request.param & 3]
+
+    if request.param == 4:
+        return (old + operand) % (1 << bits)
+    top = 1 << (bits - 1) if request.param < 2 else 0  # MIN and MAX have a sign
+    is_less = (old ^ top) < (operand ^ top)
+    return old if is_less == (request.param & 1 == 0) else operand
+
+
+class _Memory:
+    """The values that each byte may have."""
+
+    def __init__(self, width: int):
+        self.width = width
+        self.bytes: Dict[int, List[_Write]] = {}
+
+    def write(self, address: int, value: Optional[int], begin: int) -> _Write:
+        made = _Write(value, begin)
+        self.bytes.setdefault(address, []).append(made)
+        return made
+
+    def possible(self, address: int, begin: int, end: int, own: Optional[_Write]) -> Optional[Tuple[int, ...]]:
+        """Returns the values that a read of this interval may return, or None for any. `own` is the write of the same
+        atomic."""
+        writes = [write for write in self.bytes.get(address, []) if write is not own]
+        over = max((w.begin for w in writes if w.end < begin and w.is_certain), default=-1)
+        if over < 0:
+            return None  # it may hold what it held at first
+        values = []
+        for write in writes:
+            if write.begin < end and not write.end < over:
+                if write.value is None:
+                    return None
+                values.append(write.value)
+        return tuple(values)
+
+    def forget(self, address: int, begin: int) -> None:
+        """Drops writes that were replaced for certain before `begin`."""
+        writes = self.bytes.get(address)
+        if writes and len(writes) > 24:
+            over = max((w.begin for w in writes if w.end < begin and w.is_certain), default=-1)
+            self.bytes[address] = [w for w in writes if not w.end < over]
+
+
+def memory_problems(design: Design, beats: Beats) -> List[Problem]:
+    """Returns the first wrong byte that a response returns on the link to the client."""
+    width = design.links["client"].width
+    lines, times = beats.lines["client"], beats.times["client"]
+    memory = _Memory(width)
+    outstanding: Dict[str, _Request] = {}
+    incoming: Optional[_Request] = None
+    response: Optional[_Request] = None
+    said: Dict[int, int] = {}  # the bytes of the response so far
+    a_left = d_left = d_index = 0
+    for at, line in enumerate(lines):
+        channel = line[0]
+        if channel not in "AD" or is_unknown(line[:13]):
+            continue
+        values = values_of(line)
+        opcode, size = int(values["opcode"], 16), int(values["size"], 16)
+        if channel == "A":
+            if a_left == 0:
+                a_left = beat_count("A", opcode, size, width)
+                incoming = _Request(opcode, int(values["param"], 16), size, int(values["address"], 16), at)
+                outstanding[values["source"]] = incoming
+                _expects(memory, incoming)
+            assert incoming
+            _receive(memory, incoming, values, width)
+            a_left -= 1
+            continue
+        if d_left == 0:
+            d_left, d_index, said = beat_count("D", opcode, size, width), 0, {}
+            response = outstanding.pop(values["source"], None) if opcode != 6 else None
+        d_left -= 1
+        if response is None:
+            continue
+        problem = _respond(memory, response, Beat(times[at], "client", line), values, width, d_index, at, said, lines)
+        if problem:
+            return [problem]
+        d_index += 1
+        if d_left == 0:
+            _finish(memory, response, values, at, said)
+    return []
+
+
+def _expects(memory: _Memory, request: _Request) -> None:
+    """An atomic may write all of its bytes from now on."""
+    if request.opcode in (_ARITHMETIC, _LOGICAL):
+        for address in range(request.address, request.address + (1 << request.size)):
+            request.writes[address] = memory.write(address, None, request.begin)
+
+
+def _receive(memory: _Memory, request: _Request, values: Dict[str, str], width: int) -> None:
+    """A beat of a request: its bytes are written, or are the operand of an atomic."""
+    if request.opcode not in CARRIES_DATA["A"]:
+        return
+    data, mask = lanes_of(values["data"]), int(values["mask"], 16)
+    is_corrupt = values["corrupt"] != "0"
+    request.is_corrupt |= is_corrupt
+    base = request.address // width * width + request.beats * width
+    for lane in range(width):
+        address = base + lane
+        if not request.address <= address < request.address + (1 << request.size):
+            continue
+        if request.opcode in _PUTS:
+            if mask >> lane & 1:
+                value = None if is_corrupt or is_unknown(data[lane]) else int(data[lane], 16)
+                # all beats of a burst count as begun with the first one
+                request.writes[address] = memory.write(address, value, request.begin)
+        else:
+            request.operand[address] = data[lane]
+    request.beats += 1
+
+
+def _is_offered(lines: List[str], at: int, address: int, value: str, width: int) -> bool:
+    """Whether the next request writes this byte: it may be offered already, and a memory may have taken it."""
+    head, index = "", 0
+    for line in lines[at + 1 :]:
+        if line[0] != "A":
+            continue
+        values = values_of(line)
+        if head and line[:26] != head or int(values["opcode"], 16) > 3:
+            return False
+        head = line[:26]
+        base = int(values["address"], 16) // width * width + index * width
+        if base <= address < base + width:
+            return int(values["opcode"], 16) > 1 or lanes_of(values["data"])[address - base] == value
+        index += 1
+    return False
+
+
+def _respond(
+    memory: _Memory,
+    request: _Request,
+    beat: Beat,
+    values: Dict[str, str],
+    width: int,
+    index: int,
+    at: int,
+    said: Dict[int, int],
+    lines: List[str],
+) -> Optional[Problem]:
+    """Judges a beat of a response with data."""
+    if int(values["opcode"], 16) != 1 or request.opcode not in (_GET, _ARITHMETIC, _LOGICAL):
+        return None
+    if values["denied"] != "0" or values["corrupt"] != "0":
+        return None
+    data = lanes_of(values["data"])
+    base = request.address // width * width + index * width
+    for lane in range(width):
+        address = base + lane
+        if not request.address <= address < request.address + (1 << request.size):
+            continue
+        possible = memory.possible(address, request.begin, at, request.writes.get(address))
+        if not is_unknown(data[lane]):
+            said[address] = int(data[lane], 16)
+        if possible is None or said.get(address) in possible or _is_offered(lines, at, address, data[lane], width):
+            continue
+        holds = " or ".join(f"{value:02x}" for value in sorted(set(possible)))
+        words = f"client link: {name_of(beat.line)} reads {data[lane]} at 0x{address:x}, which holds {holds}"
+        return Problem("memory", "D", words, beat.time, beat=beat)
+    return None
+
+
+def _finish(memory: _Memory, request: _Request, values: Dict[str, str], at: int, said: Dict[int, int]) -> None:
+    """The response is complete: what its request wrote is there, unless it was denied."""
+    is_denied = values["denied"] != "0"
+    if is_denied and request.opcode in (_ARITHMETIC, _LOGICAL):
+        for address, write in request.writes.items():
+            memory.bytes[address].remove(write)
+        return
+    if request.opcode in (_ARITHMETIC, _LOGICAL) and not is_denied and not request.is_corrupt:
+        places = list(range(request.address, request.address + (1 << request.size)))
+        old, new = [said.get(place) for place in places], [request.operand.get(place, "x") for place in places]
+        if None not in old and not any(map(is_unknown, new)) and values["corrupt"] == "0":
+            before = int.from_bytes(bytes(byte for byte in old if byte is not None), "little")
+            operand = int.from_bytes(bytes(int(byte, 16) for byte in new), "little")
+            after = _computed(request, before, operand).to_bytes(len(places), "little")
+            for place, value in zip(places, after):
+                request.writes[place].value = value
+    for address, write in request.writes.items():
+        write.end, write.is_certain = at, not is_denied
+        memory.forget(address, request.begin)

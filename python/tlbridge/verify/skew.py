@@ -1,0 +1,83 @@
+"""Makes a netlist of a design with yosys in which each bit that enters a flip-flop of another clock may arrive one edge
+late (sv/tl_skew.sv).
+
+A zero-delay simulation lets all bits of a word arrive together, so it never sees a binary pointer that crosses clocks.
+"""
+from __future__ import annotations
+
+import dataclasses
+import json
+import shlex
+import shutil
+import subprocess
+from pathlib import Path
+from typing import Any, Dict, List, Tuple
+
+from .bench import SimulatorError
+from .design import Design, Port, Source
+
+_FLIP_FLOPS = ("$dff", "$adff", "$sdff", "$aldff")
+
+
+def _run_yosys(script: str) -> None:
+    done = subprocess.run(["yosys", "-q", "-p", script], capture_output=True, text=True, errors="replace")
+    if done.returncode:
+        lines = (done.stderr or done.stdout).strip().splitlines() or ["no message"]
+        raise SimulatorError(f"--skew: yosys cannot read the design: {lines[-1]}", 3)
+
+
+def skewed(design: Design, room: Path) -> Tuple[Design, int]:
+    """Returns the design as a netlist with late bits, and how many there are. Errors: there is no yosys, or it cannot
+    read the design."""
+    if not shutil.which("yosys"):
+        raise SimulatorError("--skew needs yosys, which was not found: install it (`apt install yosys`)")
+    source = design.source.absolute()
+    top = source.top
+    parameters = "".join(f"chparam -set {name} {value} {top}; " for name, value in source.parameters.items())
+    macros = " ".join([*(f"-D{name}" for name in source.defines), *(f"-I{folder}" for folder in source.includes)])
+    netlist, out = room / "netlist.json", room / "skewed.v"
+    files = " ".join(map(shlex.quote, source.files))
+    steps = "proc; flatten; opt_expr; opt_dff; opt_clean"
+    _run_yosys(f"read_verilog -sv {macros} {files}; {parameters}hierarchy -top {top}; {steps}; write_json {netlist}")
+    whole = json.loads(netlist.read_text())
+    name, module = next((n, m) for n, m in whole["modules"].items() if int(m["attributes"].get("top", "0"), 2))
+    count = _delay(module)
+    changed = room / "skewed.json"
+    changed.write_text(json.dumps(whole))
+    rename = f"rename {name} {top}; " if name != top else ""
+    _run_yosys(f"read_json {changed}; {rename}write_verilog -noattr {out}")
+    ports = {port: Port(found.direction, found.bits) for port, found in design.ports.items()}
+    return (dataclasses.replace(design, source=Source(top, (str(out),)), ports=ports), count)
+
+
+def _delay(module: Dict[str, Any]) -> int:
+    """Puts a late bit in front of each flip-flop whose input comes directly from another clock. Returns how many."""
+    clock_of: Dict[Any, Any] = {}
+    flops: List[Dict[str, Any]] = []
+    for cell in module["cells"].values():
+        pins = cell["connections"]
+        if cell["type"].startswith(_FLIP_FLOPS) and "CLK" in pins:
+            flops.append(cell)
+            for bit in pins["Q"]:
+                clock_of[bit] = pins["CLK"][0]
+    bits = [bit for cell in module["cells"].values() for pin in cell["connections"].values() for bit in pin]
+    bits += [bit for net in module["netnames"].values() for bit in net["bits"]]
+    most = max([bit for bit in bits if isinstance(bit, int)] + [0])
+    added: Dict[str, Any] = {}
+    for cell in flops:
+        pins = cell["connections"]
+        clock = pins["CLK"][0]
+        for at, bit in enumerate(pins["D"]):
+            if clock_of.get(bit, clock) == clock:
+                continue
+            most += 1
+            added[f"skew_{len(added)}"] = {
+                "type": "tl_skew",
+                "parameters": {"ID": f"{len(added):032b}"},
+                "attributes": {},
+                "port_directions": {"CLK": "input", "D": "input", "Q": "output"},
+                "connections": {"CLK": [clock], "D": [bit], "Q": [most]},
+            }
+            pins["D"][at] = most
+    module["cells"].update(added)
+    return len(added)

@@ -1,0 +1,279 @@
+"""Scripts and settings: what the client and the manager send of their own accord, and when. The agents make the
+answers."""
+from __future__ import annotations
+
+import random
+from dataclasses import dataclass, replace
+from typing import Dict, List, Optional, Sequence, Tuple
+
+from .design import Design, DesignError
+
+# The kinds of messages that a script may have, with the opcode and the number of params on A.
+OPCODES = {"put": 0, "partial": 1, "arithmetic": 2, "logical": 3, "get": 4, "intent": 5, "acquire": 6, "acquireperm": 7}
+_PARAMS = {0: 1, 1: 1, 2: 5, 3: 4, 4: 1, 5: 2, 6: 3, 7: 3}
+KINDS: Dict[str, Tuple[str, ...]] = {
+    "UL": ("get", "put", "partial"),
+    "UH": ("get", "put", "partial", "arithmetic", "logical", "intent"),
+    "C": (*OPCODES, "release", "probe"),
+}
+MOST_MESSAGES = 8000  # of a script
+_PLAIN_LARGEST = 64  # bytes: larger messages come after the others
+_MOST_BYTES = 4096
+
+
+@dataclass(frozen=True)
+class Message:
+    """A message of a script. Its mask and its corrupt beats follow from the seeds, and 0 is a full mask and none
+    corrupt."""
+
+    channel: str
+    opcode: int
+    param: int
+    size: int
+    source: int
+    address: int
+    tag: int = 0  # the first data byte follows from it
+    mask_seed: int = 0
+    corrupt_seed: int = 0
+    at: int = 0  # not before this cycle of its sender
+
+    def word(self) -> str:
+        """Returns the message as a line for $readmemh."""
+        return (
+            f"{self.at:08x}{self.tag:02x}{self.mask_seed:04x}{self.corrupt_seed:04x}{self.opcode:x}{self.param:x}"
+            f"{self.size:02x}{self.source:04x}{self.address:016x}\n"
+        )
+
+
+@dataclass(frozen=True)
+class Limits:
+    """The kinds, sizes and addresses of the traffic."""
+
+    kinds: Tuple[str, ...]
+    largest: int  # bytes
+    window: Optional[Tuple[int, int]] = None  # first address and bytes, or None for all addresses
+
+
+def limits_of(
+    design: Design,
+    is_bridge: bool,
+    level: Optional[str],
+    largest: Optional[int],
+    only: Optional[str],
+    window: Optional[Tuple[int, int]],
+) -> Limits:
+    """Returns the limits by the ports, or as the user gave them. Errors: a kind is unknown, or the links cannot carry
+    it.
+
+    The traffic of a bridge has to fit both links, other traffic only the one to the client.
+    """
+    has_probes = design.manager is not None and "B" in design.manager.channels
+    if not is_bridge and design.client is not None:
+        design = replace(design, manager=None)
+    level = level or design.level
+    if level == "C" and design.level != "C":
+        raise DesignError("--level C needs the channels A to E on each link")
+    kinds = list(KINDS[level])
+    if only is not None:
+        kinds = only.split(",")
+        unknown = [kind for kind in kinds if kind not in KINDS["C"]]
+        if unknown:
+            raise DesignError(f"--only: '{unknown[0]}' is no kind of message; the kinds are {', '.join(KINDS['C'])}")
+        if design.level != "C":
+            wrong = [kind for kind in kinds if kind not in KINDS["UH"]]
+            if wrong:
+                raise DesignError(f"--only: {wrong[0]} needs the channels A to E on each link")
+    if "probe" in kinds and not has_probes:
+        if only is not None:
+            raise DesignError("--only: probe needs a link to the manager with B")
+        kinds.remove("probe")
+    if "partial" in kinds and not design.has("A", "mask"):
+        if only is not None:
+            raise DesignError("--only: partial needs a mask on A")
+        kinds.remove("partial")
+    narrow = min(link.width for link in design.links.values())
+    most = min(1 << min(12, (1 << link.bits("size")) - 1) for link in design.links.values())
+    if largest is not None and largest > most:
+        raise DesignError(f"--largest {largest}: the size of the links says at most {most} bytes")
+    if largest is not None and (largest < 1 or largest & (largest - 1)):
+        raise DesignError(f"--largest {largest}: a power of 2 is needed")
+    return Limits(tuple(kinds), largest or min(most, narrow if level == "UL" else _MOST_BYTES), window)
+
+
+class Traffic:
+    """Makes the rounds of a run. The same seed makes the same rounds on any machine."""
+
+    def __init__(
+        self, design: Design, limits: Limits, seed: int, is_bridge: bool, has_two_clocks: bool, is_memory: bool
+    ):
+        if not is_bridge and design.client is not None:
+            design = replace(design, manager=None)  # the traffic is that of the link to the client
+        self.design, self.limits, self.has_two, self.is_memory = (design, limits, has_two_clocks, is_memory)
+        self.random = random.Random(seed)
+        links = design.links.values()
+        self.wide = max(link.width for link in links)
+        self.narrow = min(link.width for link in links)
+        self.address_bits = min(link.bits("address", 64) for link in links)
+        self.sources = 1 << min(link.bits("source", 1) for link in links)
+        self.has_corrupt = {channel: design.has(channel, "corrupt") for channel in "ABC"}
+        self.kinds = limits.kinds
+        self.tag = 0
+
+    @property
+    def largest_size(self) -> int:
+        return min(self.limits.largest, _PLAIN_LARGEST).bit_length() - 1
+
+    def message(self, kind: str, size: int, source: int, address: Optional[int] = None) -> Message:
+        """Returns a message of 2^size bytes, with a random address if none is given."""
+        draw = self.random
+        self.tag = (self.tag + 1) % 256
+        if kind in ("arithmetic", "logical") and self.is_memory:
+            size = min(size, self.narrow.bit_length() - 1, 3)
+        if address is None:
+            address = draw.choice([draw.getrandbits(64), draw.getrandbits(8), (1 << 64) - 1 - draw.getrandbits(6)])
+        address = address % (1 << self.address_bits) >> size << size
+        if self.limits.window:
+            base, span = self.limits.window
+            address = base + (address % span >> size << size)
+        if kind == "release":
+            channel, opcode, param = "C", 6 + draw.randrange(2), 1
+            param = draw.choice((1, 0)) if opcode == 7 else draw.choice((2, 1, 5))
+        elif kind == "probe":
+            channel, opcode, param = "B", 6 + draw.randrange(2), draw.randrange(3)
+        else:
+            channel, opcode = "A", OPCODES[kind]
+            param = draw.randrange(_PARAMS[opcode])
+        carries = bool(opcode & 1) if channel == "C" else opcode < 4
+        masked = kind == "partial" and draw.random() < 0.8
+        spoilt = carries and self.has_corrupt[channel] and draw.random() < 0.15
+        seeds = [draw.getrandbits(16) | 1 if wanted else 0 for wanted in (masked, spoilt)]
+        return Message(channel, opcode, param, size, source, address, self.tag, *seeds)
+
+    def directed(self) -> List[Message]:
+        """Each kind with each size at each lane offset of the wider link."""
+        script: List[Message] = []
+        draw = self.random
+        for kind in self.kinds:
+            for size in range(self.largest_size + 1):
+                step = 1 << size
+                offsets: Sequence[int] = range(0, max(self.wide, step), step)
+                if len(self.kinds) * self.wide >= 1500:
+                    offsets = draw.sample(list(offsets), min(8, len(offsets)))
+                for offset in offsets:
+                    base = draw.getrandbits(64) & ~(max(self.wide, step) - 1)
+                    script.append(self.message(kind, size, draw.randrange(self.sources), base + offset))
+        return script
+
+    def drawn(self, count: int, pool: int, sizes: str = "any", sticks: Optional[float] = None) -> List[Message]:
+        """Random messages of `pool` sources. `sizes` is any, small, large (above 64 bytes too), width (about the
+        widths) or mixed (both ends)."""
+        draw = self.random
+        sources = draw.sample(range(self.sources), min(pool, self.sources))
+        sticks = draw.choice((0, 0, 0.5, 0.8)) if sticks is None else sticks  # how often a source comes twice in a row
+        if sizes == "any":
+            sizes = draw.choice(("any", "small", "width"))
+        script: List[Message] = []
+        while len(script) < count:
+            again = script and draw.random() < sticks
+            source = script[-1].source if again else draw.choice(sources)
+            script.append(self.message(draw.choice(self.kinds), self.size(sizes), source))
+        return script
+
+    def size(self, sizes: str) -> int:
+        draw = self.random
+        size = draw.randint(0, self.largest_size)
+        if sizes == "small":
+            return min(size, draw.randint(0, self.largest_size))
+        if sizes == "width":
+            middle = (self.narrow if draw.random() < 0.5 else self.wide).bit_length() - 1
+            return min(self.largest_size, max(0, middle + draw.randint(-1, 2)))
+        if sizes == "mixed":
+            return self.largest_size if draw.random() < 0.5 else draw.randint(0, min(2, self.largest_size))
+        if sizes == "large" and draw.random() < 0.6:
+            return draw.randint(self.largest_size, self.limits.largest.bit_length() - 1)
+        return size
+
+    def settings(self, calm: Optional[int] = None) -> Dict[str, int]:
+        """Random settings of a round: clocks, stalls, and the order of the responses."""
+        draw = self.random
+        settings = dict(
+            seed=draw.getrandbits(30),
+            in_order=int(draw.random() < 0.3),
+            early=int(draw.random() < 0.4 and not self.is_memory),
+            reuse=int(draw.random() < 0.6),
+            denied=int(draw.random() < 0.8),
+            corrupt=int(draw.random() < 0.8),
+            patient=draw.randrange(2),
+            serial=int(draw.random() < 0.08),
+        )
+        drawn = draw.choice([0, 0, 0, 0x3FF, draw.getrandbits(10), 0x2AA, 0x155])
+        settings["calm"] = calm if calm is not None else drawn
+        if self.has_two:
+            ratios = [
+                (5000, 5000),
+                (5000, 10000),
+                (10000, 5000),
+                (3000, 7000),
+                (7000, 3000),
+                (5000, 5050),
+                (5050, 5000),
+            ]
+            ratios += [(2000, 20000), (20000, 2000), (500 * draw.randint(4, 18), 500 * draw.randint(4, 18))]
+            client, manager = draw.choice(ratios)
+            settings.update(client_half=client, manager_half=manager)
+            settings.update(client_phase=draw.randrange(2 * client), manager_phase=draw.randrange(2 * manager))
+            ratio = max(1, manager // client)
+            settings.update(idle=2000 * ratio, end=200 * ratio)
+        return settings
+
+    def round(self, number: int, length: int) -> Tuple[List[Message], Dict[str, int]]:
+        """Returns the script and the settings of a round. The first two are directed; the others repeat the list of
+        styles."""
+        if number < 2:
+            return self.directed()[:MOST_MESSAGES], self.settings(0x3FF if number == 0 else 0)
+        name = STYLES[(number - 2) % len(STYLES)]
+        script, settings = self.styled(name, length)
+        return script[:MOST_MESSAGES], settings
+
+    def styled(self, name: str, length: int) -> Tuple[List[Message], Dict[str, int]]:
+        """A round of one style."""
+        all_sources = self.sources
+        settings = self.settings()
+        scale = settings.get("idle", 2000) // 2000
+        if name == "any":
+            return self.drawn(length, self.random.choice((2, 4, all_sources))), settings
+        settings["serial"] = 0
+        if name == "again":  # a source is used again while its response is under way
+            settings.update(reuse=1, calm=self.random.choice((0x3FF, 0x55, 0x2AA, 0)))
+            return (self.drawn(length, self.random.choice((1, 1, 2)), "mixed", 0.8), settings)
+        if name == "full":  # no stalls at all
+            settings.update(calm=0x3FF, in_order=self.random.randrange(2))
+            return self.drawn(length, all_sources, "width", 0), settings
+        if name == "all sources":  # as many outstanding as there are sources
+            settings.update(gather=self.random.choice((40, 40, 300)) * scale, calm=0x3FF & ~0x2A0, in_order=0)
+            settings["idle"] = settings.get("idle", 2000) + 2 * settings["gather"]
+            script = [message for _ in range(1 + length // all_sources) for message in self.each_source()]
+            return script[: max(length, min(all_sources, 2 * length))], settings
+        if name == "blocking":  # ready waits for channels of higher priority
+            settings.update(blocking=1, calm=self.random.choice((0x3FF, 0x3FF, 0)))
+            return self.drawn(length, all_sources), settings
+        if name == "long stalls":
+            settings.update(long_stalls=1, idle=3 * settings.get("idle", 2000))
+            return self.drawn(length, all_sources), settings
+        if name == "large" and self.limits.largest > _PLAIN_LARGEST:
+            count = max(10, min(length, 60 * length // self.limits.largest))
+            return self.drawn(count, all_sources, "large"), settings
+        if name == "reset" and all(link.reset for link in self.design.links.values()):
+            settings["reset_at"] = self.random.randint(60, 400)
+            return self.drawn(length, all_sources), settings
+        if name == "same cycle":
+            settings["calm"] = self.random.choice((0x3FF, 0x2AA, 0))
+        return self.drawn(length, self.random.choice((4, all_sources))), settings
+
+    def each_source(self) -> List[Message]:
+        sources = list(range(self.sources))
+        self.random.shuffle(sources)
+        return [self.message(self.random.choice(self.kinds), self.size("small"), source) for source in sources]
+
+
+STYLES = ("all sources", "any", "again", "blocking", "reset", "any", "full", "long stalls", "reset", "large", "any")

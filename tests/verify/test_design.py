@@ -1,0 +1,235 @@
+"""The links that the reader of ports finds in small designs, and what it says of those that it cannot use."""
+
+from pathlib import Path
+from typing import Dict, Tuple
+
+import pytest
+from project import EXAMPLES, RTL, needs_tools
+
+from tlbridge.verify.design import Choice, Design, DesignError, Signal, Source, described, read_design, read_file_list
+
+pytestmark = pytest.mark.simulator
+A = "opcode:3 size:2 source:2 address:16 mask:{lanes} data:{bits}"
+D = "opcode:3 size:2 source:2 denied:1 data:{bits}"
+
+
+def ports(
+    stem: str, receives: bool, width: int = 4, infix: str = "", names: Tuple[str, str] = ("address", "denied")
+) -> str:
+    """The ports of a link with A and D, as a module has them."""
+    said = []
+    for letter, fields, is_input in (("a", A, receives), ("d", D, not receives)):
+        way, back = ("input", "output") if is_input else ("output", "input")
+        said += [f"{way} {stem}{letter}_valid", f"{back} {stem}{letter}_ready"]
+        for field in fields.format(lanes=width, bits=8 * width).split():
+            name, bits = field.split(":")
+            name = {"address": names[0], "denied": names[1]}.get(name, name)
+            said.append(f"{way} [{int(bits) - 1}:0] {stem}{letter}_{infix}{name}")
+    return ", ".join(said)
+
+
+def module(folder: Path, text: str) -> Source:
+    needs_tools("verilator")
+    path = folder / "design.sv"
+    path.write_text(text)
+    return Source("dut", (str(path),))
+
+
+def bridge(folder: Path, clocks: str = "input clock, input reset", infix: str = "") -> Source:
+    return module(
+        folder,
+        (
+            f"module dut({clocks}, {ports('up_', True, 8, infix=infix)}, {ports('down_', False, 4, infix=infix)});"
+            " endmodule"
+        ),
+    )
+
+
+def error_of(source: Source, choice: Choice = Choice()) -> Tuple[str, int]:
+    with pytest.raises(DesignError) as caught:
+        read_design(source, choice)
+    return str(caught.value), caught.value.status
+
+
+def test_plain_prefixes(tmp_path: Path) -> None:
+    design = read_design(bridge(tmp_path))
+    assert design.client and design.manager and design.is_bridge
+    assert [design.client.name, design.client.width, design.manager.name, design.manager.width] == ["up", 8, "down", 4]
+    assert design.client.channels["A"]["data"] == Signal("up_a_data", 0, 64, "input")
+    assert [design.channels, design.level, design.has_two_clocks] == ["AD", "UL", False]
+    assert "client link up: channels A D, 8 bytes" in described(design)[1]
+
+
+@pytest.mark.parametrize("infix", ["bits_", "payload_", "payload_fragment_"])
+def test_names_of_rocket_chip_and_spinalhdl(tmp_path: Path, infix: str) -> None:
+    design = read_design(bridge(tmp_path, infix=infix))
+    assert design.client and design.client.channels["A"]["mask"].port == f"up_a_{infix}mask"
+
+
+def test_other_words_for_address_and_denied(tmp_path: Path) -> None:
+    source = module(tmp_path, f"module dut(input clk, {ports('', True, names=('addr', 'error'))}); endmodule")
+    design = read_design(source)
+    assert design.client and not design.manager and not design.is_bridge
+    assert design.client.channels["D"]["denied"].port == "d_error"
+    assert [design.client.reset, design.client.name] == ["", "(no prefix)"]
+
+
+STRUCTS = """
+package p;
+    typedef struct packed {logic [3:0] extra; logic parity;} user_t;
+    typedef struct packed {logic a_valid; logic [2:0] a_opcode; logic [1:0] a_size; logic [7:0] a_source;
+        logic [31:0] a_address;
+        logic [3:0] a_mask; logic [31:0] a_data; user_t a_user; logic d_ready;} tl_h2d_t;
+    typedef struct packed {logic d_valid; logic [2:0] d_opcode; logic [1:0] d_size; logic [7:0] d_source;
+        logic [31:0] d_data; logic d_error;
+        logic a_ready;} tl_d2h_t;
+endpackage
+module dut(input clk_h_i, input rst_h_ni, input clk_d_i, input rst_d_ni, input p::tl_h2d_t tl_h_i,
+    output p::tl_d2h_t tl_h_o,
+    output p::tl_h2d_t tl_d_o, input p::tl_d2h_t tl_d_i);
+endmodule
+"""
+
+
+def test_packed_structs(tmp_path: Path) -> None:
+    design = read_design(module(tmp_path, STRUCTS))
+    assert design.client and design.manager
+    assert design.client.channels["A"]["valid"] == Signal("tl_h_i", 87, 1, "input")
+    assert design.client.channels["A"]["ready"] == Signal("tl_h_o", 0, 1, "output")
+    assert [design.client.clock, design.manager.clock, design.has_two_clocks] == ["clk_h_i", "clk_d_i", True]
+    assert [design.manager.reset, design.manager.reset_is_low] == ["rst_d_ni", True]
+
+
+def test_structs_of_which_only_the_layout_is_known() -> None:
+    needs_tools("verilator")
+    request = "a_valid:1,a_opcode:3,a_param:3,a_size:2,a_source:8,a_address:32,a_mask:4,a_data:32,a_user:23,d_ready:1"
+    response = "d_valid:1,d_opcode:3,d_param:3,d_size:2,d_source:8,d_sink:1,d_data:32,d_user:14,d_error:1,a_ready:1"
+    source = Source("tl_bridge_structs", tuple(str(path) for path in sorted(RTL.glob("tl_*.sv"))))
+    design = read_design(source, Choice(structs=(request, response)))
+    assert design.client and design.client.width == 4 and design.client.clock == "clk_h_i"
+    said, status = error_of(source, Choice(structs=(request + ",more:1",)))
+    assert "no port of tl_bridge_structs has the 110 bits" in said and status == 2
+
+
+def test_clocks_of_their_own(tmp_path: Path) -> None:
+    design = read_design(
+        bridge(tmp_path, "input up_clk, input up_rst_n, input down_clk, input down_rst_n, input scan, input [3:0] id")
+    )
+    assert design.client and design.manager
+    assert [design.client.clock, design.client.reset, design.client.reset_is_low] == ["up_clk", "up_rst_n", True]
+    assert design.tied == {"scan": "0", "id": "0"}
+
+
+def test_two_clocks_that_fit(tmp_path: Path) -> None:
+    source = bridge(tmp_path, "input fast_clk, input slow_clk, input rst")
+    assert error_of(source) == (
+        "more than one clock fits the link up: fast_clk, slow_clk. Add --client-clock fast_clk, or another of them",
+        2,
+    )
+    design = read_design(
+        source, Choice(clocks={"client": "fast_clk", "manager": "fast_clk"}, resets={"client": "!rst"})
+    )
+    assert design.client and design.client.reset_is_low and not design.has_two_clocks
+
+
+def test_two_links_that_fit(tmp_path: Path) -> None:
+    source = module(
+        tmp_path, f"module dut(input clk, {ports('p_', True)}, {ports('q_', True)}, {ports('r_', False)}); endmodule"
+    )
+    assert error_of(source) == ("more than one client link: p, q. Add --client p, or another of them", 2)
+    design = read_design(source, Choice(client="q"))
+    assert design.client and design.client.name == "q" and design.others == ["p"] and design.tied["p_a_valid"] == "0"
+    assert "has the prefix z. Links found: p, q, r" in error_of(source, Choice(client="z"))[0]
+
+
+REFUSED: Dict[str, Tuple[str, str, int]] = {
+    "nothing": ("module dut(input clk, input x); endmodule", "no TileLink link found among the 2 ports of dut", 2),
+    "syntax": ("module dut(input clk; endmodule", "the design does not compile: ", 3),
+    "top": ("module other(input clk); endmodule", "the files have no module dut", 2),
+    "inout": ("module dut(inout x); endmodule", "the port x is inout", 2),
+    "array": ("module dut(input x [4]); endmodule", "the port x is an unpacked array", 2),
+    "clock": (
+        f"module dut({ports('p_', True)}); endmodule",
+        "no clock found for the link p. Add --client-clock NAME",
+        2,
+    ),
+    "width": (
+        f"module dut(input clk, {ports('p_', True, 3)}); endmodule",
+        "has 24 bits: a width in bytes is one of",
+        2,
+    ),
+    "source": (
+        "module dut(input clk, " + ports("p_", True).replace("[1:0] p_a_source", "[0:0] x") + "); endmodule",
+        "channel A of the link p has no source",
+        2,
+    ),
+    "wide source": (
+        "module dut(input clk, " + ports("p_", True).replace("[1:0] p_a_source", "[15:0] p_a_source") + "); endmodule",
+        "the source of the link p has 16 bits, and this tool plays at most 12",
+        2,
+    ),
+    "direction": (
+        "module dut(input clk, " + ports("p_", True).replace("output p_a_ready", "input p_a_ready") + "); endmodule",
+        "p_a_ready of the link p has the wrong direction",
+        2,
+    ),
+}
+
+
+@pytest.mark.parametrize("case", REFUSED)
+def test_what_is_refused(tmp_path: Path, case: str) -> None:
+    text, words, status = REFUSED[case]
+    said, came = error_of(module(tmp_path, text))
+    assert words in said and came == status and "\n" not in said
+
+
+def test_what_is_named_and_not_there(tmp_path: Path) -> None:
+    source = bridge(tmp_path)
+    assert (
+        "the design has no input of one bit of that name; it has clock, reset"
+        in error_of(source, Choice(clocks={"client": "clk"}))[0]
+    )
+    assert "--tie mode: the design has no such input left over" in error_of(source, Choice(ties={"mode": "1"}))[0]
+    assert "no parameter WIDTH" in error_of(Source(source.top, source.files, {"WIDTH": "3"}))[0]
+    assert "there is no file missing.sv" in error_of(Source("dut", ("missing.sv",)))[0]
+    assert "is VHDL" in error_of(Source("dut", ("design.vhd",)))[0]
+
+
+def test_parameters_and_macros(tmp_path: Path) -> None:
+    text = (
+        f"`include \"wide.svh\"\nmodule dut #(parameter int W = 4) (`TICK, {ports('p_', True)}, input [W-1:0] more);"
+        " endmodule"
+    )
+    (tmp_path / "inc").mkdir()
+    (tmp_path / "inc" / "wide.svh").write_text("`define TICK input `CLOCK\n")
+    source = module(tmp_path, text)
+    design: Design = read_design(
+        Source("dut", source.files, {"W": "9"}, defines=("CLOCK=my_clk",), includes=(str(tmp_path / "inc"),))
+    )
+    assert design.ports["more"].bits == 9 and design.client and design.client.clock == "my_clk"
+
+
+def test_file_lists(tmp_path: Path, monkeypatch: pytest.MonkeyPatch) -> None:
+    monkeypatch.setenv("HERE", "x")
+    (tmp_path / "sub").mkdir()
+    (tmp_path / "sub" / "in.f").write_text("b.sv -GN=1\n")
+    (tmp_path / "all.f").write_text(
+        "// first\n$HERE/a.sv # note\n+incdir+i+j -I k\n+define+P+Q=2 -DR\n/* c.sv\n*/ -F sub/in.f -y lib\n"
+    )
+    monkeypatch.chdir(tmp_path)
+    found = read_file_list(Path("all.f"))
+    assert found == Source("", ("x/a.sv", "sub/b.sv"), {"N": "1"}, ("P", "Q=2", "R"), ("i", "j", "k"), ("lib",))
+    (tmp_path / "loop.f").write_text("-f loop.f\n")
+    (tmp_path / "odd.f").write_text("--assert a.sv\n")
+    for name, words in (("loop.f", "contains itself"), ("odd.f", "has --assert"), ("none.f", "cannot be read")):
+        with pytest.raises(DesignError, match=words):
+            read_file_list(Path(name))
+
+
+def test_the_designs_of_this_project() -> None:
+    needs_tools("verilator")
+    design = read_design(Source("adapter", (str(EXAMPLES / "start" / "adapter.sv"),)))
+    assert design.client and design.manager and [design.client.name, design.manager.name] == ["up", "down"]
+    files = tuple(str(path) for path in sorted(RTL.glob("tl_*.sv")))
+    design = read_design(Source("tl_bridge_rocket", files))
+    assert design.client and design.level == "C" and design.has_two_clocks and design.client.name == "auto_in"
