@@ -1,0 +1,118 @@
+"""Asks yosys-abc about one assertion at a time: a counterexample, a bound, or a proof without a bound.
+
+A proof is claimed only if abc ended normally, printed its last word, reported the proof, and verified the invariant
+that it found.
+"""
+from __future__ import annotations
+
+import re
+from concurrent.futures import Future, ThreadPoolExecutor, as_completed
+from dataclasses import dataclass
+from pathlib import Path
+from typing import Callable, Dict, Iterator, List, Sequence, Tuple
+
+from .errors import TOOL, ProveError
+from .model import Model, last_line
+from .tools import run_tool
+
+LAST_WORD = "tlbridge-prove-has-ended"
+PROVED, BOUNDED, FAILS, OPEN = "proved", "bounded", "fails", "open"
+
+
+@dataclass(frozen=True)
+class Verdict:
+    """What abc found of one assertion. `frames`: without a counterexample in this number of frames, or the frame in
+    which it fails, from 0.
+    """
+
+    kind: str
+    frames: int
+    seconds: float
+
+
+def ask(model_path: Path, steps: Sequence[str], seconds: float) -> Tuple[str, float]:
+    """Runs steps of abc on a model, and returns what it printed and its seconds of processor time. Errors: abc
+    died or printed no last word (4).
+    """
+    script = "; ".join([f"read_aiger {model_path}", *steps, f"echo {LAST_WORD}"])
+    done = run_tool(["yosys-abc", "-c", script], 100 * seconds + 3600)
+    status, said = done.status, done.said
+    if status != 0 or LAST_WORD not in map(str.strip, said.splitlines()):
+        how = f"was ended by signal {-status}" if status < 0 else f"ended with status {status}"
+        raise ProveError(
+            f"yosys-abc {how} before it was done: nothing is claimed of this assertion. {last_line(said)}", TOOL
+        )
+    return said, done.seconds
+
+
+def verdict(said: str, seconds: float) -> Verdict:
+    """Reads what abc printed about one assertion. Anything that is not understood is OPEN."""
+    failed = re.search(r"Output *\d+ of miter .* was asserted in frame *(\d+)", said)
+    if failed:
+        return Verdict(FAILS, int(failed[1]), seconds)
+    if "Property proved" in said and re.search(r"Verification of invariant with \d+ clauses was successful", said):
+        return Verdict(PROVED, 0, seconds)
+    bound = re.findall(r"No output asserted in (\d+) frames", said)
+    if bound:
+        return Verdict(BOUNDED, int(bound[-1]), seconds)
+    return Verdict(OPEN, 0, seconds)
+
+
+def bounded(model: Model, index: int, frames: int, seconds: int) -> Verdict:
+    """Looks for a counterexample to one assertion in the first `frames` frames, for at most `seconds`."""
+    said, taken = ask(model.small, [f"cone -s -O {index}", f"bmc3 -F {frames} -T {seconds}"], seconds)
+    return verdict(said, taken)
+
+
+def unbounded(model: Model, index: int, seconds: int) -> Verdict:
+    """Looks for a proof of one assertion for any number of frames, for at most `seconds`."""
+    said, taken = ask(model.small, [f"cone -s -O {index}", "scorr", "dc2", f"pdr -T {seconds}"], seconds)
+    return verdict(said, taken)
+
+
+def in_parallel(jobs: int, questions: Sequence[Tuple[int, Callable[[], Verdict]]]) -> Iterator[Tuple[int, Verdict]]:
+    """Asks all questions with `jobs` at once, and yields each number with its verdict as it comes. The first error
+    ends it.
+    """
+    with ThreadPoolExecutor(max_workers=max(1, jobs)) as pool:
+        waiting: Dict["Future[Verdict]", int] = {pool.submit(question): number for number, question in questions}
+        try:
+            for done in as_completed(waiting):
+                yield waiting[done], done.result()
+        except BaseException:
+            for one in waiting:
+                one.cancel()
+            raise
+
+
+def counterexample(model: Model, index: int, frame: int, seconds: int, path: Path) -> List[Dict[str, int]]:
+    """Returns the values of the model's inputs, step by step, with which one assertion fails in this frame.
+
+    The names are those of the harness' inputs, and `init NAME` for a register that begins with a chosen value.
+    Errors: abc finds none (4).
+    """
+    steps = ["fold", "strash", f"cone -s -O {index}", f"bmc3 -F {frame + 1} -T {seconds}", f"write_cex -a {path}"]
+    said, _ = ask(model.path, steps, seconds)
+    if verdict(said, 0).kind != FAILS or not path.is_file():
+        raise ProveError("yosys-abc found the counterexample once, and not again: report this with the design", TOOL)
+    return rows_of(model.folder / "model.map", path)
+
+
+def rows_of(map_path: Path, path: Path) -> List[Dict[str, int]]:
+    """Reads a counterexample of abc's `write_cex -a`. Its first row has the registers, its last one a remark behind
+    it.
+    """
+    names: Dict[int, Tuple[str, int]] = {}
+    for line in map_path.read_text().splitlines():
+        words = line.split()
+        if words and words[0] in ("input", "init"):
+            names[int(words[1])] = ((words[3] if words[0] == "input" else f"init {words[3]}"), int(words[2]))
+    wide = max(names) + 1 if names else 0
+    rows = [found[0] for found in (re.match(r"[01]+", line) for line in path.read_text().splitlines()) if found]
+    table: List[Dict[str, int]] = []
+    for row in [row for row in rows[1:] if len(row) >= wide]:
+        values: Dict[str, int] = {}
+        for place, (name, bit) in names.items():
+            values[name] = values.get(name, 0) | (1 << bit if row[place] == "1" else 0)
+        table.append(values)
+    return table

@@ -1,0 +1,269 @@
+"""SystemVerilog with assertions as a model for abc (AIGER), by yosys 0.23, and a cache of such models."""
+from __future__ import annotations
+
+import hashlib
+import os
+import re
+import shutil
+import tempfile
+from dataclasses import dataclass, field
+from pathlib import Path
+from typing import Dict, Iterator, List, Mapping, Optional, Sequence, Tuple
+
+from .clocks import settle_clocks
+from .errors import TOOL, UNREADABLE, ProveError
+from .tools import run_tool
+
+YOSYS_SECONDS = 4 * 3600.0
+KEPT_MODELS = 40  # in the cache
+SAFE_PATH = re.compile(r"[A-Za-z0-9_./+,:@%=-]+")
+
+
+@dataclass(frozen=True)
+class Recipe:
+    """Everything a model depends on.
+
+    `design_files` are read as for synthesis: assertions and assumptions in them are ignored. `proof_files` have the
+    assertions. `keep` and `assume` are regular expressions for labels: with `keep` other assertions are removed, and
+    those that match `assume` become assumptions. `free_initial` names the instance whose registers begin with any
+    value. `probes` maps a wire of the top to a wire inside the design. `zero_initial`: registers without an initial
+    value begin with 0.
+    """
+
+    top: str
+    design_files: Tuple[str, ...]
+    proof_files: Tuple[str, ...]
+    defines: Tuple[str, ...] = ()
+    includes: Tuple[str, ...] = ()
+    ticks: Mapping[str, str] = field(default_factory=dict)
+    keep: str = ""
+    drop: str = r"neighbours\."
+    assume: str = ""
+    free_initial: str = "dut"
+    probes: Mapping[str, str] = field(default_factory=dict)
+    zero_initial: bool = False
+    design_is_formal: bool = False
+
+
+@dataclass(frozen=True)
+class Model:
+    """A model in a folder: `model.aig`, the same after simplification (`small.aig`), and the map of its inputs
+    (`model.map`).
+
+    `labels` are the assertions in the order of the model's outputs, with their places: `watch.a.watch.Data0`.
+    """
+
+    folder: Path
+    labels: Tuple[str, ...]
+
+    @property
+    def path(self) -> Path:
+        return self.folder / "model.aig"
+
+    @property
+    def small(self) -> Path:
+        return self.folder / "small.aig"
+
+
+def short_name(label: str) -> str:
+    """Returns the name of an assertion as it is printed: `a.Data0`. The four about a source belong to channel D."""
+    words = label.split(".")
+    if words[-1].startswith("Source") and len(words) < 3:
+        return f"d.{words[-1]}"
+    return f"{words[-3]}.{words[-1]}" if len(words) >= 3 and words[-2] == "watch" else words[-1]
+
+
+def cache_folder() -> Path:
+    """Returns the folder of the cache: $TLBRIDGE_CACHE, or `tlbridge` in the user's cache folder."""
+    given = os.environ.get("TLBRIDGE_CACHE")
+    if given:
+        return Path(given)
+    return Path(os.environ.get("XDG_CACHE_HOME") or Path.home() / ".cache") / "tlbridge" / "models"
+
+
+def included_files(paths: Sequence[str], includes: Sequence[str]) -> Iterator[Path]:
+    """Yields each file that these files include, found as yosys finds it."""
+    waiting = [Path(path) for path in paths]
+    seen = set(waiting)
+    while waiting:
+        path = waiting.pop()
+        for name in re.findall(r'^\s*`include\s+"([^"]+)"', path.read_text(errors="replace"), re.M):
+            for folder in (path.parent, *map(Path, includes)):
+                found = folder / name
+                if found.is_file():
+                    if found not in seen:
+                        seen.add(found)
+                        waiting.append(found)
+                        yield found
+                    break
+
+
+def key_of(recipe: Recipe) -> str:
+    """Returns the name of a model in the cache: a digest of yosys' version, the recipe and each file."""
+    digest = hashlib.sha256()
+    digest.update(run_tool(["yosys", "-V"], 60).said.encode())
+    plain = {name: getattr(recipe, name) for name in recipe.__dataclass_fields__}
+    proof_names = [Path(path).name for path in recipe.proof_files]
+    digest.update(
+        repr(
+            {
+                **plain,
+                "ticks": sorted(recipe.ticks.items()),
+                "probes": sorted(recipe.probes.items()),
+                "proof_files": proof_names,
+            }
+        ).encode()
+    )
+    digest.update(Path(__file__).read_bytes())
+    files = [*recipe.design_files, *recipe.proof_files]
+    for path in [*map(Path, files), *included_files(files, recipe.includes)]:
+        digest.update(hashlib.sha256(path.read_bytes()).digest())
+    return digest.hexdigest()[:32]
+
+
+def build(recipe: Recipe, cache: Optional[Path]) -> Tuple[Model, bool]:
+    """Returns the model of a recipe, and whether it was in the cache. Without a cache it is made in a temporary folder.
+
+    Errors (ProveError): yosys cannot read a file (3), yosys or abc is missing or died (4), the model has no assertion
+    (4).
+    """
+    for path in (*recipe.design_files, *recipe.proof_files, *recipe.includes):
+        if not SAFE_PATH.fullmatch(path):
+            raise ProveError(f"{path}: yosys needs a file name without spaces and quotes: rename it")
+    if cache is None:
+        return _made(recipe, Path(tempfile.mkdtemp(prefix="tlbridge-model."))), False
+    place = cache / key_of(recipe)
+    try:
+        if (place / "labels").is_file():
+            os.utime(place)
+            return _read(place), True
+        cache.mkdir(parents=True, exist_ok=True)
+        folder = Path(tempfile.mkdtemp(prefix="new.", dir=cache))
+    except OSError as error:
+        raise ProveError(
+            f"the cache {cache} cannot be used: {error.strerror}: add --no-cache or set TLBRIDGE_CACHE"
+        ) from error
+    try:
+        _made(recipe, folder)
+        for name in ("before.il", "clocked.json", "settled.json"):
+            (folder / name).unlink(missing_ok=True)
+        try:
+            folder.rename(place)
+        except OSError:
+            if not (place / "labels").is_file():  # another run made it at the same time
+                raise
+    finally:
+        shutil.rmtree(folder, ignore_errors=True)
+    _prune(cache)
+    return _read(place), False
+
+
+def _prune(cache: Path) -> None:
+    models = sorted((path for path in cache.iterdir() if path.is_dir()), key=lambda path: path.stat().st_mtime)
+    for path in models[:-KEPT_MODELS]:
+        shutil.rmtree(path, ignore_errors=True)
+
+
+def _read(folder: Path) -> Model:
+    labels = tuple(line.rpartition("/")[2] for line in (folder / "labels").read_text().split())
+    if not labels:
+        raise ProveError("the model has no assertion: nothing is proved", TOOL)
+    return Model(folder, labels)
+
+
+def _made(recipe: Recipe, folder: Path) -> Model:
+    flags = "".join(f" -D{name}" for name in recipe.defines) + "".join(f" -I{path}" for path in recipe.includes)
+    as_design = "-formal" if recipe.design_is_formal else "-noassert -noassume -norestrict"
+    # -noassert of yosys 0.23 also holds for the files that are read after it, so the design comes last
+    steps = [f"read_verilog -sv -formal{flags} {' '.join(recipe.proof_files)}"]
+    if recipe.design_files:
+        steps.append(f"read_verilog -sv {as_design}{flags} {' '.join(recipe.design_files)}")
+    steps += [f"hierarchy -check -top {recipe.top}", "proc", "flatten", "memory_map -formal"]
+    if recipe.free_initial:
+        steps.append(f"setattr -unset init w:{recipe.free_initial}.*")
+    steps += ["async2sync", "chformal -assume -early", f"cd {recipe.top}"]
+    steps += [f"connect -nounset -set {name} {inner}" for name, inner in recipe.probes.items()]
+    steps += ["cd ..", "opt_clean", "write_rtlil before.il", "select -write labels.all t:$assert"]
+    _yosys(steps, folder)
+    names = (folder / "labels.all").read_text().split()
+    script: List[str] = []
+    for name in names:
+        label = name.rpartition("/")[2]
+        if recipe.assume and re.search(recipe.assume, label):
+            script.append(f"chformal -assert -assert2assume {name}")
+        elif (recipe.drop and re.search(recipe.drop, label)) or (recipe.keep and not re.search(recipe.keep, label)):
+            script.append(f"chformal -assert -remove {name}")
+    (folder / "labels.ys").write_text("\n".join(script) + "\n")
+    steps = ["read_rtlil before.il", "script labels.ys", "opt -full", "dffunmap", "opt_clean"]
+    _yosys([*steps, "write_json clocked.json"], folder)
+    settle_clocks(folder / "clocked.json", folder / "settled.json", recipe.ticks)
+    steps = ["read_json settled.json", "dffunmap", "setundef -anyseq"]
+    if recipe.zero_initial:
+        steps.append("setundef -zero -init")
+    steps += ["opt -fast", "techmap", "opt -fast", "dffunmap", "opt_clean", "abc -g AND -fast", "opt_clean"]
+    steps += ["select -write labels.last t:$assert", "write_aiger -I -B -zinit -map model.map model.aig"]
+    _yosys(steps, folder)
+    labels = (folder / "labels.last").read_text().split()
+    if not labels:
+        raise ProveError("the model has no assertion: nothing is proved", TOOL)
+    _simplify(folder, len(labels))
+    (folder / "labels").write_text("\n".join(labels) + "\n")
+    return _read(folder)
+
+
+def _simplify(folder: Path, outputs: int) -> None:
+    """Merges equivalent registers once for all assertions."""
+    steps = ["read_aiger model.aig", "fold", "strash", *2 * ["scorr", "dc2"], "write_aiger small.aig"]
+    done = run_tool(["yosys-abc", "-c", "; ".join([*steps, "print_stats", "echo simplified"])], YOSYS_SECONDS, folder)
+    status, said = done.status, done.said
+    found = re.search(r"i/o *= *\d+/ *(\d+)", re.sub(r"\x1b\[[0-9;]*m", "", said))
+    if (
+        status
+        or "simplified" not in map(str.strip, said.splitlines())
+        or not (folder / "small.aig").is_file()
+        or not found
+    ):
+        raise ProveError(
+            f"yosys-abc ended with status {status} while it simplified the model: nothing is proved. {last_line(said)}",
+            TOOL,
+        )
+    if int(found[1]) != outputs:
+        raise ProveError(f"the model has {found[1]} outputs for {outputs} assertions: nothing is proved", TOOL)
+
+
+def last_line(said: str) -> str:
+    lines = [line.strip() for line in said.splitlines() if line.strip()]
+    return lines[-1][:300] if lines else "It printed nothing."
+
+
+def _yosys(steps: Sequence[str], folder: Path) -> None:
+    done = run_tool(["yosys", "-q", "-p", "; ".join(steps)], YOSYS_SECONDS, folder)
+    status, said = done.status, done.said
+    if status == 0:
+        return
+    errors = [line for line in said.splitlines() if "ERROR" in line]
+    first = re.sub(r"^ERROR: ", "", errors[0].strip()) if errors else last_line(said)
+    if status < 0 or not errors:
+        raise ProveError(f"yosys ended with status {status}: nothing is proved. {first}", TOOL)
+    raise ProveError(f"yosys cannot read the design: {first[:400]}. {_remedy(first)}", UNREADABLE)
+
+
+REMEDIES: Dict[str, str] = {
+    "syntax error": (
+        "It reads less of SystemVerilog than simulators do: convert the files, as by `sv2v`, or write "
+        "the line in a simpler way"
+    ),
+    "not part of the design": "Name the file of that module, too",
+    "unsupported cell type": (
+        "Registers with asynchronous loads, latches and tristates have no model: write a synthesizable variant"
+    ),
+    "combinational loop": "Break the loop: a model needs logic without loops",
+    "logic loop": "Break the loop: a model needs logic without loops",
+}
+
+
+def _remedy(error: str) -> str:
+    for words, remedy in REMEDIES.items():
+        if words in error.lower():
+            return remedy
+    return 'Try `yosys -p "read_verilog -sv FILE"` on each file'

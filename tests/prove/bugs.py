@@ -1,0 +1,39 @@
+"""The bugs that the designs of these tests plant, and the assertion of the watch that each one breaks first.
+
+`narrow.sv` plants them by its parameter BUG. A bug is found in the named cycle after the reset, counted from 0, or
+earlier.
+"""
+
+from typing import NamedTuple, Tuple
+
+
+class Bug(NamedTuple):
+    """`expected` are the assertions that may be the first to fail, `options` further words for tlbridge-prove."""
+
+    number: int
+    name: str
+    expected: Tuple[str, ...]
+    cycle: int
+    options: Tuple[str, ...] = ()
+
+
+NARROW = (
+    Bug(1, "the bytes of a short response are always on the low half", ("d.Data0",), 4),
+    Bug(2, "a wide beat of D is corrupt only if its second half is", ("d.Corrupt",), 5),
+    Bug(3, "the second half of a beat of A has the bytes of the first", ("a.Data0",), 4),
+    Bug(4, "the second half of a beat of A has the mask of the first", ("a.Mask", "a.Lanes"), 4),
+    Bug(5, "the mask of a put of one byte has both lanes", ("a.Lanes",), 4),
+    Bug(6, "a wide beat of D is sent with its first half", ("d.Early",), 4),
+    Bug(7, "a request of one beat is sent twice", ("a.Invented", "SourceA"), 5),
+    Bug(
+        8, "a beat that comes while the register is full is lost", ("a.Head", "a.Corrupt", "a.Data0", "d.SourceOne"), 6
+    ),
+    Bug(9, "AccessAck has size 0", ("d.Head",), 4),
+    Bug(10, "the place of a source is written once", ("d.Data0",), 7),
+    Bug(11, "a put is acknowledged before its response", ("d.SourceD", "d.Invented"), 3),
+    Bug(12, "the second beat of A is never sent", ("a.Late",), 9, ("--within", "3")),
+    Bug(13, "the param of a request is 0", ("a.Head",), 3),
+    Bug(14, "a request loses the high bit of its source", ("a.Head", "d.SourceA"), 4),
+    Bug(15, "the second half of a corrupt beat is not corrupt", ("a.Corrupt",), 5),
+    Bug(16, "lanes without a byte are not 0", ("a.Zeros",), 3, ("--zero-lanes",)),
+)

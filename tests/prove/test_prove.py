@@ -1,0 +1,298 @@
+"""tlbridge-prove: correct designs are proved, planted bugs fail the assertion that is about them, and nothing is
+claimed after an error.
+
+The quick tests take about a minute of processor time, in four models. `-m long` plants every bug.
+"""
+
+import os
+import re
+import stat
+import subprocess
+import sys
+from pathlib import Path
+from typing import Any, Dict, List, Optional
+
+import pytest
+from bugs import NARROW, Bug
+from project import EXAMPLES, ROOT, needs_tools
+
+pytestmark = pytest.mark.simulator
+PROVE = ROOT / "tlbridge-prove"
+START = EXAMPLES / "start" / "adapter.sv"
+NARROW_FILE = Path(__file__).parent / "designs" / "narrow.sv"
+SECONDS = 7200  # of wall-clock time, on a busy machine
+
+
+@pytest.fixture(scope="session")
+def cache(tmp_path_factory: pytest.TempPathFactory) -> Path:
+    """A cache of models that all tests of a session share."""
+    return tmp_path_factory.mktemp("models")
+
+
+class Run:
+    """A run of tlbridge-prove: its status, what it printed, and the verdict of each assertion."""
+
+    def __init__(self, done: "subprocess.CompletedProcess[str]"):
+        self.status, self.out, self.err = done.returncode, done.stdout, done.stderr
+        rows = re.findall(
+            r"^  (\S+) +(proved|no counterexample in \d+ \w+|fails in \w+ \d+) +[\d.]+ s$", self.out, re.M
+        )
+        self.verdicts: Dict[str, str] = dict(rows)
+
+    def fails(self) -> Dict[str, int]:
+        """The cycle in which each assertion fails that fails."""
+        return {name: int(words.split()[-1]) for name, words in self.verdicts.items() if words.startswith("fails")}
+
+    def claims_nothing(self) -> bool:
+        return "proved" not in self.verdicts.values() and "no counterexample" not in self.out
+
+
+def prove(cache: Optional[Path], folder: Path, *words: Any, path: str = "") -> Run:
+    """Runs tlbridge-prove in a folder. `path` goes in front of PATH."""
+    environment = {**os.environ, "PATH": (path + os.pathsep if path else "") + os.environ["PATH"]}
+    if cache is not None:
+        environment["TLBRIDGE_CACHE"] = str(cache)
+    command = [sys.executable, str(PROVE), *map(str, words), "--jobs", "2"]
+    return Run(
+        subprocess.run(
+            command, cwd=folder, env=environment, capture_output=True, text=True, timeout=SECONDS, check=False
+        )
+    )
+
+
+def fake(folder: Path, name: str, text: str) -> str:
+    """Writes a program that takes the place of a tool, and returns its folder."""
+    place = folder / "fake"
+    place.mkdir(exist_ok=True)
+    path = place / name
+    path.write_text(f"#!/bin/sh\n{text}\n")
+    path.chmod(path.stat().st_mode | stat.S_IXUSR)
+    return str(place)
+
+
+def start(*words: str) -> List[str]:
+    return [str(START), "--top", "adapter", "--no-same-cycle-response", *words]
+
+
+# ---- quick: the adapter of examples/start
+
+
+def test_correct_adapter_is_proved(cache: Path, tmp_path: Path) -> None:
+    needs_tools("yosys", "yosys-abc", "verilator")
+    run = prove(
+        cache, tmp_path, *start("--unbounded", "--cycles", "4", "--only", "a.(Data0|Mask)|d.(Data7|Head)|Source")
+    )
+    assert run.status == 0, run.out + run.err
+    assert set(run.verdicts) == {
+        "a.Data0",
+        "a.Mask",
+        "d.Data7",
+        "d.Head",
+        "d.SourceA",
+        "d.SourceD",
+        "d.SourceOne",
+        "d.SourceRoom",
+    }
+    assert set(run.verdicts.values()) == {"proved"}
+    assert "the manager never responds in the cycle" in run.out
+    assert "8 assertions: 8 proved" in run.out
+
+
+def test_bound_is_a_bound(cache: Path, tmp_path: Path) -> None:
+    needs_tools("yosys", "yosys-abc", "verilator")
+    run = prove(cache, tmp_path, *start("--cycles", "3", "--only", "a.Data0"))
+    assert (run.status, run.verdicts) == (0, {"a.Data0": "no counterexample in 3 cycles"}), run.out + run.err
+    assert "proved" not in run.out.replace("nothing is proved", "")
+
+
+def test_killed_solver_claims_nothing(cache: Path, tmp_path: Path) -> None:
+    """abc prints that it has a proof, and is killed before it ends."""
+    needs_tools("yosys", "yosys-abc", "verilator")
+    prove(cache, tmp_path, *start("--cycles", "1", "--only", "a.Head"))  # the model is in the cache from here on
+    said = "Verification of invariant with 3 clauses was successful.\\nProperty proved.  Time = 0.1 sec\\n"
+    for text in (f"printf '{said}'; kill -9 $$", f"printf '{said}'; exit 0", f"printf '{said}'; exit 1", "exit 0"):
+        run = prove(cache, tmp_path, *start("--unbounded", "--only", "a.Head"), path=fake(tmp_path, "yosys-abc", text))
+        assert run.status == 4, run.out + run.err
+        assert run.claims_nothing(), run.out
+        assert "nothing is claimed" in run.err
+
+
+def test_killed_yosys_claims_nothing(tmp_path: Path) -> None:
+    needs_tools("yosys", "yosys-abc", "verilator")
+    run = prove(tmp_path / "cache", tmp_path, *start(), path=fake(tmp_path, "yosys", "kill -9 $$"))
+    assert run.status == 4 and run.claims_nothing(), run.out + run.err
+    assert "yosys" in run.err and len(run.err.splitlines()) == 1
+
+
+def test_model_without_assertions_claims_nothing(cache: Path, tmp_path: Path) -> None:
+    """A model of the cache whose list of assertions is empty, and a name that no assertion has."""
+    needs_tools("yosys", "yosys-abc", "verilator")
+    prove(cache, tmp_path, *start("--cycles", "1", "--only", "a.Head"))
+    for labels in cache.glob("*/labels"):
+        kept = labels.read_text()
+        labels.write_text("")
+        try:
+            run = prove(cache, tmp_path, *start("--unbounded", "--only", "a.Head"))
+        finally:
+            labels.write_text(kept)
+        if run.status:
+            break
+    assert run.status == 4 and run.claims_nothing(), run.out + run.err
+    assert "the model has no assertion: nothing is proved" in run.err
+    run = prove(cache, tmp_path, *start("--only", "a.Nothing"))
+    assert run.status == 2 and run.claims_nothing(), run.out + run.err
+    assert "There are a.Corrupt, a.Data0" in run.err
+
+
+def test_assumption_that_excludes_everything_claims_nothing(tmp_path: Path) -> None:
+    needs_tools("yosys", "yosys-abc", "verilator")
+    run = prove(tmp_path / "cache", tmp_path, *start("--unbounded", "--assume", "!client_a_valid"))
+    assert run.status == 2 and run.claims_nothing(), run.out + run.err
+    assert re.search(r"nothing is proved: no beat of channel [AD] can arrive", run.err)
+
+
+def test_planted_bug_fails_and_is_replayed(tmp_path: Path) -> None:
+    needs_tools("yosys", "yosys-abc", "verilator", "iverilog")
+    run = prove(tmp_path / "cache", tmp_path, *start("--define", "BUG", "--cycles", "6", "--only", "d.Data0|a.Data0"))
+    assert run.status == 1, run.out + run.err
+    assert set(run.fails()) == {"d.Data0"} and run.fails()["d.Data0"] <= 3
+    assert run.verdicts["a.Data0"] == "no counterexample in 6 cycles"
+    out = tmp_path / "tlbridge-prove.adapter"
+    assert "in which the watch reports d.Data0" in run.out  # the watch in Icarus sees the same
+    assert (out / "counterexample.vcd").stat().st_size > 1000
+    assert (out / "counterexample.trace").read_text().startswith("tilelink-trace")
+    assert re.search(r"compared with the far beats of .*: D: far beat \d+", run.out)  # so does the model
+
+
+# ---- quick: bad input, which needs no model
+
+
+@pytest.mark.parametrize(
+    "words, status, message",
+    [
+        (["none.sv", "--top", "adapter"], 2, "there is no file"),
+        ([str(START), "--top", "adaptor"], 2, "the files have no module adaptor"),
+        (["--top", "adapter"], 2, "no file of the design was named"),
+        (start("--clocks", "2"), 2, "both links have the clock clock"),
+        (start("--assume", "1; end"), 2, "this is not an expression"),
+        (start("--largest", "64"), 2, "size has 2 bits"),
+        (start("--cycles", "0"), 2, "a number of cycles is a number from 1"),
+        (start("--tie", "nothing=1"), 2, "the design has no such input left over"),
+    ],
+)
+def test_bad_input(words: List[str], status: int, message: str, tmp_path: Path) -> None:
+    needs_tools("verilator")
+    run = prove(tmp_path / "cache", tmp_path, *words)
+    assert run.status == status, run.out + run.err
+    assert message in run.err
+    assert run.claims_nothing()
+    assert "Traceback" not in run.err
+
+
+def test_unreadable_design(tmp_path: Path) -> None:
+    """Verilator reads it, yosys 0.23 does not: the message has the line and a remedy."""
+    needs_tools("yosys", "yosys-abc", "verilator")
+    text = START.read_text().replace(
+        "assign down_a_valid   = up_a_valid;", "assign down_a_valid = up_a_valid inside {1'b1};"
+    )
+    assert "inside" in text
+    (tmp_path / "odd.sv").write_text(text)
+    run = prove(tmp_path / "cache", tmp_path, "odd.sv", "--top", "adapter")
+    assert run.status == 3, run.out + run.err
+    assert re.search(r"odd\.sv:\d+", run.err) and "sv2v" in run.err and len(run.err.splitlines()) == 1
+    broken = START.read_text().replace("endmodule", "")
+    (tmp_path / "broken.sv").write_text(broken)
+    run = prove(tmp_path / "cache", tmp_path, "broken.sv", "--top", "adapter")
+    assert run.status == 3 and "the design does not compile" in run.err
+
+
+def test_missing_tool(tmp_path: Path) -> None:
+    needs_tools("verilator")
+    place = tmp_path / "bin"
+    place.mkdir()
+    for name in ("verilator", "verilator_bin", "nice", "env", "perl", "sh", "python3", Path(sys.executable).name):
+        for folder in os.environ["PATH"].split(os.pathsep):
+            if (Path(folder) / name).exists() and not (place / name).exists():
+                (place / name).symlink_to(Path(folder) / name)
+    environment = {**os.environ, "PATH": str(place), "TLBRIDGE_CACHE": str(tmp_path / "cache")}
+    done = subprocess.run(
+        [sys.executable, str(PROVE), *start()],
+        cwd=tmp_path,
+        env=environment,
+        capture_output=True,
+        text=True,
+        timeout=SECONDS,
+        check=False,
+    )
+    assert done.returncode == 4, done.stdout + done.stderr
+    assert "yosys was not found in PATH: install it" in done.stderr
+
+
+def test_sby_project(tmp_path: Path) -> None:
+    needs_tools("verilator")
+    run = prove(tmp_path / "cache", tmp_path, *start("--sby", "project", "--cycles", "7"))
+    assert run.status == 0, run.out + run.err
+    text = (tmp_path / "project" / "prove.sby").read_text()
+    assert "did NOT run it" in text and "bmc: depth 8" in text
+    assert {"proof.sv", "tl_checker.sv", "tl_bridge_watch.sv"} <= {
+        path.name for path in (tmp_path / "project").iterdir()
+    }
+    assert run.claims_nothing()
+
+
+def test_clocks_of_another_kind_are_refused(tmp_path: Path) -> None:
+    """A register at a falling edge would be read as one at a rising edge by AIGER."""
+    needs_tools("yosys", "yosys-abc", "verilator")
+    text = START.read_text().replace("always_ff @(posedge clock)", "always_ff @(negedge clock)")
+    (tmp_path / "falling.sv").write_text(text)
+    run = prove(tmp_path / "cache", tmp_path, "falling.sv", "--top", "adapter")
+    assert run.status == 3 and run.claims_nothing(), run.out + run.err
+    assert "is clocked by a falling edge" in run.err
+
+
+# ---- long: each planted bug, and the correct design
+
+
+@pytest.mark.long
+@pytest.mark.parametrize("bug", NARROW, ids=[one.name for one in NARROW])
+def test_each_planted_bug(bug: Bug, tmp_path: Path) -> None:
+    needs_tools("yosys", "yosys-abc", "verilator", "iverilog")
+    words = [
+        NARROW_FILE,
+        "--top",
+        "narrow",
+        "--param",
+        f"BUG={bug.number}",
+        "--level",
+        "uh",
+        "--cycles",
+        "10",
+        *bug.options,
+    ]
+    run = prove(tmp_path / "cache", tmp_path, *words)
+    assert run.status == 1, run.out + run.err
+    fails = run.fails()
+    first = min(fails.values())
+    assert first <= bug.cycle, fails
+    assert any(name in bug.expected for name, cycle in fails.items() if cycle == first), fails
+
+
+@pytest.mark.long
+def test_correct_converter_holds(tmp_path: Path) -> None:
+    """No assertion fails in 12 cycles, in which each bug above is found; those without data are proved."""
+    needs_tools("yosys", "yosys-abc", "verilator")
+    words = [NARROW_FILE, "--top", "narrow", "--level", "uh", "--zero-lanes", "--within", "3"]
+    run = prove(tmp_path / "cache", tmp_path, *words, "--cycles", "12", "--seconds", "600")
+    assert run.status == 0, run.out + run.err
+    assert set(run.verdicts.values()) == {"no counterexample in 12 cycles"}, run.out
+    run = prove(
+        tmp_path / "cache",
+        tmp_path,
+        *words,
+        "--cycles",
+        "2",
+        "--unbounded",
+        "--only",
+        "Invented|Early|Source|a.Corrupt",
+    )
+    assert run.status == 0 and set(run.verdicts.values()) == {"proved"}, run.out + run.err

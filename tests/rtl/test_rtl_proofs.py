@@ -1,0 +1,164 @@
+"""tools/prove-rtl: the bridge against the layout of messages, and a planted bug for each assertion of the watch.
+
+The quick tests prove channel E and find two bugs, in less than a minute of processor time. `-m long` plants a bug for
+each assertion. The rows of docs/RTL_PROOFS.md are made by `tools/prove-rtl`, which takes about an hour.
+"""
+
+import re
+import shutil
+import sys
+from pathlib import Path
+from typing import NamedTuple, Sequence
+
+import pytest
+from project import ROOT, RTL, needs_tools
+
+sys.path.insert(0, str(ROOT / "tools"))
+from rtl_proofs.rows import NOT_TRIED, ROWS, Step  # noqa: E402
+from rtl_proofs.run import Outcome, line_of, prove, recipe_of  # noqa: E402
+
+from tlbridge.prove import engine  # noqa: E402
+from tlbridge.prove.model import build, short_name  # noqa: E402
+
+pytestmark = pytest.mark.simulator
+PAGE = ROOT / "docs" / "RTL_PROOFS.md"
+ROW = {row.name: row for row in ROWS}
+
+
+class Bug(NamedTuple):
+    """A change of one file, the row whose model it is looked for in, and the assertion that has to fail."""
+
+    assertion: str
+    row: str
+    file: str
+    old: str
+    new: str
+
+
+FIFO, WIDEN, NARROW, CHANNEL, TABLE = "tl_fifo.sv", "tl_widen.sv", "tl_narrow.sv", "tl_channel.sv", "tl_outstanding.sv"
+BUGS = (
+    Bug("e.Invented", "E-2-2", FIFO, "assign r_valid = w_count != r_count;", "assign r_valid = 1'b1;"),
+    Bug("e.Head", "E-2-2", FIFO, "words[w_count[LOG-1:0]] <= w_data;", "words[0] <= w_data;"),
+    Bug("e.Room", "E-2-2", FIFO, "if (r_valid && r_ready) r_count <= r_count + 1'b1;", "r_count <= w_count;"),
+    Bug("a.Early", "A-2-4", WIDEN, "wire whole = !has_data || &(slot | ~span);", "wire whole = 1'b1;"),
+    Bug("a.Data0", "A-2-4", WIDEN, "gathers ? next_slot : first_slot", "gathers ? next_slot : '0"),
+    Bug("a.Corrupt", "A-2-4", WIDEN, "in_corrupt || (gathers && corrupt_held)", "in_corrupt"),
+    Bug("a.Mask", "A-2-4", WIDEN, "has_data ? byte_out[8] : active", "active"),
+    Bug("a.Lanes", "A-2-4", WIDEN, "has_data ? byte_out[8] : active", "has_data ? byte_out[8] : active && i < NARROW"),
+    Bug("a.Zeros", "A-4-2", NARROW, "has_data && active ?", "has_data ?"),
+    Bug("d.SourceD", "D-4-2", FIFO, "assign r_valid = w_count != r_count;", "assign r_valid = 1'b1;"),
+    Bug(
+        "d.SourceA",
+        "D-4-2",
+        NARROW,
+        "assign in_ready  = out_ready && last;",
+        "assign in_ready  = out_ready && last && begun;",
+    ),
+    Bug(
+        "d.Data0",
+        "D-4-2",
+        TABLE,
+        "if (a_valid && a_ready) lanes",
+        "if (a_valid && a_ready && lanes[a_source] == 0) lanes",
+    ),
+    Bug("c.Head", "C-4-2", CHANNEL, "MASKED ? !far_opcode[2] : far_opcode[0]", "!far_opcode[2]"),
+)
+QUICK = ("e.Invented", "e.Head")
+FRAMES = 14
+
+
+def found(bug: Bug, tmp_path: Path, seconds: int = 600) -> int:
+    """The frame in which the assertion fails in the model with the bug."""
+    rtl = tmp_path / "rtl"
+    shutil.copytree(RTL, rtl)
+    text = (rtl / bug.file).read_text()
+    assert text.count(bug.old) == 1, f"the text of the bug is not once in {bug.file}"
+    (rtl / bug.file).write_text(text.replace(bug.old, bug.new))
+    name = bug.assertion.partition(".")[2]
+    row = ROW[bug.row]
+    given = "" if name.startswith("Source") else row.steps[-1].given
+    model, _ = build(recipe_of(row, Step(rf"(^|\.){name}$", given), rtl, tmp_path), None)
+    index = [short_name(label) for label in model.labels].index(bug.assertion)
+    verdict = engine.bounded(model, index, FRAMES, seconds)
+    shutil.rmtree(model.folder)
+    assert verdict.kind == engine.FAILS, f"{bug.assertion} does not fail in {FRAMES} frames: {verdict}"
+    return verdict.frames
+
+
+def test_channel_e_is_proved(tmp_path: Path) -> None:
+    needs_tools("yosys", "yosys-abc", "verilator")
+    outcome = prove(ROW["E-2-2"], RTL, 2, 300, tmp_path)
+    assert outcome.is_complete, outcome.verdicts
+    assert line_of(outcome).startswith("| E | 2:2 | all 5: Corrupt, Early, Head, Invented, Room |")
+    assert sorted(outcome.proved) == ["e.Corrupt", "e.Early", "e.Head", "e.Invented", "e.Room"]
+    assert outcome.reached == outcome.covers >= 3, outcome.not_reached
+
+
+@pytest.mark.parametrize("bug", [bug for bug in BUGS if bug.assertion in QUICK], ids=QUICK)
+def test_planted_bug_fails_quickly(bug: Bug, tmp_path: Path) -> None:
+    needs_tools("yosys", "yosys-abc", "verilator")
+    assert found(bug, tmp_path) <= 6
+
+
+@pytest.mark.long
+@pytest.mark.parametrize("bug", BUGS, ids=[one.assertion for one in BUGS])
+def test_planted_bug_fails(bug: Bug, tmp_path: Path) -> None:
+    needs_tools("yosys", "yosys-abc", "verilator")
+    found(bug, tmp_path)
+
+
+@pytest.mark.long
+def test_lemmas_and_data_of_d(tmp_path: Path) -> None:
+    """D at 4:2: a lemma that is not proved ends the row, and one bit of the data is proved with the lemmas."""
+    needs_tools("yosys", "yosys-abc", "verilator")
+    outcome = prove(ROW["D-4-2"], RTL, 2, 900, tmp_path, "Source|Data0")
+    assert sorted(outcome.proved) == [
+        "d.Data0",
+        "d.SourceA",
+        "d.SourceD",
+        "d.SourceOne",
+        "d.SourceRoom",
+    ], outcome.verdicts
+
+
+# ---- what a line says, without a tool
+
+
+def outcome_of(kinds: Sequence[str], row: str = "A-4-2", tried_all: bool = True) -> Outcome:
+    verdicts = {f"a.Data{number}": engine.Verdict(kind, 0, 1.0) for number, kind in enumerate(kinds)}
+    return Outcome(ROW[row], verdicts, 2.0, ("a.Data0", 1.0), 3, 4, ["SeesShort"], tried_all)
+
+
+def test_line_claims_no_more_than_was_proved() -> None:
+    proved = [engine.PROVED] * 8
+    assert line_of(outcome_of(proved)) == "| A | 4:2 | all 8: Data0 to Data7 | 3 of 4, not SeesShort | 2 | Data0 1 |"
+    assert "| a part: Data0 to Data7 |" in line_of(outcome_of(proved, tried_all=False))
+    assert "open: Data7" in line_of(outcome_of([*proved[1:], engine.BOUNDED]))
+    assert "**no claim**: Data0 to Data7" in line_of(outcome_of(proved, "D-2-4"))
+    assert not outcome_of([]).is_complete and not outcome_of([engine.OPEN]).is_complete
+
+
+# ---- the page
+
+
+def test_page_has_each_row() -> None:
+    """Each row of the script is in the table of the page or in its list of rows without a result, and the page names
+    what has no row.
+    """
+    text = PAGE.read_text()
+    for row in ROWS:
+        in_table = re.search(rf"^\| {row.channel} \| {row.client}:{row.manager} \|", text, re.M)
+        assert in_table or f"`{row.name}`" in text, row.name
+    for what, _ in NOT_TRIED:
+        words = re.split(r"[ (,]", what)[0]
+        assert words.lower() in text.lower(), what
+
+
+def test_every_assertion_of_the_watch_has_a_bug() -> None:
+    """Each label of sv/tl_bridge_watch.sv is one that a planted bug breaks, or the page says why none does."""
+    labels = set(re.findall(r"`TL_WATCH_ASSERT\((\w+),", (ROOT / "sv" / "tl_bridge_watch.sv").read_text()))
+    labels = {re.sub(r"^Data\d$", "Data0", label) for label in labels if not label.startswith("Sees")} - {"label"}
+    broken = {bug.assertion.partition(".")[2] for bug in BUGS}
+    page = PAGE.read_text()
+    for label in sorted(labels - broken):
+        assert re.search(rf"`{label}`", page), label
