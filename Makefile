@@ -3,7 +3,9 @@
 #
 #   make programs                                   tlbridge and tlexplain
 #   make library C=8 M=4                            out/libtlbridge_8_4.a, for a client's link of 8 bytes and a manager's of 4
-#   make test                                       tests the programs and libraries that are built, the scripts and the documents, without a proof
+#   make test                                       tests the programs, the libraries that are built, the scripts and the documents;
+#                                                   a program that is not built is built first. Two minutes
+#   make test-long                                  the tests that take minutes each
 #   make install PREFIX=.. [DESTDIR=..] [PAIRS=..]  the files that need no proof, then the library, then the programs, each once it is ready
 #   make install-files PREFIX=.. [DESTDIR=..]       only the files that need no proof and no `rt`: SystemVerilog, Python, the unverified model,
 #                                                   headers, examples, documents, man pages, completion for bash
@@ -16,6 +18,7 @@ override PREFIX := $(or $(PREFIX),/usr/local)
 PAIRS ?= 8:4
 PROGRAMS ?= yes
 CFLAGS ?= -O2
+WARNINGS := -Wall -Wextra -Wshadow -Wconversion
 # The version of the project, and that of the library's interface, which is in its SONAME.
 VERSION := $(shell sed -n 1p VERSION)
 INTERFACE := $(shell sed -n 's/^.define TL_VERSION \([0-9]*\)$$/\1/p' include/tlbridge.h)
@@ -23,12 +26,12 @@ INTERFACE := $(shell sed -n 's/^.define TL_VERSION \([0-9]*\)$$/\1/p' include/tl
 underscored := $(subst :,_,$(PAIRS))
 pair_archives := $(underscored:%=out/libtlbridge_%.a)
 archives := $(pair_archives) out/libtlbridge_trace.a
-proved := crates.txt bench/make-library $(shell find $(wildcard crates/*/src crates/*/specs crates/*/proofs) -type f)
+proved := crates.txt tools/make-library $(shell find $(wildcard crates/*/src crates/*/specs crates/*/proofs) -type f)
 root := $(DESTDIR)$(PREFIX)
 share := $(root)/share/tlbridge
 again = $(MAKE) --no-print-directory
 
-.PHONY: help programs library test install install-files install-pairs install-library install-tlbridge install-tlexplain dist FORCE
+.PHONY: help programs library test test-long install install-files install-pairs install-library install-tlbridge install-tlexplain dist FORCE
 .DELETE_ON_ERROR:
 
 help:
@@ -45,11 +48,15 @@ library:
 	@[ -n "$(C)" ] && [ -n "$(M)" ] || { echo "make: give both widths in bytes, for example make library C=8 M=4" >&2; exit 1; }
 	+@$(again) out/libtlbridge_$(C)_$(M).a
 
+# BUILDS=both: each program has to be there in both builds, as `rt ci` leaves them.
 test:
-	@tests/all $(if $(filter both,$(BUILDS)),--both-builds)
+	@tools/run-tests $(if $(filter both,$(BUILDS)),--both-builds) -m "not long"
+
+test-long:
+	@tools/run-tests $(if $(filter both,$(BUILDS)),--both-builds) -m long
 
 out/libtlbridge_%.a: $(proved)
-	bench/make-library $(subst _, ,$*)
+	tools/make-library $(subst _, ,$*)
 
 # One library has all pairs, the answer to a trace, the scoreboard, and the functions that the SystemVerilog package imports. The list of pairs
 # is written again if it has changed.
@@ -57,10 +64,10 @@ out/pairs: FORCE
 	@mkdir -p out
 	@echo "$(underscored)" | cmp -s - $@ || echo "$(underscored)" > $@
 
-out/tlbridge_%.o: sv/tlbridge_%.c sv/tlbridge_calls.h include/tlbridge.h include/tlbridge_scoreboard.h packaging/dpi/svdpi.h out/pairs
-	$(CC) -std=c11 $(CFLAGS) -fPIC -Iinclude -Ipackaging/dpi $(underscored:%=-DTLBRIDGE_%) -c $< -o $@
+out/tlbridge_%.o: sv/tlbridge_%.c sv/tlbridge_calls.h sv/tlbridge_board.h include/tlbridge.h include/tlbridge_scoreboard.h packaging/dpi/svdpi.h out/pairs
+	$(CC) -std=c11 $(WARNINGS) $(CFLAGS) -fPIC -Iinclude -Ipackaging/dpi $(underscored:%=-DTLBRIDGE_%) -c $< -o $@
 
-glue := out/tlbridge_scoreboard.o out/tlbridge_dpi.o
+glue := out/tlbridge_scoreboard.o out/tlbridge_board_lines.o out/tlbridge_board_link.o out/tlbridge_dpi.o
 out/libtlbridge.a: $(archives) $(glue)
 	rm -rf out/objects $@ && mkdir out/objects
 	cd out/objects && for archive in $(archives); do $(AR) x "$(CURDIR)/$$archive"; done
@@ -102,7 +109,7 @@ install-files:
 	install -m 644 README.md VERSION $(wildcard CHANGELOG.md) $(share)
 	ln -sfn ../../include $(share)/include
 	chmod -R u+rwX,go+rX-w $(share) $(root)/share/man/man1/tlbridge*.1 $(root)/share/man/man1/tlexplain.1
-	scripts/cut-links $(share)
+	tools/cut-links $(share)
 	install -d $(root)/share/doc && rm -rf $(root)/share/doc/tlbridge && ln -s ../tlbridge $(root)/share/doc/tlbridge
 
 # The archives of single pairs, which are ready first.

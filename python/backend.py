@@ -1,7 +1,8 @@
 """Builds the wheel for pip. It uses only Python's own library, so that no network is needed.
 
-If the shared library is found, it goes into the wheel. It is looked for at the path in TLBRIDGE_LIBRARY, in the tree that `make install` made
-around this folder, and in out/ of the repository. Otherwise the wheel is for every machine, and the library is looked for when it is used.
+If the shared library is found, it goes into the wheel. It is looked for at the path in TLBRIDGE_LIBRARY, in the tree
+that `make install` made around this folder, and in out/ of the repository. Otherwise the wheel is for every machine,
+and the library is looked for when it is used.
 """
 import base64
 import hashlib
@@ -13,7 +14,7 @@ from pathlib import Path
 HERE = Path(__file__).resolve().parent
 NAME, VERSION = "tlbridge", "0.7.0"
 SCRIPTS = "[console_scripts]\ntlbridge-compare = tlbridge.compare:main\ntlbridge-trace = tlbridge.waves.command:main\n"
-METADATA = f"Metadata-Version: 2.1\nName: {NAME}\nVersion: {VERSION}\nRequires-Python: >=3.8\n"
+METADATA = f"Metadata-Version: 2.1\nName: {NAME}\nVersion: {VERSION}\nRequires-Python: >=3.9\n"
 
 
 def library():
@@ -36,7 +37,9 @@ def build_wheel(wheel_directory, config_settings=None, metadata_directory=None):
     info = f"{NAME}-{VERSION}.dist-info"
     files[f"{info}/METADATA"] = METADATA.encode()
     files[f"{info}/entry_points.txt"] = SCRIPTS.encode()
-    files[f"{info}/WHEEL"] = f"Wheel-Version: 1.0\nGenerator: {NAME}\nRoot-Is-Purelib: {str(not found).lower()}\nTag: {tag}\n".encode()
+    files[
+        f"{info}/WHEEL"
+    ] = f"Wheel-Version: 1.0\nGenerator: {NAME}\nRoot-Is-Purelib: {str(not found).lower()}\nTag: {tag}\n".encode()
     files[f"{info}/RECORD"] = record(files, info)
     name = f"{NAME}-{VERSION}-{tag}.whl"
     with zipfile.ZipFile(Path(wheel_directory) / name, "w", zipfile.ZIP_DEFLATED) as wheel:

@@ -26,131 +26,135 @@ typedef struct {
     void *impl;
     bool is_open;
     uint64_t bridge;
-} side;
+    uint64_t opening;
+} tlbridge_side;
 
-enum { A, B, C, D, E, CHANNELS };
+#ifndef TLBRIDGE_CHANNELS
+#define TLBRIDGE_CHANNELS
+enum { TL_A, TL_B, TL_C, TL_D, TL_E, TL_CHANNELS };
+#endif
 
 /* The calls of a pair on one channel, then all calls of a pair. */
 typedef struct {
-    bool (*ready)(side *);
-    uint8_t (*offer)(side *, const tl_beat *, const uint8_t *);
-    bool (*take)(side *, tl_beat *, uint8_t *);
-    uint8_t (*close)(side *);
-} channel_calls;
+    bool (*ready)(tlbridge_side *);
+    uint8_t (*offer)(tlbridge_side *, const tl_beat *, const uint8_t *);
+    bool (*take)(tlbridge_side *, tl_beat *, uint8_t *);
+    uint8_t (*close)(tlbridge_side *);
+} tlbridge_channel_calls;
 
 typedef struct {
     unsigned client, manager;
-    channel_calls of[CHANNELS];
-    uint8_t (*open)(side *, side *, size_t);
-    void (*free)(side *, side *);
-    size_t (*pump_client)(side *);
-    size_t (*pump_manager)(side *);
-    size_t (*fetch_client)(side *);
-    size_t (*fetch_manager)(side *);
-    uint8_t (*meet)(side *, side *, tl_standings *);
-    uint8_t (*settle)(side *, side *, tl_standings *);
+    tlbridge_channel_calls of[TL_CHANNELS];
+    uint8_t (*open)(tlbridge_side *, tlbridge_side *, size_t);
+    void (*free)(tlbridge_side *, tlbridge_side *);
+    size_t (*pump_client)(tlbridge_side *);
+    size_t (*pump_manager)(tlbridge_side *);
+    size_t (*fetch_client)(tlbridge_side *);
+    size_t (*fetch_manager)(tlbridge_side *);
+    uint8_t (*meet)(tlbridge_side *, tlbridge_side *, tl_standings *);
+    uint8_t (*settle)(tlbridge_side *, tlbridge_side *, tl_standings *);
     void (*text)(uint8_t, tl_text *);
-} pair_calls;
+} tlbridge_pair_calls;
 
 /* Both sides of a bridge and the calls of its pair. All zero means never opened. */
-typedef struct {
-    const pair_calls *calls;
-    side client, manager;
-} both_sides;
+typedef struct tlbridge_sides {
+    const tlbridge_pair_calls *calls;
+    tlbridge_side client, manager;
+} tlbridge_sides;
 
 /* Declares the calls of a pair, and defines the same calls over the common handle type. */
-#define NAME(cw, mw, call) NAME_OF(cw, mw, call)
-#define NAME_OF(cw, mw, call) call##_##cw##_##mw
-#define AS(cw, mw, which, handle) ((TL_CALL(cw, mw, which) *)(handle))
-#define CHANNEL_CALLS(cw, mw, x, near, far) \
-    static bool NAME(cw, mw, ready_##x)(side *s) { return TL_CALL(cw, mw, ready_##x)(AS(cw, mw, near, s)); } \
-    static uint8_t NAME(cw, mw, offer_##x)(side *s, const tl_beat *beat, const uint8_t *lanes) { \
-        return TL_CALL(cw, mw, offer_##x)(AS(cw, mw, near, s), beat, lanes); \
+#define TLBRIDGE_NAME(cw, mw, call) TLBRIDGE_NAME_OF(cw, mw, call)
+#define TLBRIDGE_NAME_OF(cw, mw, call) tlbridge_##call##_##cw##_##mw
+#define TLBRIDGE_AS(cw, mw, which, handle) ((TL_CALL(cw, mw, which) *)(handle))
+#define TLBRIDGE_CHANNEL_CALLS(cw, mw, x, near, far) \
+    static bool TLBRIDGE_NAME(cw, mw, ready_##x)(tlbridge_side *s) { return TL_CALL(cw, mw, ready_##x)(TLBRIDGE_AS(cw, mw, near, s)); } \
+    static uint8_t TLBRIDGE_NAME(cw, mw, offer_##x)(tlbridge_side *s, const tl_beat *beat, const uint8_t *lanes) { \
+        return TL_CALL(cw, mw, offer_##x)(TLBRIDGE_AS(cw, mw, near, s), beat, lanes); \
     } \
-    static bool NAME(cw, mw, take_##x)(side *s, tl_beat *beat, uint8_t *lanes) { \
-        return TL_CALL(cw, mw, take_##x)(AS(cw, mw, far, s), beat, lanes); \
+    static bool TLBRIDGE_NAME(cw, mw, take_##x)(tlbridge_side *s, tl_beat *beat, uint8_t *lanes) { \
+        return TL_CALL(cw, mw, take_##x)(TLBRIDGE_AS(cw, mw, far, s), beat, lanes); \
     } \
-    static uint8_t NAME(cw, mw, close_##x)(side *s) { return TL_CALL(cw, mw, close_##x)(AS(cw, mw, near, s)); }
-#define SIDE_CALLS(cw, mw, which) \
-    static size_t NAME(cw, mw, pump_##which)(side *s) { return TL_CALL(cw, mw, pump_##which)(AS(cw, mw, which, s)); } \
-    static size_t NAME(cw, mw, fetch_##which)(side *s) { return TL_CALL(cw, mw, fetch_##which)(AS(cw, mw, which, s)); }
-#define MEETING(cw, mw, call) \
-    static uint8_t NAME(cw, mw, call)(side *s, side *t, tl_standings *all) { \
-        return TL_CALL(cw, mw, call)(AS(cw, mw, client, s), AS(cw, mw, manager, t), all); \
+    static uint8_t TLBRIDGE_NAME(cw, mw, close_##x)(tlbridge_side *s) { return TL_CALL(cw, mw, close_##x)(TLBRIDGE_AS(cw, mw, near, s)); }
+#define TLBRIDGE_SIDE_CALLS(cw, mw, which) \
+    static size_t TLBRIDGE_NAME(cw, mw, pump_##which)(tlbridge_side *s) { return TL_CALL(cw, mw, pump_##which)(TLBRIDGE_AS(cw, mw, which, s)); } \
+    static size_t TLBRIDGE_NAME(cw, mw, fetch_##which)(tlbridge_side *s) { return TL_CALL(cw, mw, fetch_##which)(TLBRIDGE_AS(cw, mw, which, s)); }
+#define TLBRIDGE_MEETING(cw, mw, call) \
+    static uint8_t TLBRIDGE_NAME(cw, mw, call)(tlbridge_side *s, tlbridge_side *t, tl_standings *all) { \
+        return TL_CALL(cw, mw, call)(TLBRIDGE_AS(cw, mw, client, s), TLBRIDGE_AS(cw, mw, manager, t), all); \
     }
-#define CALLS(cw, mw) \
+#define TLBRIDGE_CALLS_OF(cw, mw) \
     TLBRIDGE(cw, mw) \
-    CHANNEL_CALLS(cw, mw, a, client, manager) \
-    CHANNEL_CALLS(cw, mw, b, manager, client) \
-    CHANNEL_CALLS(cw, mw, c, client, manager) \
-    CHANNEL_CALLS(cw, mw, d, manager, client) \
-    CHANNEL_CALLS(cw, mw, e, client, manager) \
-    SIDE_CALLS(cw, mw, client) \
-    SIDE_CALLS(cw, mw, manager) \
-    MEETING(cw, mw, meet) \
-    MEETING(cw, mw, settle) \
-    static uint8_t NAME(cw, mw, open)(side *s, side *t, size_t ring) { \
-        return TL_CALL(cw, mw, open)(AS(cw, mw, client, s), AS(cw, mw, manager, t), ring, 0); \
+    TLBRIDGE_CHANNEL_CALLS(cw, mw, a, client, manager) \
+    TLBRIDGE_CHANNEL_CALLS(cw, mw, b, manager, client) \
+    TLBRIDGE_CHANNEL_CALLS(cw, mw, c, client, manager) \
+    TLBRIDGE_CHANNEL_CALLS(cw, mw, d, manager, client) \
+    TLBRIDGE_CHANNEL_CALLS(cw, mw, e, client, manager) \
+    TLBRIDGE_SIDE_CALLS(cw, mw, client) \
+    TLBRIDGE_SIDE_CALLS(cw, mw, manager) \
+    TLBRIDGE_MEETING(cw, mw, meet) \
+    TLBRIDGE_MEETING(cw, mw, settle) \
+    static uint8_t TLBRIDGE_NAME(cw, mw, open)(tlbridge_side *s, tlbridge_side *t, size_t ring) { \
+        return TL_CALL(cw, mw, open)(TLBRIDGE_AS(cw, mw, client, s), TLBRIDGE_AS(cw, mw, manager, t), ring, 0); \
     } \
-    static void NAME(cw, mw, free)(side *s, side *t) { \
-        TL_CALL(cw, mw, free_client)(AS(cw, mw, client, s)); \
-        TL_CALL(cw, mw, free_manager)(AS(cw, mw, manager, t)); \
+    static void TLBRIDGE_NAME(cw, mw, free)(tlbridge_side *s, tlbridge_side *t) { \
+        TL_CALL(cw, mw, free_client)(TLBRIDGE_AS(cw, mw, client, s)); \
+        TL_CALL(cw, mw, free_manager)(TLBRIDGE_AS(cw, mw, manager, t)); \
     }
-TLBRIDGE_OF_EACH_PAIR(CALLS)
+TLBRIDGE_OF_EACH_PAIR(TLBRIDGE_CALLS_OF)
 
-#define CHANNEL_ENTRY(cw, mw, x) \
-    {NAME(cw, mw, ready_##x), NAME(cw, mw, offer_##x), NAME(cw, mw, take_##x), NAME(cw, mw, close_##x)}
-#define ENTRY(cw, mw) \
+#define TLBRIDGE_CHANNEL_ENTRY(cw, mw, x) \
+    {TLBRIDGE_NAME(cw, mw, ready_##x), TLBRIDGE_NAME(cw, mw, offer_##x), TLBRIDGE_NAME(cw, mw, take_##x), TLBRIDGE_NAME(cw, mw, close_##x)}
+#define TLBRIDGE_ENTRY(cw, mw) \
     {cw, \
      mw, \
-     {CHANNEL_ENTRY(cw, mw, a), CHANNEL_ENTRY(cw, mw, b), CHANNEL_ENTRY(cw, mw, c), CHANNEL_ENTRY(cw, mw, d), CHANNEL_ENTRY(cw, mw, e)}, \
-     NAME(cw, mw, open), \
-     NAME(cw, mw, free), \
-     NAME(cw, mw, pump_client), \
-     NAME(cw, mw, pump_manager), \
-     NAME(cw, mw, fetch_client), \
-     NAME(cw, mw, fetch_manager), \
-     NAME(cw, mw, meet), \
-     NAME(cw, mw, settle), \
+     {TLBRIDGE_CHANNEL_ENTRY(cw, mw, a), TLBRIDGE_CHANNEL_ENTRY(cw, mw, b), TLBRIDGE_CHANNEL_ENTRY(cw, mw, c), TLBRIDGE_CHANNEL_ENTRY(cw, mw, d), TLBRIDGE_CHANNEL_ENTRY(cw, mw, e)}, \
+     TLBRIDGE_NAME(cw, mw, open), \
+     TLBRIDGE_NAME(cw, mw, free), \
+     TLBRIDGE_NAME(cw, mw, pump_client), \
+     TLBRIDGE_NAME(cw, mw, pump_manager), \
+     TLBRIDGE_NAME(cw, mw, fetch_client), \
+     TLBRIDGE_NAME(cw, mw, fetch_manager), \
+     TLBRIDGE_NAME(cw, mw, meet), \
+     TLBRIDGE_NAME(cw, mw, settle), \
      TL_CALL(cw, mw, status_text)},
-static const pair_calls pairs[] = {TLBRIDGE_OF_EACH_PAIR(ENTRY)};
-typedef char compile_with_a_macro_for_each_pair_as_TLBRIDGE_8_4[sizeof pairs > 0 ? 1 : -1];
+static const tlbridge_pair_calls tlbridge_pairs[] = {TLBRIDGE_OF_EACH_PAIR(TLBRIDGE_ENTRY)};
+typedef char compile_with_a_macro_for_each_pair_as_TLBRIDGE_8_4[sizeof tlbridge_pairs > 0 ? 1 : -1];
 
 /* Returns the calls of a pair, or NULL if the program does not link it. */
-static const pair_calls *pair_of(unsigned client, unsigned manager) {
-    for (size_t i = 0; i < sizeof pairs / sizeof *pairs; i++)
-        if (pairs[i].client == client && pairs[i].manager == manager) return &pairs[i];
+static inline const tlbridge_pair_calls *tlbridge_pair_of(unsigned client, unsigned manager) {
+    for (size_t i = 0; i < sizeof tlbridge_pairs / sizeof *tlbridge_pairs; i++)
+        if (tlbridge_pairs[i].client == client && tlbridge_pairs[i].manager == manager) return &tlbridge_pairs[i];
     return NULL;
 }
 
 /* The client sends A, C and E; the manager sends B and D. */
-static bool from_client(int channel) {
+static inline bool tlbridge_from_client(int channel) {
     return channel % 2 == 0;
 }
 
-static side *near_side(both_sides *b, int channel) {
-    return from_client(channel) ? &b->client : &b->manager;
+static inline tlbridge_side *tlbridge_near_side(tlbridge_sides *b, int channel) {
+    return tlbridge_from_client(channel) ? &b->client : &b->manager;
 }
 
-static side *far_side(both_sides *b, int channel) {
-    return from_client(channel) ? &b->manager : &b->client;
+static inline tlbridge_side *tlbridge_far_side(tlbridge_sides *b, int channel) {
+    return tlbridge_from_client(channel) ? &b->manager : &b->client;
 }
 
 /* The calls on a channel. Requires: the bridge was opened. */
-static bool ready_on(both_sides *b, int channel) {
-    return b->calls->of[channel].ready(near_side(b, channel));
+static inline bool tlbridge_ready_on(tlbridge_sides *b, int channel) {
+    return b->calls->of[channel].ready(tlbridge_near_side(b, channel));
 }
 
-static uint8_t offer_on(both_sides *b, int channel, const tl_beat *beat, const uint8_t *lanes) {
-    return b->calls->of[channel].offer(near_side(b, channel), beat, lanes);
+static inline uint8_t tlbridge_offer_on(tlbridge_sides *b, int channel, const tl_beat *beat, const uint8_t *lanes) {
+    return b->calls->of[channel].offer(tlbridge_near_side(b, channel), beat, lanes);
 }
 
-static bool take_on(both_sides *b, int channel, tl_beat *beat, uint8_t *lanes) {
-    return b->calls->of[channel].take(far_side(b, channel), beat, lanes);
+static inline bool tlbridge_take_on(tlbridge_sides *b, int channel, tl_beat *beat, uint8_t *lanes) {
+    return b->calls->of[channel].take(tlbridge_far_side(b, channel), beat, lanes);
 }
 
-static uint8_t close_on(both_sides *b, int channel) {
-    return b->calls->of[channel].close(near_side(b, channel));
+static inline uint8_t tlbridge_close_on(tlbridge_sides *b, int channel) {
+    return b->calls->of[channel].close(tlbridge_near_side(b, channel));
 }
 
 #endif

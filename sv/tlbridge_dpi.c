@@ -7,7 +7,7 @@
 #include <svdpi.h>
 
 /* The glue does not have this pair of widths, or data has a byte on a lane that the link does not have. */
-#define OTHER_WIDTH 250
+#define OTHER_WIDTH 247
 
 #ifdef __cplusplus
 extern "C" {
@@ -15,18 +15,18 @@ extern "C" {
 
 /* A chandle points to both sides of a bridge. */
 void *tlbridge_handle(void) {
-    return calloc(1, sizeof(both_sides));
+    return calloc(1, sizeof(tlbridge_sides));
 }
 
 void tlbridge_free(void *bridge) {
-    both_sides *b = (both_sides *)bridge;
+    tlbridge_sides *b = (tlbridge_sides *)bridge;
     if (b->calls != NULL) b->calls->free(&b->client, &b->manager);
     b->calls = NULL;
 }
 
 uint8_t tlbridge_open(void *bridge, int client, int manager, uint64_t ring) {
-    both_sides *b = (both_sides *)bridge;
-    const pair_calls *calls = pair_of((unsigned)client, (unsigned)manager);
+    tlbridge_sides *b = (tlbridge_sides *)bridge;
+    const tlbridge_pair_calls *calls = tlbridge_pair_of((unsigned)client, (unsigned)manager);
     tlbridge_free(bridge);
     if (calls == NULL) return OTHER_WIDTH;
     uint8_t status = calls->open(&b->client, &b->manager, ring);
@@ -36,7 +36,7 @@ uint8_t tlbridge_open(void *bridge, int client, int manager, uint64_t ring) {
 
 #define MOVE(call, which) \
     uint64_t tlbridge_##call(void *bridge) { \
-        both_sides *b = (both_sides *)bridge; \
+        tlbridge_sides *b = (tlbridge_sides *)bridge; \
         return b->calls != NULL ? b->calls->call(&b->which) : 0; \
     }
 MOVE(pump_client, client)
@@ -45,14 +45,14 @@ MOVE(fetch_client, client)
 MOVE(fetch_manager, manager)
 
 uint8_t tlbridge_settle(void *bridge) {
-    both_sides *b = (both_sides *)bridge;
+    tlbridge_sides *b = (tlbridge_sides *)bridge;
     tl_standings all;
     if (b->calls == NULL) return TL_NOT_OPEN;
     return b->calls->settle(&b->client, &b->manager, &all);
 }
 
 static bool standings(void *bridge, tl_standings *all) {
-    both_sides *b = (both_sides *)bridge;
+    tlbridge_sides *b = (tlbridge_sides *)bridge;
     return b->calls != NULL && b->calls->meet(&b->client, &b->manager, all) == TL_OK;
 }
 
@@ -66,7 +66,7 @@ svBit tlbridge_standing(void *bridge, uint8_t letter, uint64_t *staged, uint64_t
     tl_counts of = {0, 0, 0};
     bool held = standings(bridge, &all);
     if (held && letter >= 'A' && letter <= 'E') {
-        tl_counts counts[CHANNELS] = {all.a, all.b, all.c, all.d, all.e};
+        tl_counts counts[TL_CHANNELS] = {all.a, all.b, all.c, all.d, all.e};
         of = counts[letter - 'A'];
     }
     *staged = of.staged;
@@ -78,7 +78,7 @@ svBit tlbridge_standing(void *bridge, uint8_t letter, uint64_t *staged, uint64_t
 /* Returns the name and the sentence of a status, including the one of the glue. */
 static tl_text text_of(uint8_t answer) {
     tl_text text;
-    pairs[0].text(answer, &text);
+    tlbridge_pairs[0].text(answer, &text);
     if (answer == OTHER_WIDTH) {
         strcpy(text.name, "OtherWidth");
         strcpy(text.sentence, "the glue is not compiled for this pair of widths, or data is on a lane that the link does not have");
@@ -101,19 +101,19 @@ const char *tlbridge_status_text(uint8_t answer) {
 
 #define READY_AND_CLOSE(x, channel) \
     svBit tlbridge_ready_##x(void *bridge) { \
-        both_sides *b = (both_sides *)bridge; \
-        return b->calls != NULL && ready_on(b, channel); \
+        tlbridge_sides *b = (tlbridge_sides *)bridge; \
+        return b->calls != NULL && tlbridge_ready_on(b, channel); \
     } \
     uint8_t tlbridge_close_##x(void *bridge) { \
-        both_sides *b = (both_sides *)bridge; \
+        tlbridge_sides *b = (tlbridge_sides *)bridge; \
         if (b->calls == NULL) return TL_NOT_OPEN; \
-        return close_on(b, channel); \
+        return tlbridge_close_on(b, channel); \
     }
-READY_AND_CLOSE(a, A)
-READY_AND_CLOSE(b, B)
-READY_AND_CLOSE(c, C)
-READY_AND_CLOSE(d, D)
-READY_AND_CLOSE(e, E)
+READY_AND_CLOSE(a, TL_A)
+READY_AND_CLOSE(b, TL_B)
+READY_AND_CLOSE(c, TL_C)
+READY_AND_CLOSE(d, TL_D)
+READY_AND_CLOSE(e, TL_E)
 
 /* Data has eight bits for each lane and a mask has one, lane 0 lowest, in words of 32 bits. */
 enum { DATA_WORDS = TL_WIDEST / 4, MASK_WORDS = TL_WIDEST / 32 };
@@ -124,10 +124,10 @@ static uint64_t two_words(const svBitVecVal *words) {
 
 /* Offers a beat on a channel. `mask` and `data` are NULL if the channel does not have them. */
 static uint8_t offer(void *bridge, int x, tl_beat *beat, const svBitVecVal *mask, const svBitVecVal *data) {
-    both_sides *b = (both_sides *)bridge;
+    tlbridge_sides *b = (tlbridge_sides *)bridge;
     uint8_t lanes[TL_WIDEST] = {0};
     if (b->calls == NULL) return TL_NOT_OPEN;
-    unsigned width = from_client(x) ? b->calls->client : b->calls->manager;
+    unsigned width = tlbridge_from_client(x) ? b->calls->client : b->calls->manager;
     if (mask != NULL) {
         beat->mask = two_words(mask);
         beat->mask_high = two_words(mask + 2);
@@ -136,15 +136,15 @@ static uint8_t offer(void *bridge, int x, tl_beat *beat, const svBitVecVal *mask
         lanes[i] = (uint8_t)(data[i / 4] >> (8 * (i % 4)));
         if (i >= width && lanes[i] != 0) return OTHER_WIDTH;
     }
-    return offer_on(b, x, beat, lanes);
+    return tlbridge_offer_on(b, x, beat, lanes);
 }
 
 /* Takes a far beat of a channel. Without one it returns 0 and writes zeros. */
 static svBit take(void *bridge, int x, tl_beat *beat, svBitVecVal *mask, svBitVecVal *data) {
-    both_sides *b = (both_sides *)bridge;
+    tlbridge_sides *b = (tlbridge_sides *)bridge;
     uint8_t lanes[TL_WIDEST] = {0};
     memset(beat, 0, sizeof *beat);
-    bool some = b->calls != NULL && take_on(b, x, beat, lanes);
+    bool some = b->calls != NULL && tlbridge_take_on(b, x, beat, lanes);
     for (int i = 0; mask != NULL && i < MASK_WORDS; i++) mask[i] = (svBitVecVal)((i < 2 ? beat->mask : beat->mask_high) >> (32 * (i % 2)));
     for (int i = 0; data != NULL && i < DATA_WORDS; i++) {
         data[i] = 0;
@@ -182,20 +182,20 @@ static tl_beat message(uint8_t opcode, uint8_t param, uint8_t size, tl_id source
         *address = beat.address; \
         return some; \
     }
-MASKED(a, A)
-MASKED(b, B)
+MASKED(a, TL_A)
+MASKED(b, TL_B)
 
 uint8_t tlbridge_offer_c(void *bridge, uint8_t opcode, uint8_t param, uint8_t size, tl_id source, uint64_t address, const svBitVecVal *data,
                          svBit corrupt) {
     tl_beat beat = message(opcode, param, size, source, corrupt);
     beat.address = address;
-    return offer(bridge, C, &beat, NULL, data);
+    return offer(bridge, TL_C, &beat, NULL, data);
 }
 
 svBit tlbridge_take_c(void *bridge, uint8_t *opcode, uint8_t *param, uint8_t *size, tl_id *source, uint64_t *address, svBitVecVal *data,
                       svBit *corrupt) {
     tl_beat beat;
-    svBit some = take(bridge, C, &beat, NULL, data);
+    svBit some = take(bridge, TL_C, &beat, NULL, data);
     HEAD_OF(beat);
     *address = beat.address;
     return some;
@@ -206,13 +206,13 @@ uint8_t tlbridge_offer_d(void *bridge, uint8_t opcode, uint8_t param, uint8_t si
     tl_beat beat = message(opcode, param, size, source, corrupt);
     beat.sink = sink;
     beat.denied = denied;
-    return offer(bridge, D, &beat, NULL, data);
+    return offer(bridge, TL_D, &beat, NULL, data);
 }
 
 svBit tlbridge_take_d(void *bridge, uint8_t *opcode, uint8_t *param, uint8_t *size, tl_id *source, tl_id *sink, svBit *denied,
                       svBitVecVal *data, svBit *corrupt) {
     tl_beat beat;
-    svBit some = take(bridge, D, &beat, NULL, data);
+    svBit some = take(bridge, TL_D, &beat, NULL, data);
     HEAD_OF(beat);
     *sink = beat.sink;
     *denied = beat.denied;
@@ -222,12 +222,12 @@ svBit tlbridge_take_d(void *bridge, uint8_t *opcode, uint8_t *param, uint8_t *si
 uint8_t tlbridge_offer_e(void *bridge, tl_id sink) {
     tl_beat beat = message(0, 0, 0, 0, 0);
     beat.sink = sink;
-    return offer(bridge, E, &beat, NULL, NULL);
+    return offer(bridge, TL_E, &beat, NULL, NULL);
 }
 
 svBit tlbridge_take_e(void *bridge, tl_id *sink) {
     tl_beat beat;
-    svBit some = take(bridge, E, &beat, NULL, NULL);
+    svBit some = take(bridge, TL_E, &beat, NULL, NULL);
     *sink = beat.sink;
     return some;
 }

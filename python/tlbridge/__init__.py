@@ -1,4 +1,4 @@
-"""The proved TileLink model in Python: both sides of a bridge, the answer to a trace, and a scoreboard for a design.
+"""The TileLink model by calls of the proved C library, and a scoreboard. This package itself is not proved.
 
     import tlbridge
 
@@ -11,11 +11,25 @@ The rules are in docs/SPECIFICATION.md. docs/ASSURANCE.md lists what is proved o
 """
 from .beats import Beat
 from .bridge import Bridge, Counts, Side, Standings, Totals
-from .library import MissingLibrary, Refused, Status, load, status_of
-from .scoreboard import Differs, Scoreboard
-from .traces import TraceFault, TraceResult, run_trace
+from .library import MissingLibraryError, RefusedError, Status, load, status_of
+from .scoreboard import DiffersError, Scoreboard
+from .traces import TraceFaultError, TraceResult, run_trace
 
 __all__ = [
-    "Beat", "Bridge", "Counts", "Differs", "MissingLibrary", "Refused", "Scoreboard", "Side", "Standings", "Status", "Totals", "TraceFault",
-    "TraceResult", "load", "run_trace", "status_of",
+    "Beat",
+    "Bridge",
+    "Counts",
+    "DiffersError",
+    "MissingLibraryError",
+    "RefusedError",
+    "Scoreboard",
+    "Side",
+    "Standings",
+    "Status",
+    "Totals",
+    "TraceFaultError",
+    "TraceResult",
+    "load",
+    "run_trace",
+    "status_of",
 ]

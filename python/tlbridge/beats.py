@@ -4,25 +4,16 @@ from dataclasses import dataclass, fields
 from typing import Tuple
 
 from .library import BeatFields
+from .protocol import CHANNELS, FIELDS, WIDEST
 
-CHANNELS = "ABCDE"
-WIDEST = 128
-_HEAD = ("opcode", "param", "size", "source")
-# The fields that a beat of each channel has.
-FIELDS = {
-    "A": (*_HEAD, "address", "mask", "data", "corrupt"),
-    "B": (*_HEAD, "address", "mask", "data", "corrupt"),
-    "C": (*_HEAD, "address", "data", "corrupt"),
-    "D": (*_HEAD, "sink", "denied", "data", "corrupt"),
-    "E": ("sink",),
-}
 # The bits of each numeric field in the library. The model decides which of these values are legal.
 _BITS = {"opcode": 8, "param": 8, "size": 8, "source": 16, "sink": 16, "address": 64, "mask": WIDEST}
 
 
 @dataclass(frozen=True)
 class Beat:
-    """One transfer. `mask` has bit i for lane i. `data` has one byte for each lane, lane 0 first; a beat without data may leave it out."""
+    """One transfer. `mask` has bit i for lane i. `data` has one byte for each lane, lane 0 first; a beat without data
+    may leave it out."""
 
     opcode: int = 0
     param: int = 0
@@ -48,7 +39,8 @@ class Beat:
         object.__setattr__(self, "data", bytes(self.data))
 
     def passed(self, channel: str, width: int) -> Tuple[BeatFields, bytes]:
-        """Returns the fields and the lanes for a call of the library, on a link of `width` bytes. Raises ValueError if they do not fit."""
+        """Returns the fields and the lanes for a call of the library, on a link of `width` bytes. Raises ValueError if
+        they do not fit."""
         if channel not in FIELDS:
             raise ValueError(f"a channel is one of {', '.join(CHANNELS)}, not {channel!r}")
         for field in fields(self):
@@ -57,8 +49,16 @@ class Beat:
         if channel != "E" and len(self.data) not in (0, width):
             raise ValueError(f"the link has {width} lanes, but data has {len(self.data)} bytes")
         passed = BeatFields(
-            address=self.address, mask=self.mask & (1 << 64) - 1, mask_high=self.mask >> 64, source=self.source, sink=self.sink,
-            opcode=self.opcode, param=self.param, size=self.size, denied=self.denied, corrupt=self.corrupt,
+            address=self.address,
+            mask=self.mask & (1 << 64) - 1,
+            mask_high=self.mask >> 64,
+            source=self.source,
+            sink=self.sink,
+            opcode=self.opcode,
+            param=self.param,
+            size=self.size,
+            denied=self.denied,
+            corrupt=self.corrupt,
         )
         return passed, self.data.ljust(width, b"\0")
 

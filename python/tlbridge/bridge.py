@@ -5,11 +5,22 @@ from dataclasses import astuple, dataclass
 from types import TracebackType
 from typing import Any, Iterator, Optional, Type
 
-from .beats import CHANNELS, Beat, beat_of
-from .library import (NOT_SENT, NOT_TAKEN, VERSION, BeatFields, HandleFields, MissingLibrary, StandingsFields, TotalsFields, check, load,
-                      pairs)
-
-FROM_CLIENT = "ACE"
+from .beats import Beat, beat_of
+from .library import (
+    NOT_SENT,
+    NOT_TAKEN,
+    VERSION,
+    BeatFields,
+    HandleFields,
+    MissingLibraryError,
+    StandingsFields,
+    TotalsFields,
+    call_of,
+    check,
+    load,
+    pairs,
+)
+from .protocol import CHANNELS, FROM_CLIENT
 
 # Tells bridges apart: a receipt is refused by a side of another bridge.
 _numbers = itertools.count(1)
@@ -42,12 +53,17 @@ class Standings:
 
 @dataclass(frozen=True)
 class Totals:
-    """How many far beats a side has sent on each channel that it sends, and how many were taken from it on each of the others.
+    """How many far beats a side has sent on each channel that it sends, and how many were taken from it on each of the
+    others.
 
-    `bridge` is the number of its bridge in this process. A receipt of a side has the same fields. Each number is exact if it is below 2**63.
+    A receipt of a side has the same fields. `bridge` is the number of its bridge in this process, and `opening` counts
+    how often its handle was opened. `finished` is 1 in a receipt of the client's side, 2 in one of the manager's, and 0
+    if this is no receipt. Each number is exact if it is below 2**63.
     """
 
     bridge: int
+    opening: int
+    finished: int
     a: int
     b: int
     c: int
@@ -66,7 +82,9 @@ class Side:
     def _call(self, name: str, channel: str, sends: bool) -> Any:
         if channel not in CHANNELS or len(channel) != 1 or (channel in self._sends) != sends:
             lawful = self._sends if sends else "".join(x for x in CHANNELS if x not in self._sends)
-            raise ValueError(f"the {self._name}'s side {'sends' if sends else 'takes'} {', '.join(lawful)}, and not {channel!r}")
+            raise ValueError(
+                f"the {self._name}'s side {'sends' if sends else 'takes'} {', '.join(lawful)}, and not {channel!r}"
+            )
         return self._calls.of(f"{name}_{channel.lower()}")
 
     def ready(self, channel: str) -> bool:
@@ -74,7 +92,8 @@ class Side:
         return bool(self._call("ready", channel, True)(c.byref(self._handle)))
 
     def offer(self, channel: str, beat: Beat) -> None:
-        """Offers a near beat. Raises Refused, and changes nothing, for faults 1 to 10, and with 254 if the channel is not ready."""
+        """Offers a near beat. Raises RefusedError, and changes nothing, for faults 1 to 10, and with 254 if the channel
+        is not ready."""
         call = self._call("offer", channel, True)
         passed, lanes = beat.passed(channel, self.width)
         check(call(c.byref(self._handle), c.byref(passed), lanes))
@@ -87,7 +106,7 @@ class Side:
         return beat_of(channel, came, bytes(lanes))
 
     def close(self, channel: str) -> None:
-        """Ends the offers of a channel. Staged beats still cross. Raises Refused within a burst."""
+        """Ends the offers of a channel. Staged beats still cross. Raises RefusedError within a burst."""
         check(self._call("close", channel, True)(c.byref(self._handle)))
 
     def pump(self) -> int:
@@ -99,7 +118,8 @@ class Side:
         return int(self._calls.of(f"fetch_{self._name}")(c.byref(self._handle)))
 
     def totals(self) -> Totals:
-        """Returns how many far beats this side has moved into its rings, and how many were taken from it, on each channel."""
+        """Returns how many far beats this side has moved into its rings, and how many were taken from it, on each
+        channel. It is no receipt."""
         fields = TotalsFields()
         check(self._calls.of(f"count_{self._name}")(c.byref(self._handle), c.byref(fields)))
         return _totals_of(fields)
@@ -107,7 +127,8 @@ class Side:
     def finish(self) -> Optional[Totals]:
         """Returns the receipt of this side if it has sent everything: its channels are closed, and nothing is staged.
 
-        Otherwise returns None: close the channels, pump, and call again. The side can still fetch and take. The receipt may go to any thread.
+        Otherwise returns None: close the channels, pump, and call again. The side can still fetch and take. The receipt
+        may go to any thread.
         """
         fields = TotalsFields()
         status = self._calls.of(f"finish_{self._name}")(c.byref(self._handle), c.byref(fields))
@@ -117,9 +138,10 @@ class Side:
         return _totals_of(fields)
 
     def drained(self, receipt: Totals) -> bool:
-        """Returns whether as many beats were taken from this side as the other side's receipt counts: then no more will come.
+        """Returns whether as many beats were taken from this side as the other side's receipt counts: then no more will
+        come.
 
-        Raises Refused if the receipt is of another bridge.
+        Raises RefusedError if the receipt is of another bridge, or is not one that `finish` of the other side returned.
         """
         fields = TotalsFields(*astuple(receipt))
         status = self._calls.of(f"drained_{self._name}")(c.byref(self._handle), c.byref(fields))
@@ -137,22 +159,21 @@ class _Calls:
     """The calls of one pair of widths."""
 
     def __init__(self, client: int, manager: int):
-        self._library, self._prefix = load(), f"tl_{client}_{manager}_"
+        self._library, self._widths = load(), (client, manager)
         try:
             self.of("version")
         except AttributeError:
-            raise MissingLibrary(f"the library has no pair {client}:{manager}; it has {pairs()}") from None
+            raise MissingLibraryError(f"the library has no pair {client}:{manager}; it has {pairs()}") from None
         if (version := self.of("version")()) != VERSION:
-            raise MissingLibrary(f"the library is of version {version}, and this package of {VERSION}")
+            raise MissingLibraryError(f"the library is of version {version}, and this package of {VERSION}")
 
     def of(self, name: str) -> Any:
-        call = getattr(self._library, self._prefix + name)
-        call.restype = c.c_size_t if name.startswith(("pump", "fetch")) else c.c_uint32 if name == "version" else c.c_uint8
-        return call
+        return call_of(self._library, *self._widths, name)
 
 
 class Bridge:
-    """A bridge between a client's link of `client` bytes and a manager's of `manager`, each 1 to 128. Each ring holds `ring` beats, 1 to 4,096."""
+    """A bridge between a client's link of `client` bytes and a manager's of `manager`, each 1 to 128. Each ring holds
+    `ring` beats, 1 to 4,096."""
 
     def __init__(self, client: int, manager: int, ring: int = 4096):
         self._calls = _Calls(client, manager)
@@ -161,7 +182,7 @@ class Bridge:
         self._both = (c.byref(self.client._handle), c.byref(self.manager._handle))
         if not 0 <= ring < 1 << 64:
             raise ValueError(f"a ring of {ring} beats")
-        check(self._calls.of("open")(*self._both, c.c_size_t(ring), c.c_uint64(next(_numbers))))
+        check(self._calls.of("open")(*self._both, ring, next(_numbers)))
 
     def sender(self, channel: str) -> Side:
         """Returns the side that offers on this channel."""
@@ -196,7 +217,8 @@ class Bridge:
         return self._standings("meet")
 
     def settle(self) -> Standings:
-        """Moves beats on both sides until none can move, and then returns as `meet` does. Requires that no other thread uses either side."""
+        """Moves beats on both sides until none can move, and then returns as `meet` does. Requires that no other thread
+        uses either side."""
         return self._standings("settle")
 
     def free(self) -> None:
@@ -207,7 +229,9 @@ class Bridge:
     def __enter__(self) -> "Bridge":
         return self
 
-    def __exit__(self, kind: Optional[Type[BaseException]], value: Optional[BaseException], trace: Optional[TracebackType]) -> None:
+    def __exit__(
+        self, kind: Optional[Type[BaseException]], value: Optional[BaseException], trace: Optional[TracebackType]
+    ) -> None:
         self.free()
 
     def __del__(self) -> None:

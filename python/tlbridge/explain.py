@@ -9,9 +9,9 @@ docs/SPECIFICATION.md, section 13, says what each field means. The names here ar
 """
 import json
 from dataclasses import dataclass, fields
-from typing import Any, Dict, Iterable, Iterator, Optional, Tuple, Type, TypeVar, Union
+from typing import Any, Dict, Iterable, Iterator, Optional, Tuple, Type, TypeVar, Union, cast
 
-from .beats import CHANNELS
+from .protocol import CHANNELS
 
 Made = TypeVar("Made")
 
@@ -131,7 +131,7 @@ Record = Union[Line, Summary, BadTrace]
 
 def _made(kind: Type[Made], values: Dict[str, Any], **more: Any) -> Made:
     """Makes a record of this kind; fields that it does not know are left out."""
-    known = {field.name for field in fields(kind)}  # type: ignore[arg-type]
+    known = {field.name for field in fields(cast(Any, kind))}
     return kind(**{**{name: value for name, value in values.items() if name in known}, **more})
 
 
@@ -144,7 +144,11 @@ def _far(values: Dict[str, Any]) -> FarBeat:
 
 
 def _line(values: Dict[str, Any]) -> Line:
-    more: Dict[str, Any] = {"far": tuple(map(_far, values["far"])), "lanes": tuple(values.get("lanes", ())), "fault": _fault(values)}
+    more: Dict[str, Any] = {
+        "far": tuple(map(_far, values["far"])),
+        "lanes": tuple(values.get("lanes", ())),
+        "fault": _fault(values),
+    }
     more["remarks"] = tuple(_made(Remark, remark) for remark in values["remarks"])
     if "address" in values:
         more["address"] = int(values["address"], 16)

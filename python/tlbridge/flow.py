@@ -1,22 +1,9 @@
 """Which bursts and requests are outstanding on a link, as its accepted beats show it."""
 from __future__ import annotations
 
-from typing import Dict, List, Tuple
+from typing import Dict, List, Optional, Tuple
 
-from .beats import CHANNELS
-
-WIDTHS = (1, 2, 4, 8, 16, 32, 64, 128)
-FROM_CLIENT = "ACE"
-# The opcodes whose messages carry data.
-CARRIES = {"A": frozenset(range(4)), "B": frozenset(range(4)), "C": frozenset((1, 3, 5, 7)), "D": frozenset((1, 5)), "E": frozenset(())}
-GRANTS = (4, 5)
-RELEASES = (6, 7)
-RELEASE_ACK = 6
-
-
-def beats_of(channel: str, opcode: int, size: int, width: int) -> int:
-    """Returns the number of beats of a message of 2^size bytes on a link of `width` bytes."""
-    return max((1 << size) // width, 1) if opcode in CARRIES[channel] else 1
+from .protocol import CHANNELS, GRANTS, RELEASE_ACK, RELEASES, beat_count
 
 
 class LinkFlow:
@@ -34,11 +21,16 @@ class LinkFlow:
         self._requests: Dict[Tuple[str, str], int] = {}
         self._bursts = 0  # channels within a burst
         self._is_unclear = False
+        self.began: Optional[Tuple[int, int, str]] = None
 
     def beat(self, line: str) -> bool:
-        """Records an accepted beat. Returns whether it answers a request that was never seen."""
+        """Records an accepted beat. Returns whether it answers a request that was never seen. If the beat is the first
+        one of a message, `began` is its opcode, size and source, otherwise None.
+        """
         channel, digits = line[0], self.digits
+        self.began = None
         if channel == "E":
+            self.began = 0, 0, ""
             self.messages["E"] += 1
             return not self._answered("D", line[2:])
         head = line[: 8 + digits]
@@ -56,11 +48,12 @@ class LinkFlow:
             self._is_unclear = True
             return False
         self._heads[channel] = head
-        left = self.beats_left[channel] = beats_of(channel, opcode, size, self.width) - 1
+        left = self.beats_left[channel] = beat_count(channel, opcode, size, self.width) - 1
         if left:
             self._bursts += 1
         self.messages[channel] += 1
         source, sink = head[8:], line[9 + digits : 9 + 2 * digits]
+        self.began = opcode, size, source
         return self._message(channel, opcode, source, sink)
 
     def _message(self, channel: str, opcode: int, source: str, sink: str) -> bool:
@@ -89,4 +82,6 @@ class LinkFlow:
     def outstanding(self) -> List[str]:
         """Returns the outstanding bursts and requests, as text."""
         words = [f"a burst on {channel}" for channel, left in self.beats_left.items() if left]
-        return words + [f"{channel} {'sink' if channel == 'D' else 'source'} {name}" for channel, name in sorted(self._requests)]
+        return words + [
+            f"{channel} {'sink' if channel == 'D' else 'source'} {name}" for channel, name in sorted(self._requests)
+        ]

@@ -1,7 +1,7 @@
 """Compares the far beats of a design with those that the bridge sends for the same near beats.
 
-It is the judge of tlbridge-compare and of tlbridge-trace. It reads the beats of a part of a run as streams, so its memory does not grow
-with them.
+It is the judge of tlbridge-compare and of tlbridge-trace. It reads the beats of a part of a run as streams, so its
+memory does not grow with them.
 """
 from __future__ import annotations
 
@@ -12,11 +12,12 @@ import subprocess
 import sys
 from collections import deque
 from pathlib import Path
-from typing import Callable, Deque, Dict, Iterator, List, Optional, TextIO, Tuple
+from typing import Callable, Deque, Dict, Iterator, List, NamedTuple, Optional, Sequence, TextIO, Tuple
 
-from .beats import CHANNELS, FIELDS
-from .flow import FROM_CLIENT, beats_of
-from .run import LINKS, MOST_BYTES, Failure, Part, Row
+from .protocol import CHANNELS, FIELDS, FROM_CLIENT, beat_count
+from .levels import NAMES
+from .matching import Finding, LinkMatcher
+from .run import LINKS, MOST_BYTES, FailureError, Part, Row
 
 PUT_PARTIAL = "1"
 VERDICTS = re.compile(r"= ([A-E]) (?:(done|cut) (\d+) (\d+)|(refused|waiting) (\d+) (\w+))$")
@@ -39,7 +40,8 @@ class Places:
 
 
 def program_of(given: Optional[str], note: Callable[[str], None]) -> str:
-    """Finds tlbridge: the named one, the one installed with this package, built in this repository, or in PATH; otherwise the unverified model."""
+    """Finds tlbridge: the named one, the one installed with this package, built in this repository, or in PATH;
+    otherwise the unverified model."""
     if given:
         return _no_wrapper(Path(given)) or given
     program = find_program("tlbridge")
@@ -49,12 +51,18 @@ def program_of(given: Optional[str], note: Callable[[str], None]) -> str:
         if _is_program(path):
             note(MODEL_NOTE)
             return str(path)
-    raise Failure("neither the program tlbridge nor the unverified model tlbridge-model was found: install one, build it in a clone with "
-                  "./tlbridge --version, or name it with --program", 2)
+    raise FailureError(
+        (
+            "neither the program tlbridge nor the unverified model tlbridge-model was found: install one, build it in a"
+            " clone with ./tlbridge --version, or name it with --program"
+        ),
+        2,
+    )
 
 
 def find_program(name: str) -> Optional[str]:
-    """Finds the verified program of this name: the one installed with this package, built in this repository, or in PATH."""
+    """Finds the verified program of this name: the one installed with this package, built in this repository, or in
+    PATH."""
     for path in _places_of(name):
         program = built_program(path.resolve()) if _is_program(path) else None
         if program:
@@ -74,7 +82,8 @@ def _is_program(path: Path) -> bool:
 
 
 def built_program(path: Path) -> Optional[Path]:
-    """Returns the program itself. The wrapper of the repository would first prove and build it, which takes long and prints nothing here."""
+    """Returns the program itself. The wrapper of the repository would first prove and build it, which takes long and
+    prints nothing here."""
     crate = path.parent / "crates" / path.name
     if path.name not in ("tlbridge", "tlexplain") or not crate.is_dir():
         return path
@@ -87,12 +96,19 @@ def _no_wrapper(path: Path) -> Optional[str]:
         return None
     program = built_program(path.resolve())
     if program is None:
-        raise Failure(f"{path} is not built yet: run {path} --version, which proves and builds it, or name the unverified model with "
-                      f"--program {path.with_name('tlbridge-model')}", 2)
-    return str(program if program != path.resolve() else path.absolute())  # (a name without a folder would be searched in PATH)
+        raise FailureError(
+            (
+                f"{path} is not built yet: run {path} --version, which proves and builds it, or name the unverified"
+                f" model with --program {path.with_name('tlbridge-model')}"
+            ),
+            2,
+        )
+    return str(
+        program if program != path.resolve() else path.absolute()
+    )  # (a name without a folder would be searched in PATH)
 
 
-class Fault(Exception):
+class FaultError(Exception):
     """The program found a fault in a line of the trace."""
 
     def __init__(self, line: int, words: str):
@@ -100,17 +116,24 @@ class Fault(Exception):
         self.line = line
 
 
-def ask(program: str, part: Part) -> str:
-    """Runs the program over the trace of a part. Returns the file with its answer, and passes its standard error on."""
+def ask(program: str, part: Part, command: Sequence[str] = ("run", "--sync")) -> str:
+    """Runs a command of the program over the trace of a part. Returns the file with its answer, and passes its standard
+    error on."""
     size = os.path.getsize(part.trace)
     if size > MOST_BYTES:
-        raise Failure(f"the trace has {size} bytes, but tlbridge takes at most {MOST_BYTES}: a run whose beats all have times is cut at quiet moments", 4)
+        raise FailureError(
+            (
+                f"the trace has {size} bytes, but tlbridge takes at most {MOST_BYTES}: a run whose beats all have times"
+                " is split at idle points"
+            ),
+            4,
+        )
     answer, said = os.path.join(part.folder, "answer"), deque(maxlen=20)  # type: str, Deque[str]
     try:
         with open(answer, "wb") as out, open(part.trace, "rb") as trace:
-            process = subprocess.Popen([program, "run", "--sync"], stdin=trace, stdout=out, stderr=subprocess.PIPE)
+            process = subprocess.Popen([program, *command], stdin=trace, stdout=out, stderr=subprocess.PIPE)
     except OSError as error:
-        raise Failure(f"{program}: {error.strerror}", 2) from error
+        raise FailureError(f"{program}: {error.strerror}", 2) from error
     assert process.stderr is not None
     for line in process.stderr:
         words = line.decode("utf-8", "replace")
@@ -122,13 +145,17 @@ def ask(program: str, part: Part) -> str:
         return answer
     fault = re.search(r"line (\d+): (.*)", "\n".join(said))
     if fault and int(fault[1]) > 1:
-        raise Fault(int(fault[1]), fault[2])
+        raise FaultError(int(fault[1]), fault[2])
     how = f"was ended by signal {-status}" if status < 0 else f"ended with status {status}"
-    raise Failure(f"{program} {how}, so there is nothing to compare with" + (f": {said[-1]}" if said else ""), status if status in (3, 4) else 2)
+    raise FailureError(
+        f"{program} {how}, so there is nothing to compare with" + (f": {said[-1]}" if said else ""),
+        status if status in (3, 4) else 2,
+    )
 
 
 def verdicts_of(program: str, part: Part, answer: str) -> Dict[str, Tuple[str, int, str]]:
-    """Returns the report lines of an answer by channel: kind, count and last word. Raises Failure if the answer is incomplete."""
+    """Returns the report lines of an answer by channel: kind, count and last word. Raises FailureError if the answer is
+    incomplete."""
     verdicts, channel, number = {}, "A", 0
     wanted = part.header.replace("tilelink-trace", "tilelink-far")
     with open(answer, encoding="latin-1") as lines:
@@ -140,16 +167,52 @@ def verdicts_of(program: str, part: Part, answer: str) -> Dict[str, Tuple[str, i
                 is_right = found[1] not in verdicts
                 verdicts[found[1]] = (found[2] or found[5], int(found[3] or found[6]), found[4] or found[7])
             else:
-                is_right = not verdicts and FAR_BEAT.match(line) is not None and len(line.split(" ")) == 1 + len(FIELDS[line[0]]) and line[0] >= channel
+                is_right = (
+                    not verdicts
+                    and FAR_BEAT.match(line) is not None
+                    and len(line.split(" ")) == 1 + len(FIELDS[line[0]])
+                    and line[0] >= channel
+                )
                 channel = line[0]
             if not is_right:
-                raise Failure(f"{program} printed no answer to a trace: line {number} is '{line.rstrip()[:80]}'", 2)
+                raise FailureError(
+                    f"{program} printed no answer to a trace: line {number} is '{line.rstrip()[:80]}'", 2
+                )
     if set(verdicts) != set(CHANNELS):
-        raise Failure(f"{program} printed {'nothing' if number == 0 else 'an answer that is not complete'}, so there is nothing to compare with", 2)
+        raise FailureError(
+            (
+                f"{program} printed {'nothing' if number == 0 else 'an answer that is not complete'}, so there is"
+                " nothing to compare with"
+            ),
+            2,
+        )
     return verdicts
 
 
 # ---- differences
+
+
+def level_words(matcher: LinkMatcher, name: str, place: str, found: Finding) -> str:
+    """Returns the line of a report about a fault of the level."""
+    count = matcher.level_counts[name]
+    more = f" ({count} messages)" if count > 1 else ""
+    return f"level {NAMES[matcher.level or 'c']}: {place}: {found.words}: {found.at.line}{more}"
+
+
+FOLLOWS = "; it comes after the first fault, and may follow from it"
+MOST_FOLLOWING = 4  # faults in time that are printed after the first one
+
+
+class Said(NamedTuple):
+    """A text with the time of the beat that it is about, if that is known."""
+
+    words: str
+    time: Optional[int]
+
+    def text(self, after: Optional[int], more: str = "") -> str:
+        """Returns the text, which says so if its beat comes after the time of the first fault."""
+        follows = self.time is not None and after is not None and self.time > after
+        return self.words + more + (FOLLOWS if follows else "")
 
 
 class Channel:
@@ -157,26 +220,45 @@ class Channel:
 
     def __init__(self) -> None:
         self.near = self.expected = 0
-        self.stopped = ""  # the first verdict that is not done, as text
-        self.first: Dict[str, str] = {}  # the first difference of each kind, as text
+        self.stopped: Optional[Said] = None  # the first verdict that is not done
+        self.first: Dict[str, Said] = {}  # the first difference of each kind
         self.counts = {"differ": 0, "are missing": 0, "are unexpected": 0}
+        self.has_size_mismatch = False
 
-    def lines(self) -> Iterator[str]:
-        yield self.stopped or f"done: {self.near} near beats, {self.expected} far beats expected"
-        for kind, words in self.first.items():
+    def lines(self, after: Optional[int] = None) -> Iterator[str]:
+        """Yields the lines of the report. `after` is the time of the first fault, if faults in time were found."""
+        if self.stopped:
+            yield self.stopped.text(after)
+        else:
+            yield f"done: {self.near} near beats, {self.expected} far beats expected"
+        for kind, said in self.first.items():
             count = self.counts[kind]
-            yield words + (f" ({count} beats {kind})" if count > 1 else "")
+            yield said.text(after, f" ({count} beats {kind})" if count > 1 else "")
 
 
 class Judge:
     """Judges the parts of a run in order. `note` is called with each remark that is not a difference."""
 
-    def __init__(self, program: str, widths: Tuple[int, int], places: Places, note: Callable[[str], None], ignore_unmasked: bool = False):
-        self.program, self.widths, self.places, self._note, self._ignore = program, widths, places, note, ignore_unmasked
+    def __init__(
+        self,
+        program: str,
+        widths: Tuple[int, int],
+        places: Places,
+        note: Callable[[str], None],
+        ignore_unmasked: bool = False,
+    ):
+        self.program, self.widths, self.places, self._note, self._ignore = (
+            program,
+            widths,
+            places,
+            note,
+            ignore_unmasked,
+        )
         self.channels = {channel: Channel() for channel in CHANNELS}
         self.is_right = True
         self.beats = 0
-        self._first: Optional[Tuple[int, str]] = None
+        self.smaller: Optional[Tuple[str, str]] = None  # a request on A, and a smaller one that came at its address
+        self._first: Optional[Tuple[int, str, str]] = None  # the time, channel and fault of the first difference
 
     def part(self, part: Part) -> None:
         self.beats += part.beats
@@ -184,8 +266,8 @@ class Judge:
             return
         try:
             answer = ask(self.program, part)
-        except Fault as fault:
-            raise Failure(self._fault(part, fault)) from fault
+        except FaultError as fault:
+            raise FailureError(self._fault(part, fault)) from fault
         verdicts = verdicts_of(self.program, part, answer)
         with open(answer, encoding="ascii") as lines:
             next(lines)
@@ -193,19 +275,67 @@ class Judge:
             for channel in CHANNELS:
                 self._channel(part, channel, expected, verdicts[channel])
 
-    def report(self, say: Callable[[str], None]) -> int:
-        """Prints the result of each channel. Returns the exit status."""
+    def report(
+        self,
+        say: Callable[[str], None],
+        findings: Sequence[Tuple[int, Finding]] = (),
+        matchers: Sequence[LinkMatcher] = (),
+    ) -> int:
+        """Prints the result of each channel. Before it come the findings of `Run.findings`, which have the first fault,
+        and after it those of the level of each link. Returns the exit status.
+        """
         if not self.beats:
-            raise Failure("no beat was accepted on either link, so there is nothing to compare", 2)
+            raise FailureError("no beat was accepted on either link, so there is nothing to compare", 2)
+        findings = [(link, found) for link, found in findings if not self._is_known(found)]
+        self.is_right = self.is_right and not findings
+        leads = bool(findings) and self._leads(findings[0][1])
+        first = self._say_findings(say, findings) if leads else None
         for channel in CHANNELS:
-            for words in self.channels[channel].lines():
+            for words in self.channels[channel].lines(first):
                 say(f"{channel}: {words}")
-        if self._first:
+        if self._first and not leads:
             say(f"first difference: channel {self._first[1]}, time {self._first[0]}")
+        for link, matcher in enumerate(matchers):
+            for name, found in matcher.level_findings.items():
+                self.is_right = False
+                say(level_words(matcher, name, self._at_link(link, found), found))
         return 0 if self.is_right else 1
 
-    def _fault(self, part: Part, fault: Fault) -> str:
-        lines_before = min((row.number for name in CHANNELS for row in first_of(part.rows("near", name))), default=2) - 2
+    def _is_known(self, found: Finding) -> bool:
+        """Whether the verdict of the beat's channel says the same of this very beat."""
+        stopped = self.channels[found.at.channel].stopped
+        return stopped is not None and stopped.time == found.at.time and found.kind == "SizeMismatch"
+
+    def _leads(self, found: Finding) -> bool:
+        """Whether this fault comes before each difference. At the time of a difference, it does unless the difference
+        says more."""
+        if self._first is None:
+            return True
+        time, _, fault = self._first
+        says_more = found.kind == "doubled" or fault == {"lost": "SourceBusy"}.get(found.kind, "NoRequest")
+        return found.seen < time or found.seen == time and says_more
+
+    def _say_findings(self, say: Callable[[str], None], findings: Sequence[Tuple[int, Finding]]) -> int:
+        """Prints the first fault, and the faults in time that come after it. Returns the time of the first one."""
+        say(f"first fault: {self._words(*findings[0])}")
+        rest = findings[1:]
+        for link, found in rest[:MOST_FOLLOWING]:
+            say(f"then: {self._words(link, found)}{FOLLOWS}")
+        if len(rest) > MOST_FOLLOWING:
+            say(f"then: {len(rest) - MOST_FOLLOWING} more requests or responses that do not fit{FOLLOWS}")
+        return findings[0][1].at.time or 0
+
+    def _at_link(self, link: int, found: Finding) -> str:
+        return self.places.of(LINKS[link], Row(found.at.place, found.at.line, 0), False)
+
+    def _words(self, link: int, found: Finding) -> str:
+        other = found.other and self.places.of(LINKS[link], Row(found.other.place, found.other.line, 0), False)
+        return f"channel {found.at.channel}, {self._at_link(link, found)}: {found.words.format(other)}: {found.at.line}"
+
+    def _fault(self, part: Part, fault: FaultError) -> str:
+        lines_before = (
+            min((row.number for name in CHANNELS for row in first_of(part.rows("near", name))), default=2) - 2
+        )
         for channel in CHANNELS:
             for row in part.rows("near", channel):
                 if row.number == fault.line + lines_before:
@@ -220,12 +350,12 @@ class Judge:
         self.is_right = False
         of = self.channels[channel]
         of.counts[kind] += 1
-        of.first.setdefault(kind, words)
+        of.first.setdefault(kind, Said(words, time))
         self._at(channel, time)
 
-    def _at(self, channel: str, time: Optional[int]) -> None:
+    def _at(self, channel: str, time: Optional[int], fault: str = "") -> None:
         if time is not None and (self._first is None or time < self._first[0]):
-            self._first = (time, channel)
+            self._first = (time, channel, fault)
 
     def _channel(self, part: Part, channel: str, expected: "Expected", verdict: Tuple[str, int, str]) -> None:
         kind, count, last = verdict
@@ -235,17 +365,24 @@ class Judge:
         if kind in ("refused", "waiting") or kind == "cut" and not part.is_cut:
             self.is_right = False
             row = next((row for at, row in enumerate(part.rows("near", channel)) if at == count), None)
-            if not of.stopped:
-                of.stopped = self._stopped(part, channel, verdict, row)
-            self._at(channel, self.places.time(row) if row and kind != "cut" else None)
+            time = self.places.time(row) if row and kind != "cut" else None
+            words = self._stopped(part, channel, verdict, row)
+            of.stopped = of.stopped or Said(words, time)
+            of.has_size_mismatch = of.has_size_mismatch or last == "SizeMismatch"
+            self._at(channel, time, last)
         self._compare(part, channel, expected.beats(channel), kind)
 
     def _stopped(self, part: Part, channel: str, verdict: Tuple[str, int, str], row: Optional[Row]) -> str:
         kind, count, last = verdict
         if kind == "cut":
-            return f"cut: {self.channels[channel].near} near beats, {self.channels[channel].expected} far beats expected; the last burst is not complete"
+            return (
+                f"cut: {self.channels[channel].near} near beats, {self.channels[channel].expected} far beats expected;"
+                " the last burst is not complete"
+            )
         place = f", {self._place(channel, row, True)}: {last}: {row.line}" if row else f": {last}"
-        return f"{kind}: near beat {part.near_before[channel] + count}{place}; later beats of the channel are not judged"
+        return (
+            f"{kind}: near beat {part.near_before[channel] + count}{place}; later beats of the channel are not judged"
+        )
 
     def _compare(self, part: Part, channel: str, expected: Iterator[str], kind: str) -> None:
         widths = self.widths if channel in FROM_CLIENT else self.widths[::-1]
@@ -258,19 +395,38 @@ class Judge:
                 missing += 1
                 if not part.is_cut:
                     origin = origins.of(message)
-                    self._differs(channel, "are missing", f"far beat {number + at} is expected but missing: {wanted}{self._begins(channel, origin)}",
-                                  self.places.time(origin) if origin else None)
+                    self._differs(
+                        channel,
+                        "are missing",
+                        f"far beat {number + at} is expected but missing: {wanted}{self._begins(channel, origin)}",
+                        self.places.time(origin) if origin else None,
+                    )
             elif row.line != wanted:
                 words = self._difference(channel, row.line, wanted)
+                if channel == "A" and self.smaller is None and is_part(row.line, wanted):
+                    self.smaller = wanted, row.line
                 if words:
                     begins = self._begins(channel, origins.of(message))
-                    self._differs(channel, "differ", f"far beat {number + at}, {self._place(channel, row, False)}: {words}{begins}", self.places.time(row))
+                    self._differs(
+                        channel,
+                        "differ",
+                        f"far beat {number + at}, {self._place(channel, row, False)}: {words}{begins}",
+                        self.places.time(row),
+                    )
             at += 1
         if missing and part.is_cut:
-            self._note(f"channel {channel}: {missing} expected far beats had not come at time {part.end}, when a part of the run ended; they are not judged")
+            self._note(
+                f"channel {channel}: {missing} expected far beats had not arrived at time {part.end}, when a part of"
+                " the run ended; they are not judged"
+            )
         if kind in ("done", "cut"):
             for row in came:
-                self._differs(channel, "are unexpected", f"far beat {number + at}, {self._place(channel, row, False)}, is unexpected: {row.line}", self.places.time(row))
+                self._differs(
+                    channel,
+                    "are unexpected",
+                    f"far beat {number + at}, {self._place(channel, row, False)}, is unexpected: {row.line}",
+                    self.places.time(row),
+                )
                 at += 1
 
     def _begins(self, channel: str, origin: Optional[Row]) -> str:
@@ -318,7 +474,7 @@ class Origins:
 
 def beats_in(line: str, width: int, channel: str) -> int:
     """Returns the number of beats of the message that begins with a line."""
-    return 1 if channel == "E" else beats_of(channel, int(line[2], 16), int(line[6], 16), width)
+    return 1 if channel == "E" else beat_count(channel, int(line[2], 16), int(line[6], 16), width)
 
 
 def messages(lines: Iterator[str], width: int, channel: str) -> Iterator[Tuple[int, str]]:
@@ -330,6 +486,12 @@ def messages(lines: Iterator[str], width: int, channel: str) -> Iterator[Tuple[i
             left = beats_in(line, width, channel)
         left -= 1
         yield number, line
+
+
+def is_part(came: str, wanted: str) -> bool:
+    """Whether a request on A asks for the first bytes of the wanted one."""
+    mine, its = came.split(" "), wanted.split(" ")
+    return (mine[1], mine[5]) == (its[1], its[5]) and mine[3] < its[3]
 
 
 def first_of(rows: Iterator[Row]) -> List[Row]:

@@ -4,16 +4,16 @@ import ctypes.util
 import os
 from dataclasses import dataclass
 from pathlib import Path
-from typing import Optional
+from typing import Any, Dict, Optional, Tuple
 
-VERSION = 6  # of the library whose structures are here
+VERSION = 7  # of the library whose structures are here
 
 # Statuses of drained and finish that are not refusals in Python.
 NOT_TAKEN = 249
 NOT_SENT = 253
 
 
-class MissingLibrary(Exception):
+class MissingLibraryError(Exception):
     """There is no library, or it has another version, or it does not have the pair of widths."""
 
 
@@ -29,7 +29,7 @@ class Status:
         return f"{self.number} {self.name}: {self.sentence}"
 
 
-class Refused(Exception):
+class RefusedError(Exception):
     """A call was refused, and changed nothing. `status` says why."""
 
     def __init__(self, status: Status):
@@ -43,14 +43,22 @@ class TextFields(c.Structure):
 
 class BeatFields(c.Structure):
     _fields_ = [
-        ("address", c.c_uint64), ("mask", c.c_uint64), ("source", c.c_uint16), ("sink", c.c_uint16), ("opcode", c.c_uint8),
-        ("param", c.c_uint8), ("size", c.c_uint8), ("denied", c.c_uint8), ("corrupt", c.c_uint8), ("reserved", c.c_uint8 * 7),
+        ("address", c.c_uint64),
+        ("mask", c.c_uint64),
+        ("source", c.c_uint16),
+        ("sink", c.c_uint16),
+        ("opcode", c.c_uint8),
+        ("param", c.c_uint8),
+        ("size", c.c_uint8),
+        ("denied", c.c_uint8),
+        ("corrupt", c.c_uint8),
+        ("reserved", c.c_uint8 * 7),
         ("mask_high", c.c_uint64),
     ]
 
 
 class HandleFields(c.Structure):
-    _fields_ = [("impl", c.c_void_p), ("is_open", c.c_bool), ("bridge", c.c_uint64)]
+    _fields_ = [("impl", c.c_void_p), ("is_open", c.c_bool), ("bridge", c.c_uint64), ("opening", c.c_uint64)]
 
 
 class CountsFields(c.Structure):
@@ -62,38 +70,94 @@ class StandingsFields(c.Structure):
 
 
 class TotalsFields(c.Structure):
-    _fields_ = [(name, c.c_uint64) for name in ("bridge", *"abcde")]
+    _fields_ = [(name, c.c_uint64) for name in ("bridge", "opening", "finished", *"abcde")]
 
 
 class AnswerFields(c.Structure):
     _fields_ = [
-        ("text", c.c_void_p), ("length", c.c_size_t), ("line", c.c_uint64), ("impl", c.c_void_p), ("is_open", c.c_bool), ("all_done", c.c_uint8),
+        ("text", c.c_void_p),
+        ("length", c.c_size_t),
+        ("line", c.c_uint64),
+        ("impl", c.c_void_p),
+        ("is_open", c.c_bool),
+        ("all_done", c.c_uint8),
     ]
+
+
+_SIDE, _BEAT, _LANES = c.POINTER(HandleFields), c.POINTER(BeatFields), c.c_char_p
+_TOTALS, _STANDINGS = c.POINTER(TotalsFields), c.POINTER(StandingsFields)
+# The calls that this package makes: for each its result and its arguments, as in include/tlbridge.h and
+# tlbridge_scoreboard.h.
+PROTOTYPES: Dict[str, Tuple[Any, ...]] = {
+    "tl_status_text": (None, c.c_uint8, c.POINTER(TextFields)),
+    "tl_answer_trace": (c.c_uint8, c.c_char_p, c.c_size_t, c.c_uint8, c.POINTER(AnswerFields)),
+    "tl_answer_free": (None, c.POINTER(AnswerFields)),
+    "tl_scoreboard_pairs": (c.c_char_p,),
+    "tl_scoreboard_open": (c.c_void_p, c.c_uint, c.c_uint, c.c_uint),
+    "tl_scoreboard_free": (None, c.c_void_p),
+    "tl_scoreboard_reset": (None, c.c_void_p, c.c_int, c.c_bool, c.c_uint64),
+    "tl_scoreboard_beat": (None, c.c_void_p, c.c_int, c.c_char, c.c_uint64, _BEAT, _LANES),
+    "tl_scoreboard_beats": (c.c_uint64, c.c_void_p),
+    "tl_scoreboard_next_message": (c.c_void_p, c.c_void_p, c.POINTER(c.c_uint64)),
+    "tl_scoreboard_finish": (c.c_uint64, c.c_void_p),
+    "tl_scoreboard_differences": (c.c_uint64, c.c_void_p),
+}
+# The calls of a pair of widths: of both sides, of one of them, and of one channel.
+_OF_A_PAIR: Dict[str, Tuple[Any, ...]] = {
+    "version": (c.c_uint32,),
+    "open": (c.c_uint8, _SIDE, _SIDE, c.c_size_t, c.c_uint64),
+    "meet": (c.c_uint8, _SIDE, _SIDE, _STANDINGS),
+    "settle": (c.c_uint8, _SIDE, _SIDE, _STANDINGS),
+    "free": (None, _SIDE),
+    "pump": (c.c_size_t, _SIDE),
+    "fetch": (c.c_size_t, _SIDE),
+    "count": (c.c_uint8, _SIDE, _TOTALS),
+    "finish": (c.c_uint8, _SIDE, _TOTALS),
+    "drained": (c.c_uint8, _SIDE, _TOTALS),
+    "ready": (c.c_bool, _SIDE),
+    "offer": (c.c_uint8, _SIDE, _BEAT, _LANES),
+    "take": (c.c_bool, _SIDE, _BEAT, c.POINTER(c.c_uint8)),
+    "close": (c.c_uint8, _SIDE),
+}
+
+
+def call_of(library: c.CDLL, client: int, manager: int, name: str) -> Any:
+    """Returns a call of a pair of widths, such as `open`, `pump_client` or `offer_a`. Raises AttributeError if the
+    library does not have it."""
+    call = getattr(library, f"tl_{client}_{manager}_{name}")
+    call.restype, *call.argtypes = _OF_A_PAIR[name.partition("_")[0]]
+    return call
 
 
 _loaded: Optional[c.CDLL] = None
 
 
 def _find() -> str:
-    """Returns the path in TLBRIDGE_LIBRARY, or else the library in this package, or else the one that the system's loader finds."""
+    """Returns the path in TLBRIDGE_LIBRARY, or else the library in this package, or else the one that the system's
+    loader finds."""
     named = os.environ.get("TLBRIDGE_LIBRARY")
     packed = Path(__file__).resolve().parent / "libtlbridge.so"
     found = named or (str(packed) if packed.is_file() else ctypes.util.find_library("tlbridge"))
     if not found:
-        raise MissingLibrary("libtlbridge.so was not found: `make install` makes it, and the variable TLBRIDGE_LIBRARY may name it")
+        raise MissingLibraryError(
+            "libtlbridge.so was not found: `make install` makes it, and the variable TLBRIDGE_LIBRARY may name it"
+        )
     return found
 
 
 def load(path: Optional[str] = None) -> c.CDLL:
-    """Loads the library at `path`, or the one that is found, and returns it. Later calls without a path return the same one."""
+    """Loads the library at `path`, or the one that is found, and returns it. Later calls without a path return the same
+    one."""
     global _loaded
     if _loaded is None or path is not None:
         found = path or _find()
         try:
             library = c.CDLL(found)
         except OSError as error:
-            raise MissingLibrary(str(error)) from error  # which begins with the path
-        library.tl_scoreboard_pairs.restype = c.c_char_p
+            raise MissingLibraryError(str(error)) from error  # which begins with the path
+        for name, (result, *arguments) in PROTOTYPES.items():
+            call = getattr(library, name)
+            call.restype, call.argtypes = result, arguments
         _loaded = library
     return _loaded
 
@@ -107,11 +171,11 @@ def pairs() -> str:
 def status_of(number: int) -> Status:
     """Returns the status with this number."""
     text = TextFields()
-    load().tl_status_text(c.c_uint8(number), c.byref(text))
+    load().tl_status_text(number, c.byref(text))
     return Status(number, text.name.decode(), text.sentence.decode())
 
 
 def check(number: int) -> None:
-    """Raises Refused unless the number is 0."""
+    """Raises RefusedError unless the number is 0."""
     if number:
-        raise Refused(status_of(number))
+        raise RefusedError(status_of(number))

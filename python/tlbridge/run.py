@@ -1,7 +1,8 @@
 """The beats of a design between two links, in order of time, as parts that can be judged one after the other.
 
-A part ends at a quiet moment, at which no burst and no request is outstanding on either link, once its trace is long enough. A reset and a
-gap of the record end a part also while beats are under way. Beats are kept in temporary files, so memory does not grow with the run.
+A part ends at an idle point, at which no burst and no request is outstanding on either link, once its trace is long
+enough. A reset and a gap of the record end a part also while beats are under way. Beats are kept in temporary files, so
+memory does not grow with the run.
 """
 from __future__ import annotations
 
@@ -12,15 +13,16 @@ import sys
 import tempfile
 from typing import IO, Callable, Dict, Iterator, List, Optional, TextIO, Tuple, cast
 
-from .beats import CHANNELS
-from .flow import FROM_CLIENT, LinkFlow
+from .flow import LinkFlow
+from .matching import Finding, LinkMatcher, Message
+from .protocol import CHANNELS, FROM_CLIENT
 
 MOST_BYTES = 67_108_864  # of a trace
-PART_BYTES = 16 << 20  # a part ends at the first quiet moment after this size
+PART_BYTES = 16 << 20  # a part ends at the first idle point after this size
 LINKS = ("client", "manager")
 
 
-class Failure(Exception):
+class FailureError(Exception):
     """The reason why there is no result, and the exit status."""
 
     def __init__(self, words: str, status: int = 3):
@@ -41,7 +43,8 @@ def one_line(text: str) -> str:
 
 
 class Output(io.TextIOBase):
-    """Standard output. If it cannot be written, that is a Failure, and the rest of the output is dropped. Nobody reads it: a BrokenPipeError."""
+    """Standard output. If it cannot be written, that is a FailureError, and the rest of the output is dropped. Nobody
+    reads it: a BrokenPipeError."""
 
     def __init__(self, stream: TextIO):
         self._stream = stream
@@ -60,22 +63,48 @@ class Output(io.TextIOBase):
 
     def _dropped(self, error: OSError) -> Exception:
         self._stream = open(os.devnull, "w", encoding="utf-8")
-        return error if isinstance(error, BrokenPipeError) else Failure(f"standard output: {error.strerror}", 4)
+        return error if isinstance(error, BrokenPipeError) else FailureError(f"standard output: {error.strerror}", 4)
+
+
+def _takes_text(stream: Optional[TextIO]) -> bool:
+    """Whether a stream is open for writes. Python has None for a closed one, for which `print` would take standard
+    output. If a wrapper started Python, the number of a closed stream may also be that of a file that is only read."""
+    if stream is None:
+        return False
+    try:
+        return os.write(stream.fileno(), b"") == 0
+    except io.UnsupportedOperation:  # not a file
+        return True
+    except OSError:
+        return False
+
+
+def _drop_stderr() -> None:
+    """Loses what is printed on standard error from here on, so that it changes no exit status."""
+    sys.stderr = open(os.devnull, "w", encoding="utf-8")
+
+
+def print_note(line: str) -> None:
+    """Prints a line on standard error. If that is full or closed, the line is lost."""
+    try:
+        print(line, file=sys.stderr, flush=True)
+    except OSError:
+        _drop_stderr()
 
 
 def status_of(command: Callable[[], int], note: Callable[[str], None]) -> int:
     """Runs a command, and returns its exit status. Each failure has one note."""
-    if sys.stderr is None:  # Python has None for a closed stream, and `print` takes standard output then
-        sys.stderr = open(os.devnull, "w", encoding="utf-8")
+    if not _takes_text(sys.stderr):
+        _drop_stderr()
     try:
         if sys.stdout is None:
-            raise Failure("standard output is closed", 4)
+            raise FailureError("standard output is closed", 4)
         sys.stdout = cast(TextIO, Output(sys.stdout))
         try:
             return command()
         finally:
             sys.stdout.flush()
-    except Failure as failure:
+    except FailureError as failure:
         note(str(failure))
         return failure.status
     except BrokenPipeError:
@@ -87,12 +116,13 @@ def status_of(command: Callable[[], int], note: Callable[[str], None]) -> int:
         return 130
 
 
-class Ended(Exception):
+class EndedError(Exception):
     """The run takes no more beats. The text says why not all of it is judged."""
 
 
 class Row:
-    """A beat of a part: its place as it was passed to the run, its line, and for a near beat its line number in the trace of the whole run."""
+    """A beat of a part: its place as it was passed to the run, its line, and for a near beat its line number in the
+    trace of the whole run."""
 
     __slots__ = ("place", "line", "number")
 
@@ -181,17 +211,31 @@ START = (0, 0, 0)
 class Run:
     """Takes accepted beats of a client's and a manager's link, and calls `done` with each part.
 
-    Without a manager's width there is one link, and all of its beats are near beats. `first` and `last` are times that a part begins and
-    ends near, at a quiet moment. `note` is called with what a reader has to know.
+    Without a manager's width there is one link, and all of its beats are near beats. `first` and `last` are times that
+    a part begins and ends near, at an idle point. `note` is called with what a reader has to know.
     """
 
-    def __init__(self, version: int, client: int, manager: Optional[int], done: Callable[[Part], None], note: Callable[[str], None],
-                 first: Optional[int] = None, last: Optional[int] = None):
+    def __init__(
+        self,
+        version: int,
+        client: int,
+        manager: Optional[int],
+        done: Callable[[Part], None],
+        note: Callable[[str], None],
+        first: Optional[int] = None,
+        last: Optional[int] = None,
+        level: Optional[str] = None,
+    ):
         self.version, self.widths = version, (client, manager or client)
         self._done, self._note, self._first, self._last = done, note, first, last
         self._is_one = manager is None
         digits = 2 * version
         self._flows = [LinkFlow(width, digits) for width in self.widths[: 1 if self._is_one else 2]]
+        # of each link; they follow requests and responses if the beats have times, and the level if there is one
+        self.matchers = [LinkMatcher(flow.width, level) for flow in self._flows]
+        if not self._is_one:
+            self.matchers[0].is_offered = self._has_sent_more_than_accepted
+        self._covered: List[Tuple[int, Optional[int]]] = []  # the times of the parts, from and to
         self._folder = tempfile.TemporaryDirectory(prefix="tlbridge-")
         self._spool = Spool(self._folder.name)
         self._count = {(kind, channel): 0 for kind in ("near", "far") for channel in CHANNELS}
@@ -200,7 +244,9 @@ class Run:
         self._time: Optional[int] = None  # of the last beat
         self._begin: Optional[int] = None  # of the current part
         self._quiet = (START, None)  # type: Tuple[Tuple[int, int, int], Optional[int]]
-        self._is_unsure = self._has_strangers = False  # messages from before the part may be incomplete; a beat of one was seen
+        self._is_unsure = (
+            self._has_strangers
+        ) = False  # messages from before the part may be incomplete; a beat of one was seen
         self._mark = START
         self._left_out = 0
         self._in_reset: List[int] = []
@@ -213,6 +259,8 @@ class Run:
         self._begin = time
         if time:
             self._is_unsure = True
+            for matcher in self.matchers:
+                matcher.restart(is_unsure=True)
 
     def beat(self, link: int, line: str, time: Optional[int], place: str) -> None:
         """Adds a beat that a link accepted: 0 is the client's, 1 the manager's."""
@@ -221,8 +269,11 @@ class Run:
             self._time = time
         self.beats += 1
         is_near = self._is_one or (line[0] in FROM_CLIENT) == (link == 0)
-        if self._flows[link].beat(line) and self._is_unsure:
+        flow = self._flows[link]
+        if flow.beat(line) and self._is_unsure:
             self._has_strangers = True
+        if flow.began:
+            self.matchers[link].message(Message(line[0], *flow.began, time, place, line))
         self._spool.add("near" if is_near else "far", place, line)
 
     def reset(self, link: int, time: int, with_reset: int) -> None:
@@ -232,8 +283,11 @@ class Run:
             return
         if self._spool.beats:
             self._moment(time)
-            self._end_part(self._time or time, f"reset comes again at time {time}", self._is_busy())
-        self._restart(time, is_unsure=len(self._in_reset) < with_reset)
+            self._end_part(self._time or time, f"reset asserted again at time {time}", self._is_busy())
+        is_unsure = len(self._in_reset) < with_reset
+        self._restart(time, is_unsure)
+        for matcher in self.matchers:
+            matcher.restart(is_unsure)
 
     def leaves_reset(self, link: int) -> None:
         self._in_reset = [other for other in self._in_reset if other != link]
@@ -244,6 +298,8 @@ class Run:
             self._moment(off)
             self._end_part(off, f"nothing was recorded from time {off} to {on}", self._is_busy())
         self._restart(on, is_unsure=True)
+        for matcher in self.matchers:
+            matcher.restart(is_unsure=True)
 
     def finish(self, time: Optional[int], is_told: bool = True) -> None:
         """The record ends at a time."""
@@ -251,20 +307,44 @@ class Run:
             self._moment(time + 1)
         if self._first is not None:
             self._spool.back_to(START)
-            self._note(f"--from {self._first}: no quiet moment comes near it before the record ends")
+            self._note(f"--from {self._first}: no idle point nearby before the record ends")
         if self._has_strangers:
             self._drop_strangers()
         if self._is_busy() and self._spool.beats and is_told:
-            self._note(f"the record ends at time {time} while beats are under way: {self._outstanding()}"
-                       + (f"; --to {self._quiet[1]} ends at the last quiet moment" if self._quiet[1] is not None else ""))
+            self._note(
+                f"the record ends at time {time} while beats are under way: {self._outstanding()}"
+                + (f"; --to {self._quiet[1]} ends at the last idle point" if self._quiet[1] is not None else "")
+            )
         self._tell_left_out()
+        for matcher in self.matchers:
+            matcher.finish(time)
         self._end_part(time, "", False)
+
+    def findings(self) -> List[Tuple[int, Finding]]:
+        """Returns what does not fit in time, with its link, in the order in which it was seen. Beats of no part of the
+        run are left out."""
+        found = []
+        for link, matcher in enumerate(self.matchers):
+            matcher.settle()
+            found += [(link, finding) for finding in matcher.findings if self._is_covered(finding.at.time or 0)]
+        return sorted(found, key=lambda item: item[1].seen)
+
+    def outstanding(self) -> List[str]:
+        """Returns the bursts and requests that are outstanding, as text."""
+        return [what for flow in self._flows for what in flow.outstanding()]
+
+    def _is_covered(self, time: int) -> bool:
+        return any(begin <= time and (end is None or time <= end) for begin, end in self._covered)
+
+    def _has_sent_more_than_accepted(self) -> bool:
+        """Whether the design has sent a part of a request to the manager while the client still offers it."""
+        return self._flows[1].messages["A"] > self._flows[0].messages["A"]
 
     def close(self) -> None:
         self._spool.file.close()
         self._folder.cleanup()
 
-    # ---- quiet moments
+    # ---- idle points
 
     def _is_busy(self) -> bool:
         for flow in self._flows:
@@ -273,16 +353,23 @@ class Run:
         return not self._has_strangers and not self._is_one and self._flows[0].messages != self._flows[1].messages
 
     def _outstanding(self) -> str:
-        words = [f"{what} on the {link}'s link" for link, flow in zip(LINKS, self._flows) for what in flow.outstanding()]
+        words = [
+            f"{what} on the {link}'s link" for link, flow in zip(LINKS, self._flows) for what in flow.outstanding()
+        ]
         if not words:
             return "messages that did not cross"
         return ", ".join(words[:4]) + (", .." if len(words) > 4 else "")
 
     def _moment(self, time: int) -> None:
-        """Checks whether `time` is a quiet moment. Every beat before it has been added."""
+        """Checks whether `time` is an idle point. Every beat before it has been added."""
+        for matcher in self.matchers:
+            matcher.flush()
         if self._is_unsure and not self._is_one:
             client, manager = (flow.messages for flow in self._flows)
-            if any((client if channel in "BD" else manager)[channel] > (manager if channel in "BD" else client)[channel] for channel in CHANNELS):
+            if any(
+                (client if channel in "BD" else manager)[channel] > (manager if channel in "BD" else client)[channel]
+                for channel in CHANNELS
+            ):
                 self._has_strangers = True
         is_quiet = not self._is_busy()
         if is_quiet and self._has_strangers:
@@ -302,7 +389,8 @@ class Run:
             self._too_long()
 
     def _look_for_begin(self, is_quiet: bool, time: int) -> None:
-        """Begins at the quiet moment nearest to `first`: the beats since the last one before it are kept until a nearer one is ruled out."""
+        """Begins at the idle point nearest to `first`: the beats since the last one before it are kept until a nearer
+        one is ruled out."""
         first, begin = self._first, self._begin or 0
         now = begin if self._time is None else self._time
         assert first is not None
@@ -315,10 +403,12 @@ class Run:
             return
         self._first = None
         if self._begin != first:
-            self._note(f"--from {first}: begins at time {self._begin or 0}, the nearest time at which nothing was under way")
+            self._note(
+                f"--from {first}: begins at time {self._begin or 0}, the nearest time at which nothing was under way"
+            )
 
     def _look_for_end(self, is_quiet: bool, time: int) -> None:
-        """Ends at the quiet moment nearest to `last`."""
+        """Ends at the idle point nearest to `last`."""
         last, now = self._last, self._time or 0
         assert last is not None
         position, quiet = self._quiet
@@ -333,15 +423,17 @@ class Run:
             self._note(f"--to {last}: ends at time {end}, the nearest time at which nothing was under way")
         self._tell_left_out()
         self._end_part(end, "", False)
-        raise Ended
+        raise EndedError
 
     def _too_long(self) -> None:
         self._end_part(self._time, "", True)
-        raise Ended(f"the trace from time {self._begin or 0} to {self._time} has {MOST_BYTES} bytes, and no quiet moment comes at which it could be cut: "
-                    f"{self._outstanding()}. Later beats are not judged")
+        raise EndedError(
+            f"the trace from time {self._begin or 0} to {self._time} has {MOST_BYTES} bytes, and no idle point at which"
+            f" it could be split: {self._outstanding()}. Later beats are not judged"
+        )
 
     def _drop_strangers(self) -> None:
-        """Drops the beats since the last quiet moment: some belong to messages that began before the part."""
+        """Drops the beats since the last idle point: some belong to messages that began before the part."""
         self._left_out += self._spool.back_to(self._mark)
         self._has_strangers = False
         for flow in self._flows:
@@ -349,7 +441,10 @@ class Run:
 
     def _tell_left_out(self) -> None:
         if self._left_out:
-            self._note(f"{self._left_out} beats after time {self._begin or 0} are left out: messages that began before it were under way")
+            self._note(
+                f"{self._left_out} beats after time {self._begin or 0} are left out: messages that began before it were"
+                " under way"
+            )
             self._left_out = 0
 
     # ---- parts
@@ -367,11 +462,19 @@ class Run:
             self._drop_strangers()
         self._tell_left_out()
         if why and self._first is None:
-            self._note(f"{why}: " + (f"a part of the run ends there, while beats are under way ({self._outstanding()})" if is_cut else "a part of the run ends there"))
+            self._note(
+                f"{why}: "
+                + (
+                    f"a part of the run ends there, while beats are under way ({self._outstanding()})"
+                    if is_cut
+                    else "a part of the run ends there"
+                )
+            )
         if self._spool.beats or self.parts == 0 and not why:
             self.parts += 1
             part = self._sorted(time)
             part.is_cut = is_cut
+            self._covered.append((part.begin or 0, part.end))
             self._done(part)
         self._spool.back_to(START)
 
@@ -382,7 +485,9 @@ class Run:
         part.begin, part.end, part.beats = self._begin, time, self._spool.beats
         part.near_before = {channel: self._count["near", channel] for channel in CHANNELS}
         part.far_before = {channel: self._count["far", channel] for channel in CHANNELS}
-        files = {(kind, channel): open(part.file(kind, channel), "w", encoding="ascii") for kind, channel in self._count}
+        files = {
+            (kind, channel): open(part.file(kind, channel), "w", encoding="ascii") for kind, channel in self._count
+        }
         places = open(os.path.join(self._folder.name, "places"), "w", encoding="ascii")
         with open(part.trace, "w", encoding="ascii") as trace:
             trace.write(header + "\n")

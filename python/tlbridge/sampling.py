@@ -3,8 +3,8 @@ from __future__ import annotations
 
 from typing import Callable, Dict, List, NamedTuple
 
-from .beats import FIELDS, Beat
-from .flow import CARRIES, GRANTS, RELEASE_ACK
+from .beats import Beat
+from .protocol import CARRIES_DATA, FIELDS, GRANTS, RELEASE_ACK
 
 # Returns the bits of a field as text, highest first; each character except 0 and 1 is an unknown bit.
 Bits = Callable[[str], str]
@@ -45,7 +45,8 @@ class LinkSampler:
         self._homes: Dict[int, int] = {}
 
     def edge(self, accepted: Dict[str, Bits]) -> List[Sampled]:
-        """Returns the beats of one clock edge. `accepted` has the channels that accept a beat, with the bits of each field."""
+        """Returns the beats of one clock edge. `accepted` has the channels that accept a beat, with the bits of each
+        field."""
         asked: Dict[int, int] = {}
         sampled = []
         for channel in sorted(accepted):  # a request before its response
@@ -54,13 +55,18 @@ class LinkSampler:
             if channel == "A":
                 asked[values["source"]] = values["address"]
             home = self._home(values, asked) if channel == "D" else values.get("address", 0)
-            unknown = [f"{field} is {digits_of(text)}" for field, text in bits.items() if not is_known(self._read(channel, field, text, values, home))]
+            unknown = [
+                f"{field} is {digits_of(text)}"
+                for field, text in bits.items()
+                if not is_known(self._read(channel, field, text, values, home))
+            ]
             sampled.append(Sampled(channel, self._beat(values), unknown))
         self._homes.update(asked)
         return sampled
 
     def _home(self, response: Dict[str, int], asked: Dict[int, int]) -> int:
-        """Returns the address of the request that a response answers: an earlier one, or one that is accepted at the same edge."""
+        """Returns the address of the request that a response answers: an earlier one, or one that is accepted at the
+        same edge."""
         if response["opcode"] == RELEASE_ACK:
             return 0
         source = response["source"]
@@ -78,7 +84,9 @@ class LinkSampler:
 
     def _has_byte(self, channel: str, lane: int, values: Dict[str, int], home: int) -> bool:
         """Returns whether a lane has a byte of the message that its mask enables."""
-        is_active = values["opcode"] in CARRIES[channel] and ((lane ^ home) & (self._width - 1)) >> values["size"] == 0
+        is_active = (
+            values["opcode"] in CARRIES_DATA[channel] and ((lane ^ home) & (self._width - 1)) >> values["size"] == 0
+        )
         return is_active and bool(values.get("mask", -1) >> lane & 1)
 
     def _beat(self, values: Dict[str, int]) -> Beat:

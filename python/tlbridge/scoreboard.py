@@ -2,10 +2,11 @@
 import ctypes as c
 import weakref
 from types import TracebackType
-from typing import Any, Callable, Dict, List, Optional, Type
+from typing import Any, Callable, List, Optional, Type
 
-from .beats import FIELDS, Beat
-from .library import MissingLibrary, load, pairs
+from .beats import Beat
+from .library import MissingLibraryError, load, pairs
+from .protocol import FIELDS
 from .sampling import Bits, LinkSampler, number_of_bits
 
 LINKS = ("client", "manager")
@@ -13,7 +14,7 @@ LINKS = ("client", "manager")
 _COMPARE_UNMASKED, _ALLOW_NO_BEATS = 1, 2
 
 
-class Differs(AssertionError):
+class DiffersError(AssertionError):
     """A scoreboard had differences. `board` has their lines."""
 
     def __init__(self, board: "Scoreboard"):
@@ -21,34 +22,41 @@ class Differs(AssertionError):
         self.board = board
 
 
-def _number_of_link(link: str) -> c.c_int:
+def _number_of_link(link: str) -> int:
     if link not in LINKS:
         raise ValueError(f"a link is 'client' or 'manager', and not {link!r}")
-    return c.c_int(LINKS.index(link))
+    return LINKS.index(link)
 
 
 class Scoreboard:
-    """Compares a design between a client's link of `client` bytes and a manager's link of `manager` bytes with the proved bridge.
+    """Compares a design between a client's link of `client` bytes and a manager's link of `manager` bytes with the
+    proved bridge.
 
-    Pass each beat that either link accepts to `beat()`. Beats wait in queues, so a far beat may come before its near beat. With
-    `compare_unmasked`, bytes of PutPartialData whose mask bit is 0 are also compared. Each message is added to `lines` and passed to
-    `on_message`. A scoreboard that saw no beat has a difference at its end, unless `allow_no_beats`.
+    Pass each beat that either link accepts to `beat()`. Beats wait in queues, so a far beat may come before its near
+    beat. With `compare_unmasked`, bytes of PutPartialData whose mask bit is 0 are also compared. Each message is added
+    to `lines` and passed to `on_message`. A scoreboard that saw no beat has a difference at its end, unless
+    `allow_no_beats`.
 
-    A test passes if `end()` returns 0. A `with` statement ends the scoreboard when its block is left, and raises Differs if there were
-    differences. A scoreboard that saw beats and is never ended prints a warning on standard error.
+    A test passes if `end()` returns 0. A `with` statement ends the scoreboard when its block is left, and raises
+    DiffersError if there were differences. A scoreboard that saw beats and is never ended prints a warning on standard
+    error.
     """
 
-    def __init__(self, client: int, manager: int, compare_unmasked: bool = False, on_message: Optional[Callable[[str], Any]] = None,
-                 allow_no_beats: bool = False):
+    def __init__(
+        self,
+        client: int,
+        manager: int,
+        compare_unmasked: bool = False,
+        on_message: Optional[Callable[[str], Any]] = None,
+        allow_no_beats: bool = False,
+    ):
         self._library = load()
-        for name in ("tl_scoreboard_open", "tl_scoreboard_next_message"):
-            getattr(self._library, name).restype = c.c_void_p
-        for name in ("tl_scoreboard_finish", "tl_scoreboard_differences", "tl_scoreboard_beats"):
-            getattr(self._library, name).restype = c.c_uint64
         flags = compare_unmasked * _COMPARE_UNMASKED | allow_no_beats * _ALLOW_NO_BEATS
-        self._board = c.c_void_p(self._library.tl_scoreboard_open(c.c_uint(client), c.c_uint(manager), c.c_uint(flags)))
+        self._board = c.c_void_p(self._library.tl_scoreboard_open(client, manager, flags))
         if not self._board:
-            raise MissingLibrary(f"the library has no pair {client}:{manager}, or there is no memory; it has {pairs()}")
+            raise MissingLibraryError(
+                f"the library has no pair {client}:{manager}, or there is no memory; it has {pairs()}"
+            )
         # also when the program ends
         self._free = weakref.finalize(self, self._library.tl_scoreboard_free, self._board)
         self._widths = {"client": client, "manager": manager}
@@ -62,16 +70,16 @@ class Scoreboard:
         if channel not in FIELDS:
             raise ValueError(f"a channel is one of A, B, C, D and E, and not {channel!r}")
         passed, lanes = beat.passed(channel, self._widths[link])
-        self._library.tl_scoreboard_beat(self._board, number, c.c_char(channel.encode()), c.c_uint64(time), c.byref(passed), lanes)
+        self._library.tl_scoreboard_beat(self._board, number, channel.encode(), time, c.byref(passed), lanes)
         self._read()
 
     def reset(self, link: str, asserted: bool, time: int) -> None:
         """Says whether a link is in reset from a time on.
 
-        The first reset of either link ends what was in flight on both, and a line says so. Beats of a link that is in reset do not count;
-        those that it accepts after its own reset do, also while the other link is still in reset.
+        The first reset of either link ends what was in flight on both, and a line says so. Beats of a link that is in
+        reset do not count; those that it accepts after its own reset do, also while the other link is still in reset.
         """
-        self._library.tl_scoreboard_reset(self._board, _number_of_link(link), c.c_bool(asserted), c.c_uint64(time))
+        self._library.tl_scoreboard_reset(self._board, _number_of_link(link), asserted, time)
         self._read()
 
     def _read(self) -> None:
@@ -106,19 +114,25 @@ class Scoreboard:
     def __enter__(self) -> "Scoreboard":
         return self
 
-    def __exit__(self, kind: Optional[Type[BaseException]], error: Optional[BaseException], trace: Optional[TracebackType]) -> None:
+    def __exit__(
+        self, kind: Optional[Type[BaseException]], error: Optional[BaseException], trace: Optional[TracebackType]
+    ) -> None:
         if self.end() and error is None:
-            raise Differs(self)
+            raise DiffersError(self)
 
-    async def watch(self, link: str, clock: Any, signals: Callable[[str, str], Any], reset: Any = None, channels: str = "AD") -> None:
+    async def watch(
+        self, link: str, clock: Any, signals: Callable[[str, str], Any], reset: Any = None, channels: str = "AD"
+    ) -> None:
         """Samples one link of a cocotb test at each rising clock edge, and passes its beats on, until the test ends.
 
-        `signals` returns the handle of a signal for a channel in lower case and a field (valid, ready, opcode and so on), for example
-        `lambda channel, field: getattr(dut, f"client_{channel}_{field}")`. `reset` is active high; beats do not count while it is 1.
+        `signals` returns the handle of a signal for a channel in lower case and a field (valid, ready, opcode and so
+        on), for example `lambda channel, field: getattr(dut, f"client_{channel}_{field}")`. `reset` is active high;
+        beats do not count while it is 1.
 
-        A beat with unknown bits (x or z) is a difference, and a message names its fields. It is compared with 0 in their place. Nothing
-        reads some unknown bits, which are 0 and no difference: on lanes without a byte of the message, in a byte whose mask bit is 0, and
-        in the sink of a response that is not a Grant. In valid, ready and reset an unknown bit is also 0.
+        A beat with unknown bits (x or z) is a difference, and a message names its fields. It is compared with 0 in
+        their place. Nothing reads some unknown bits, which are 0 and no difference: on lanes without a byte of the
+        message, in a byte whose mask bit is 0, and in the sink of a response that is not a Grant. In valid, ready and
+        reset an unknown bit is also 0.
         """
         from cocotb.triggers import RisingEdge  # type: ignore[import]
         from cocotb.utils import get_sim_time  # type: ignore[import]
@@ -132,7 +146,11 @@ class Scoreboard:
                 if number_of(reset):
                     sampler = LinkSampler(self._widths[link])
                     continue
-            accepted = {channel: _bits_of(signals, channel.lower()) for channel in channels if _is_accepted(signals, channel.lower())}
+            accepted = {
+                channel: _bits_of(signals, channel.lower())
+                for channel in channels
+                if _is_accepted(signals, channel.lower())
+            }
             for channel, beat, unknown in sampler.edge(accepted):
                 if unknown:
                     self._unknown += 1

@@ -14,8 +14,9 @@ class TraceResult:
     all_done: bool
 
 
-class TraceFault(Exception):
-    """The text is not a valid trace, or memory ran out. `line` is the bad line, counted from 1, or 0 if there is none."""
+class TraceFaultError(Exception):
+    """The text is not a valid trace, or memory ran out. `line` is the bad line, counted from 1, or 0 if there is
+    none."""
 
     def __init__(self, status: Status, line: int):
         super().__init__(f"line {line}: {status}" if line else str(status))
@@ -24,13 +25,13 @@ class TraceFault(Exception):
 
 
 def run_trace(text: Union[str, bytes], check: bool = False) -> TraceResult:
-    """Returns the answer to a trace, as `tlbridge run` writes it. With `check` it has no far beats. Raises TraceFault."""
+    """Returns the answer to a trace, as `tlbridge run` writes it. With `check` it has no far beats. Raises
+    TraceFaultError."""
     data = text.encode() if isinstance(text, str) else bytes(text)
     library, made = load(), AnswerFields()
-    library.tl_answer_trace.restype = c.c_uint8
-    number = library.tl_answer_trace(data, c.c_size_t(len(data)), c.c_uint8(check), c.byref(made))
+    number = library.tl_answer_trace(data, len(data), check, c.byref(made))
     if number:
-        raise TraceFault(status_of(number), made.line)
+        raise TraceFaultError(status_of(number), made.line)
     try:
         return TraceResult(c.string_at(made.text, made.length).decode(), bool(made.all_done))
     finally:

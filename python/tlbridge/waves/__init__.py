@@ -2,6 +2,7 @@
 
     python3 -m tlbridge.waves FILE
 
-is the command tlbridge-trace. `vcd` reads a file as a stream of changes, `links` finds the links by the names of their signals, `sampling`
-samples them at the rising edges of their clocks, and `command` is the command line. It uses the standard library only.
+is the command tlbridge-trace. `vcd` reads a file as a stream of changes, `links` finds the links by the names of their
+signals, `sampling` samples them at the rising edges of their clocks, and `command` is the command line. It uses the
+standard library only.
 """

@@ -4,17 +4,28 @@ from __future__ import annotations
 import re
 from typing import Callable, Dict, Iterable, Iterator, List, Mapping, Optional, Pattern, Sequence, Set, Tuple
 
-from ..beats import CHANNELS, FIELDS
-from ..flow import WIDTHS
-from ..run import Failure
+from ..protocol import CHANNELS, FIELDS, WIDTHS
+from ..run import FailureError
 from .vcd import Variable
 
-MOST_BITS = {"opcode": 3, "param": 3, "source": 16, "sink": 16, "address": 64, "denied": 1, "corrupt": 1, "valid": 1, "ready": 1}
+MOST_BITS = {
+    "opcode": 3,
+    "param": 3,
+    "source": 16,
+    "sink": 16,
+    "address": 64,
+    "denied": 1,
+    "corrupt": 1,
+    "valid": 1,
+    "ready": 1,
+}
 MOST_D_PARAM = 3  # bits, since OpenTitan's structs have three
 _OTHER_NAMES = {"addr": "address", "error": "denied"}
 _NAMES = "valid|ready|opcode|param|size|source|address|addr|mask|data|corrupt|sink|denied|error"
 _SIGNAL = re.compile(rf"(.*?)([a-eA-E])_(?:(bits|payload_fragment|payload|fragment)_)?({_NAMES})$", re.IGNORECASE)
-_IGNORED = re.compile(r"(.*?)([a-eA-E])_(?:(bits|payload_fragment|payload|fragment)_)?((?:user|echo|debugId|last)(?:_.*)?)$")
+_IGNORED = re.compile(
+    r"(.*?)([a-eA-E])_(?:(bits|payload_fragment|payload|fragment)_)?((?:user|echo|debugId|last)(?:_.*)?)$"
+)
 _ENDS = tuple(_NAMES.split("|"))
 _EXTRA = re.compile(r"_(?:user|echo|debugId|last)")
 _CLOCK = re.compile(r"clk|clock", re.IGNORECASE)
@@ -32,7 +43,8 @@ Values = Mapping[bytes, bytes]
 
 
 class Signal:
-    """Some bits of some codes, highest first: `parts` are (code, its bits, first bit that is taken from the left, how many)."""
+    """Some bits of some codes, highest first: `parts` are (code, its bits, first bit that is taken from the left, how
+    many)."""
 
     __slots__ = ("name", "parts", "bits", "code")
 
@@ -57,7 +69,7 @@ def extended(value: bytes, bits: int, name: str) -> bytes:
         return value
     if len(value) > bits:
         if value[:-bits].strip(b"0"):
-            raise Failure(f"{name} has {bits} bits, but a change gives it {len(value)}: {value[:80].decode()}")
+            raise FailureError(f"{name} has {bits} bits, but a change gives it {len(value)}: {value[:80].decode()}")
         return value[-bits:]
     return (b"0" if value[:1] in b"01" else value[:1]).rjust(1) * (bits - len(value)) + value
 
@@ -122,7 +134,10 @@ class Link:
             self.problems.append(f"its data signals have {sorted(datas)} bits and its masks {sorted(masks)}{asked}")
         elif not found:
             if set(self.channels) != {"E"}:
-                self.problems.append("it has neither data nor mask: give its width in bytes with --width, --client-width or --manager-width")
+                self.problems.append(
+                    "it has neither data nor mask: give its width in bytes with --width, --client-width or"
+                    " --manager-width"
+                )
         else:
             only = next(iter(found))
             if only in WIDTHS:
@@ -131,7 +146,13 @@ class Link:
                 self.problems.append(f"{only} bytes is not a width of a link")
 
     def key(self) -> Tuple[object, ...]:
-        return tuple(sorted((letter, name, signal.key()) for letter, signals in self.channels.items() for name, signal in signals.items()))
+        return tuple(
+            sorted(
+                (letter, name, signal.key())
+                for letter, signals in self.channels.items()
+                for name, signal in signals.items()
+            )
+        )
 
 
 def is_wanted(extra: Iterable[str] = (), layouts: Sequence[Layout] = ()) -> Callable[[str, int], bool]:
@@ -155,8 +176,12 @@ def layout_of(text: str) -> Layout:
     fields = []
     for word in text.split(","):
         name, _, bits = word.strip().partition(":")
-        if not (bits.isascii() and bits.isdigit()) or not 0 < int(bits[:9]) < 1 << 20 or not re.fullmatch(r"[a-eA-E]_\w+", name):
-            raise Failure(f"'{word}' is not a field of a struct, as in a_valid:1,a_opcode:3", 2)
+        if (
+            not (bits.isascii() and bits.isdigit())
+            or not 0 < int(bits[:9]) < 1 << 20
+            or not re.fullmatch(r"[a-eA-E]_\w+", name)
+        ):
+            raise FailureError(f"'{word}' is not a field of a struct, as in a_valid:1,a_opcode:3", 2)
         fields.append((name, int(bits)))
     return fields
 
@@ -173,7 +198,8 @@ class Signals(Dict[Key, Signal]):
 
 
 def joined(variables: Iterable[Variable]) -> Signals:
-    """Returns the variables by (scope, name), each as a Signal. If the dump has split one by bit or range, its parts are put together."""
+    """Returns the variables by (scope, name), each as a Signal. If the dump has split one by bit or range, its parts
+    are put together."""
     groups: Dict[Key, List[Variable]] = {}
     for variable in variables:
         groups.setdefault((variable.scope, variable.name), []).append(variable)
@@ -182,7 +208,9 @@ def joined(variables: Iterable[Variable]) -> Signals:
         first = parts[0]
         # if the same name comes more than once, and not as parts, the first one counts
         together = _in_order(parts) or [first]
-        signals[scope, name] = Signal(".".join((*scope, name)), [(part.code, part.bits, 0, part.bits) for part in together])
+        signals[scope, name] = Signal(
+            ".".join((*scope, name)), [(part.code, part.bits, 0, part.bits) for part in together]
+        )
     return signals.index()
 
 
@@ -224,14 +252,17 @@ def find_links(variables: Iterable[Variable], layouts: Sequence[Layout] = ()) ->
 
 
 def _is_link(link: Link) -> bool:
-    """Returns whether these signals form a link, or one direction of a link. Removes channels that do not belong to one."""
+    """Returns whether these signals form a link, or one direction of a link. Removes channels that do not belong to
+    one."""
     link.is_half = link.stem == "" and _is_half(link)
     if link.is_half:
         return True
     for letter, names in list(link.channels.items()):
         # a single field that only its name suggests, as `data_valid`, is not a channel
         whole = {"valid", "ready"} if letter == "E" else {"valid", "ready", "opcode"}
-        if not whole <= set(names) and not ({"valid", "opcode"} <= set(names) and (link.stem == "" or link.stem.endswith("_"))):
+        if not whole <= set(names) and not (
+            {"valid", "opcode"} <= set(names) and (link.stem == "" or link.stem.endswith("_"))
+        ):
             del link.channels[letter]
     return bool(set(link.channels) - {"E"})
 
@@ -239,8 +270,13 @@ def _is_link(link: Link) -> bool:
 def _is_half(link: Link) -> bool:
     """Whether it is one direction of a link, as a struct h2d or d2h has it."""
     channels = link.channels
-    return any("valid" in channels.get(sent, {}) and "opcode" in channels[sent] and "ready" not in channels[sent]
-               and set(channels.get(answered, {})) == {"ready"} for sent, answered in (("A", "D"), ("D", "A")))
+    return any(
+        "valid" in channels.get(sent, {})
+        and "opcode" in channels[sent]
+        and "ready" not in channels[sent]
+        and set(channels.get(answered, {})) == {"ready"}
+        for sent, answered in (("A", "D"), ("D", "A"))
+    )
 
 
 def _unpack(signals: Signals, links: Dict[Key, Link], layouts: Sequence[Layout]) -> None:
@@ -266,8 +302,14 @@ def _has_direction(link: Link, sent: str, answered: str) -> bool:
     def has(letter: str, field: str) -> bool:
         return field in link.channels.get(letter, {})
 
-    return (link.stem == "" and bool(link.scope) and has(sent, "valid") and has(answered, "ready")
-            and not has(answered, "valid") and not has(sent, "ready"))
+    return (
+        link.stem == ""
+        and bool(link.scope)
+        and has(sent, "valid")
+        and has(answered, "ready")
+        and not has(answered, "valid")
+        and not has(sent, "ready")
+    )
 
 
 def _other_direction(own: str) -> Iterator[Tuple[str, str]]:
@@ -324,7 +366,7 @@ def by_pattern(pattern: str, signals: Signals, renamed: Mapping[str, str]) -> Li
     """Returns the link whose signals `pattern` names, with {channel} or {CHANNEL}, and {field} or {FIELD}."""
     for place in ("{channel}", "{field}"):
         if place not in pattern and place.upper() not in pattern:
-            raise Failure(f"the pattern '{pattern}' has no {place}", 2)
+            raise FailureError(f"the pattern '{pattern}' has no {place}", 2)
     link = Link((), pattern, "pattern")
     full = {".".join((*scope, name)): signal for (scope, name), signal in signals.items()}
     fields = list(_fields_of_pattern(pattern, renamed))
@@ -341,7 +383,8 @@ def by_pattern(pattern: str, signals: Signals, renamed: Mapping[str, str]) -> Li
 
 
 def choose(links: Sequence[Link], name: str) -> Link:
-    """Returns the link of this name, or of a name that ends with it; with `+` between two names, both directions together."""
+    """Returns the link of this name, or of a name that ends with it; with `+` between two names, both directions
+    together."""
     if "+" in name:
         halves = [choose(links, part) for part in name.split("+")]
         link = Link(halves[0].scope, halves[0].stem, halves[0].convention)
@@ -357,7 +400,14 @@ def choose(links: Sequence[Link], name: str) -> Link:
         return found[0]
     known = ", ".join(link.name for link in (list(found) or links)[:12]) or "none"
     hint = "" if links else " that it knows. Name the signals by --link-pattern, --client-pattern or --manager-pattern"
-    raise Failure(f"'{name}' fits {len(found)} links: {known}" if found else f"no link is named '{name}'. The dump has: {known}{hint}", 2)
+    raise FailureError(
+        (
+            f"'{name}' fits {len(found)} links: {known}"
+            if found
+            else f"no link is named '{name}'. The dump has: {known}{hint}"
+        ),
+        2,
+    )
 
 
 def _scope_of_pattern(names: Sequence[str], full: Mapping[str, Signal], pattern: str) -> str:
@@ -365,7 +415,7 @@ def _scope_of_pattern(names: Sequence[str], full: Mapping[str, Signal], pattern:
     scopes = {one[: -len(name)] for name in names for one in full if one.endswith("." + name)}
     if len(scopes) != 1:
         where = f"; more than one scope has some: {', '.join(sorted(scopes)[:6])}" if scopes else ""
-        raise Failure(f"no signal has a name of the pattern '{pattern}'{where}", 2)
+        raise FailureError(f"no signal has a name of the pattern '{pattern}'{where}", 2)
     return scopes.pop()
 
 
@@ -393,7 +443,10 @@ def find_clock(link: Link, signals: Signals, pattern: Pattern[str], what: str) -
         if len({signal.key() for signal in here.values()}) == 1:
             return next(iter(here.values())), ""
         if here:
-            return None, f"more than one {what} is there ({', '.join(sorted(signal.name for signal in here.values())[:6])})"
+            return (
+                None,
+                f"more than one {what} is there ({', '.join(sorted(signal.name for signal in here.values())[:6])})",
+            )
         if not scope:
             return None, f"the dump has no {what} in its scope or above it"
         scope = scope[:-1]
@@ -425,7 +478,9 @@ def adopt_clock(link: Link, links: Sequence[Link]) -> None:
     """Takes the clock that the same wires have elsewhere."""
     if link.clock is not None:
         return
-    others = {other.clock.key(): other for other in links if other.clock and other is not link and other.key() == link.key()}
+    others = {
+        other.clock.key(): other for other in links if other.clock and other is not link and other.key() == link.key()
+    }
     if len(others) == 1:
         other = next(iter(others.values()))
         link.clock, link.reset, link.is_reset_low = other.clock, other.reset, other.is_reset_low
@@ -435,13 +490,14 @@ def adopt_clock(link: Link, links: Sequence[Link]) -> None:
 
 def _given(name: str, full: Mapping[str, Signal], link: Link, what: str) -> Signal:
     found = [signal for full_name, signal in full.items() if full_name == name] or [
-        signal for full_name, signal in full.items() if full_name.endswith("." + name)]
+        signal for full_name, signal in full.items() if full_name.endswith("." + name)
+    ]
     near = [signal for signal in found if signal.name.rpartition(".")[0] == ".".join(link.scope)]
     found = near or found
     if not found:
-        raise Failure(f"the dump has no {what} '{name}'", 2)
+        raise FailureError(f"the dump has no {what} '{name}'", 2)
     if len({signal.key() for signal in found}) > 1:
-        raise Failure(f"'{name}' names more than one {what}: {', '.join(signal.name for signal in found[:6])}", 2)
+        raise FailureError(f"'{name}' names more than one {what}: {', '.join(signal.name for signal in found[:6])}", 2)
     if found[0].bits != 1:
-        raise Failure(f"the {what} {found[0].name} has {found[0].bits} bits", 2)
+        raise FailureError(f"the {what} {found[0].name} has {found[0].bits} bits", 2)
     return found[0]

@@ -1,15 +1,15 @@
 """Samples links at the rising edges of their clocks, and writes what was accepted as lines of a trace.
 
-The values at an edge are those of the last time before it. A beat is accepted if valid and ready are both 1 and reset is not active.
+The values at an edge are those of the last time before it. A beat is accepted if valid and ready are both 1 and reset
+is not active.
 """
 from __future__ import annotations
 
 from collections import ChainMap
 from typing import Dict, List, Optional, Set, Tuple
 
-from ..beats import CHANNELS, FIELDS
-from ..flow import CARRIES, GRANTS, RELEASE_ACK, beats_of
-from ..run import Failure, Run
+from ..protocol import CARRIES_DATA, CHANNELS, FIELDS, GRANTS, RELEASE_ACK, beat_count
+from ..run import FailureError, Run
 from .links import Link, Signal, Values
 from .vcd import Reader
 
@@ -35,7 +35,9 @@ def hexadecimal(text: bytes, digits: int) -> str:
     for at in range(0, 4 * digits, 4):
         four = bits[at : at + 4]
         unknown = set(four) - set("01")
-        out.append(f"{int(four, 2):x}" if not unknown else four[0] if len(set(four)) == 1 else "X" if "x" in unknown else "Z")
+        out.append(
+            f"{int(four, 2):x}" if not unknown else four[0] if len(set(four)) == 1 else "X" if "x" in unknown else "Z"
+        )
     return "".join(out)
 
 
@@ -62,8 +64,18 @@ class Port:
         self.unknown = {"valid": Count(), "ready": Count()}
         self.names = NUMBERS[letter]
         # the codes of these fields, if each is a separate variable, and no value is too large for a trace
-        self.plain = [(code, signals[name].bits) for name in self.names if name in signals and (code := signals[name].code) is not None]
-        if "size" in signals and signals["size"].bits > 4 or letter == "D" and "param" in signals and signals["param"].bits > 2:
+        self.plain = [
+            (code, signals[name].bits)
+            for name in self.names
+            if name in signals and (code := signals[name].code) is not None
+        ]
+        if (
+            "size" in signals
+            and signals["size"].bits > 4
+            or letter == "D"
+            and "param" in signals
+            and signals["param"].bits > 2
+        ):
             self.plain = []
 
     def accepts(self, values: Values, time: int) -> bool:
@@ -80,12 +92,20 @@ class Port:
 class Watch:
     """Samples one link; its beats go to `run` as those of link `index`, or are only counted if that is None.
 
-    A beat of one of the channels `near` may have no unknown bits. In another one they are written as x, as tl_trace_monitor does, so that
-    they differ from what is expected.
+    A beat of one of the channels `near` may have no unknown bits. In another one they are written as x, as
+    tl_trace_monitor does, so that they differ from what is expected.
     """
 
-    def __init__(self, link: Link, run: Optional[Run] = None, index: int = 0, version: int = 1, near: str = CHANNELS, unknown_zero: bool = False,
-                 span: Tuple[Optional[int], Optional[int]] = (None, None)):
+    def __init__(
+        self,
+        link: Link,
+        run: Optional[Run] = None,
+        index: int = 0,
+        version: int = 1,
+        near: str = CHANNELS,
+        unknown_zero: bool = False,
+        span: Tuple[Optional[int], Optional[int]] = (None, None),
+    ):
         self.link, self.run, self.index, self.near, self.unknown_zero = link, run, index, near, unknown_zero
         self.first, self.last = span
         self.digits = 2 * version
@@ -112,7 +132,9 @@ class Watch:
         self._waits.clear()
 
     def codes(self) -> Set[bytes]:
-        signals = [port.signals[name] for port in self.ports for name in (port.signals if self.run else ("valid", "ready"))]
+        signals = [
+            port.signals[name] for port in self.ports for name in (port.signals if self.run else ("valid", "ready"))
+        ]
         signals += [signal for signal in (self.link.clock, self.link.reset) if signal]
         return {part[0] for signal in signals for part in signal.parts}
 
@@ -125,7 +147,9 @@ class Watch:
             return
         moved: List[Port] = []
         for valid, ready, port in self._plain:
-            if valid is not None and (values[valid] == b"0" or ready is not None and values[ready] == b"0" and values[valid] == b"1"):
+            if valid is not None and (
+                values[valid] == b"0" or ready is not None and values[ready] == b"0" and values[valid] == b"1"
+            ):
                 continue
             if port.accepts(values, time):
                 port.accepted += 1
@@ -164,7 +188,10 @@ class Watch:
         if self.unknown_zero:
             self.zeroed.add(time, signal.name)
         elif letter in self.near:
-            raise Failure(f"time {time}: {signal.name} is unknown in a beat that is accepted: {text.decode()} (--unknown-zero writes 0)")
+            raise FailureError(
+                f"time {time}: {signal.name} is unknown in a beat that is accepted: {text.decode()} (--unknown-zero"
+                " writes 0)"
+            )
         else:
             self._unknown[name] = text
             self.unknown_far.add(time, signal.name)
@@ -187,14 +214,19 @@ class Watch:
             self._record_unknown(letter, name, signal, text, time)
             return int(text.translate(_TO_ZERO), 2)
 
-    def _data(self, letter: str, signals: Dict[str, Signal], values: Values, time: int, active: int, enabled: int) -> int:
-        """Returns the bytes of the beat; 0 on lanes that are not active, and for unknown bytes on lanes that no mask bit enables."""
+    def _data(
+        self, letter: str, signals: Dict[str, Signal], values: Values, time: int, active: int, enabled: int
+    ) -> int:
+        """Returns the bytes of the beat; 0 on lanes that are not active, and for unknown bytes on lanes that no mask
+        bit enables."""
         signal = signals.get("data")
         if signal is None or active == 0:
             return 0
         text = signal.text(values)
         if active not in self._expanded:
-            self._expanded[active] = int.from_bytes(bytes(255 * (active >> lane & 1) for lane in range(self.link.width)), "little")
+            self._expanded[active] = int.from_bytes(
+                bytes(255 * (active >> lane & 1) for lane in range(self.link.width)), "little"
+            )
         try:
             return int(text, 2) & self._expanded[active]
         except ValueError:
@@ -228,13 +260,21 @@ class Watch:
         """Returns the fields of NUMBERS; -1 for a mask that the link does not have."""
         try:
             numbers = [int(values[code], 2) for code, _ in port.plain]
-            if len(numbers) == len(port.names) and not any(number >> bits for number, (_, bits) in zip(numbers, port.plain)):
+            if len(numbers) == len(port.names) and not any(
+                number >> bits for number, (_, bits) in zip(numbers, port.plain)
+            ):
                 return numbers
         except ValueError:
             pass
         numbers = []
         for name in port.names:
-            if name == "sink" and port.letter == "D" and numbers[0] not in GRANTS and name in port.signals and port.signals[name].text(values).strip(b"01"):
+            if (
+                name == "sink"
+                and port.letter == "D"
+                and numbers[0] not in GRANTS
+                and name in port.signals
+                and port.signals[name].text(values).strip(b"01")
+            ):
                 self.sinks += 1  # nothing uses the sink of a response that is not a Grant
                 numbers.append(0)
             elif name == "mask" and name not in port.signals:
@@ -242,9 +282,16 @@ class Watch:
             else:
                 numbers.append(self._number(port.letter, port.signals, name, values, time))
         for name, most in (("size", MOST_SIZE), ("param", MOST_PARAM_OF_D)):
-            number = numbers[port.names.index(name)] if name in port.signals and (name == "size" or port.letter == "D") else 0
+            number = (
+                numbers[port.names.index(name)]
+                if name in port.signals and (name == "size" or port.letter == "D")
+                else 0
+            )
             if number > most:
-                raise Failure(f"time {time}: {port.signals[name].name} is {number}, but a trace has at most {most} for {port.letter} {name}")
+                raise FailureError(
+                    f"time {time}: {port.signals[name].name} is {number}, but a trace has at most {most} for"
+                    f" {port.letter} {name}"
+                )
         return numbers
 
     def _beats(self, moved: List[Port], values: Values, time: int) -> None:
@@ -258,7 +305,7 @@ class Watch:
             else:
                 self._request(port, values, time, numbers)
                 if letter == "A":
-                    missing = self._missing["A"] or beats_of("A", numbers[0], numbers[2], self.link.width)
+                    missing = self._missing["A"] or beat_count("A", numbers[0], numbers[2], self.link.width)
                     begins = begins if self._missing["A"] else (numbers[3], numbers[4])
                     self._missing["A"] = missing - 1
         if begins:
@@ -274,11 +321,21 @@ class Watch:
         if letter != "C":
             mask = numbers[5] if numbers[5] >= 0 else active
             words = f" {mask:0{(width + 3) // 4}x}"
-        data = self._data(letter, port.signals, values, time, active if opcode in CARRIES[letter] else 0, mask)
-        self._give(letter, f"{letter} {opcode:x} {param:x} {size:x} {source:0{self.digits}x} {address:016x}{words} {data:0{2 * width}x} {numbers[-1]}", time)
+        data = self._data(letter, port.signals, values, time, active if opcode in CARRIES_DATA[letter] else 0, mask)
+        self._give(
+            letter,
+            (
+                f"{letter} {opcode:x} {param:x} {size:x} {source:0{self.digits}x} {address:016x}{words}"
+                f" {data:0{2 * width}x} {numbers[-1]}"
+            ),
+            time,
+        )
 
-    def _response(self, port: Port, values: Values, time: int, numbers: List[int], begins: Optional[Tuple[int, int]]) -> Optional[Tuple[int, int]]:
-        """A beat of D. Its bytes are on the lanes for which its request asked; if none waits, that is the request of this very cycle.
+    def _response(
+        self, port: Port, values: Values, time: int, numbers: List[int], begins: Optional[Tuple[int, int]]
+    ) -> Optional[Tuple[int, int]]:
+        """A beat of D. Its bytes are on the lanes for which its request asked; if none waits, that is the request of
+        this very cycle.
 
         Returns the request of this cycle, if it still waits then.
         """
@@ -289,11 +346,24 @@ class Watch:
         at_once = begins if answers and not waited and begins is not None and begins[0] == source else None
         home = self._home if self._missing["D"] else at_once[1] if at_once else self._homes.get(source)
         # if no request came before the response, its lanes are written as they are, and as 0 if they are unknown
-        active = 0 if opcode not in CARRIES["D"] else (1 << width) - 1 if home is None else active_lanes(size, home, width)
+        active = (
+            0
+            if opcode not in CARRIES_DATA["D"]
+            else (1 << width) - 1
+            if home is None
+            else active_lanes(size, home, width)
+        )
         data = self._data("D", port.signals, values, time, active, 0 if home is None else active)
-        self._missing["D"] = (self._missing["D"] or beats_of("D", opcode, size, width)) - 1
+        self._missing["D"] = (self._missing["D"] or beat_count("D", opcode, size, width)) - 1
         self._home = home
-        self._give("D", f"D {opcode:x} {param:x} {size:x} {source:0{digits}x} {sink:0{digits}x} {denied} {data:0{2 * width}x} {corrupt}", time)
+        self._give(
+            "D",
+            (
+                f"D {opcode:x} {param:x} {size:x} {source:0{digits}x} {sink:0{digits}x} {denied}"
+                f" {data:0{2 * width}x} {corrupt}"
+            ),
+            time,
+        )
         if answers and waited:
             self._waits.discard(source)
         if at_once:
@@ -369,14 +439,16 @@ class Sampler:
         if self._now is None:
             return 0
         if len(self._now) > 32:
-            raise Failure(f"{self.reader.name} {self.reader.line_of(self._now)}: a time has more than 31 digits")
+            raise FailureError(f"{self.reader.name} {self.reader.line_of(self._now)}: a time has more than 31 digits")
         return int(self._now[1:])
 
     def _settle(self) -> None:
         """All changes of a time are there."""
         time, step, values = self._time(), self._step, self._values
         if time < self.end and self._now:
-            raise Failure(f"{self.reader.name} {self.reader.line_of(self._now)}: time goes back, from {self.end} to {time}")
+            raise FailureError(
+                f"{self.reader.name} {self.reader.line_of(self._now)}: time goes back, from {self.end} to {time}"
+            )
         if self.begin is None:
             self.begin = time
             for run in self._runs.values():

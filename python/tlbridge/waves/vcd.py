@@ -1,8 +1,8 @@
 """Reads a VCD as a stream: its variables, and the changes of those that are wanted, block by block.
 
-Two regular expressions do the work of the hot loop: one looks for a line that does not have the plain form, one change or one time a line,
-and one finds the lines of the wanted codes. A block with any other line, such as `$dumpvars` or two changes on a line, goes through a
-tokenizer that knows the whole grammar of IEEE 1800 section 21.7, with line numbers.
+Two regular expressions do the work of the hot loop: one looks for a line that does not have the plain form, one change
+or one time a line, and one finds the lines of the wanted codes. A block with any other line, such as `$dumpvars` or two
+changes on a line, goes through a tokenizer that knows the whole grammar of IEEE 1800 section 21.7, with line numbers.
 """
 from __future__ import annotations
 
@@ -16,7 +16,7 @@ import zlib
 from shutil import which
 from typing import IO, Callable, Collection, Dict, FrozenSet, Iterator, List, Optional, Sequence, Set, Tuple
 
-from ..run import Failure, shown
+from ..run import FailureError, shown
 
 BLOCK = 1 << 20
 HEADER_LINE = 1 << 20
@@ -46,8 +46,25 @@ class Variable:
 
     __slots__ = ("scope", "name", "bits", "high", "low", "code", "kind")
 
-    def __init__(self, scope: Tuple[str, ...], name: str, bits: int, high: Optional[int], low: Optional[int], code: bytes, kind: str):
-        self.scope, self.name, self.bits, self.high, self.low, self.code, self.kind = scope, name, bits, high, low, code, kind
+    def __init__(
+        self,
+        scope: Tuple[str, ...],
+        name: str,
+        bits: int,
+        high: Optional[int],
+        low: Optional[int],
+        code: bytes,
+        kind: str,
+    ):
+        self.scope, self.name, self.bits, self.high, self.low, self.code, self.kind = (
+            scope,
+            name,
+            bits,
+            high,
+            low,
+            code,
+            kind,
+        )
 
 
 Feeder = Optional["subprocess.Popen[bytes]"]
@@ -64,7 +81,7 @@ def open_wave(path: str) -> Tuple[IO[bytes], Feeder, int]:
     Returns the stream, the process that feeds it, and its size in bytes, if that is known.
     """
     if path == "-" and sys.stdin is None:
-        raise Failure("standard input is closed", 4)
+        raise FailureError("standard input is closed", 4)
     if path == "-":
         return sys.stdin.buffer, None, 0
     try:
@@ -73,13 +90,19 @@ def open_wave(path: str) -> Tuple[IO[bytes], Feeder, int]:
         size = file.seek(0, 2)
         file.seek(0)
     except OSError as error:
-        raise Failure(f"{path}: {error.strerror}", 4) from error
+        raise FailureError(f"{path}: {error.strerror}", 4) from error
     if head[:2] == b"\x1f\x8b":
         return gzip.GzipFile(fileobj=file), None, 0  # type: ignore[return-value]
     if head[:1] == b"\0" or head[:9] == b"\xfe" + bytes(7) + b"\x01":
         file.close()
         if which("fst2vcd") is None:
-            raise Failure(f"{path}: an FST file is read by the program fst2vcd, which is not in PATH: install gtkwave, or dump a VCD", 4)
+            raise FailureError(
+                (
+                    f"{path}: an FST file is read by the program fst2vcd, which is not in PATH: install gtkwave, or"
+                    " dump a VCD"
+                ),
+                4,
+            )
         said = tempfile.TemporaryFile()  # a pipe that is read at the end could be full before, and stop fst2vcd
         feeder = subprocess.Popen(["fst2vcd", "-f", path], stdout=subprocess.PIPE, stderr=said)
         feeder.stderr = said
@@ -87,15 +110,22 @@ def open_wave(path: str) -> Tuple[IO[bytes], Feeder, int]:
         return feeder.stdout, feeder, 0
     if head[:4] in (b"\x89HDF", b"LXT\0", b"VZT\0") or b"\0" in head:
         file.close()
-        raise Failure(f"{path}: this is neither VCD nor FST; {CONVERTERS}")
+        raise FailureError(f"{path}: this is neither VCD nor FST; {CONVERTERS}")
     return file, None, size
 
 
 class Reader:
     """Reads the header at once; `wanted(name, bits)` says which variables are kept."""
 
-    def __init__(self, stream: IO[bytes], wanted: Callable[[str, int], bool], name: str = "", feeder: Feeder = None, size: int = 0,
-                 quiet: bool = False):
+    def __init__(
+        self,
+        stream: IO[bytes],
+        wanted: Callable[[str, int], bool],
+        name: str = "",
+        feeder: Feeder = None,
+        size: int = 0,
+        quiet: bool = False,
+    ):
         self.stream, self.name, self.feeder, self.size, self.quiet = stream, name, feeder, size, quiet
         self.variables: List[Variable] = []
         self.kinds: Dict[str, int] = {}
@@ -108,20 +138,20 @@ class Reader:
         self._wanted = wanted
         try:
             self._header()
-        except Failure:
+        except FailureError:
             self.close()
             raise
 
-    def fail(self, words: str, line: Optional[int] = None) -> Failure:
-        return Failure(f"{self.name} line {line or self.line}: {words}")
+    def fail(self, words: str, line: Optional[int] = None) -> FailureError:
+        return FailureError(f"{self.name} line {line or self.line}: {words}")
 
     def _read(self, call: Callable[[int], bytes], most: int) -> bytes:
         try:
             text = call(most)
         except _DAMAGE as error:
-            raise Failure(f"{self.name}: the compressed file is damaged: {error}") from error
+            raise FailureError(f"{self.name}: the compressed file is damaged: {error}") from error
         except OSError as error:
-            raise Failure(f"{self.name}: {error.strerror or error}", 4) from error
+            raise FailureError(f"{self.name}: {error.strerror or error}", 4) from error
         self.read_bytes += len(text)
         return text
 
@@ -138,13 +168,23 @@ class Reader:
                 raise self.fail(f"a line of the header has more than {HEADER_LINE} bytes")
             self._has_crlf = self._has_crlf or text.endswith(b"\r\n")
             parts = text.split()
-            if not keyword and len(parts) > 5 and parts[0] == b"$var" and parts[-1] == b"$end" and parts.count(b"$end") == 1 and len(parts) < MOST_WORDS:
+            if (
+                not keyword
+                and len(parts) > 5
+                and parts[0] == b"$var"
+                and parts[-1] == b"$end"
+                and parts.count(b"$end") == 1
+                and len(parts) < MOST_WORDS
+            ):
                 self._variable(text.decode("latin-1").split()[1:-1], scope)  # the usual line
                 continue
             for at, word in enumerate(parts):
                 if not keyword:
                     if word[:1] != b"$" or word == b"$end":
-                        raise self.fail(f"a keyword such as $var is expected here, and not '{shown(word)}'" + (": this is not a VCD" if self.line == 1 else ""))
+                        raise self.fail(
+                            f"a keyword such as $var is expected here, and not '{shown(word)}'"
+                            + (": this is not a VCD" if self.line == 1 else "")
+                        )
                     keyword, words, began = word.decode("latin-1"), [], self.line
                 elif word != b"$end":
                     if keyword in ("$var", "$scope", "$timescale"):
@@ -159,8 +199,10 @@ class Reader:
                     self._definition(keyword, words, scope)
                     keyword = ""
 
-    def _no_header(self, keyword: str) -> Failure:
-        what = "the file is empty" if not self.line else f"the file ends within {keyword}" if keyword else "the file ends"
+    def _no_header(self, keyword: str) -> FailureError:
+        what = (
+            "the file is empty" if not self.line else f"the file ends within {keyword}" if keyword else "the file ends"
+        )
         self._ended()
         return self.fail(f"{what} before $enddefinitions: this is not a VCD, or only a part of one", max(self.line, 1))
 
@@ -259,7 +301,11 @@ class Reader:
     def line_of(self, time_line: bytes) -> str:
         """Returns the line number of a time in the block at hand, in words."""
         at = self.block.rfind(b"\n" + time_line)
-        return f"line {self.block_line + self.block.count(bytes((10,)), 0, at) + 1}" if at >= 0 else f"before line {self.block_line + 1}"
+        return (
+            f"line {self.block_line + self.block.count(bytes((10,)), 0, at) + 1}"
+            if at >= 0
+            else f"before line {self.block_line + 1}"
+        )
 
     def close(self) -> None:
         if self.feeder:
@@ -277,7 +323,9 @@ class Reader:
             self.feeder.stderr.seek(0)
             said = self.feeder.stderr.read(4096).decode("latin-1").strip()
             if status != 0 or (self.line == 0 and said):
-                raise Failure(f"{self.name}: fst2vcd could not read it{': ' + shown(said.splitlines()[0], 200) if said else ''}")
+                raise FailureError(
+                    f"{self.name}: fst2vcd could not read it{': ' + shown(said.splitlines()[0], 200) if said else ''}"
+                )
 
     def _tokens(self, block: bytes, codes: FrozenSet[bytes]) -> List[bytes]:
         out: List[bytes] = []
@@ -326,7 +374,7 @@ class Reader:
         elif word != b"$end":
             raise self.fail(f"'{shown(word)}' has no place among the changes", number)
 
-    def _extended(self, number: int) -> Failure:
+    def _extended(self, number: int) -> FailureError:
         return self.fail("this is an extended VCD ($dumpports), which is not read: dump with $dumpvars", number)
 
 
@@ -341,14 +389,24 @@ class Progress:
 
     def show(self) -> None:
         reader = self.reader
-        if reader.quiet or reader.read_bytes < SHOW_ABOVE and reader.size < SHOW_ABOVE or time.monotonic() - self.told < self.each:
+        if (
+            reader.quiet
+            or reader.read_bytes < SHOW_ABOVE
+            and reader.size < SHOW_ABOVE
+            or time.monotonic() - self.told < self.each
+        ):
             return
         self.told = time.monotonic()
         of = f" of {reader.size / 1e6:.0f}" if reader.size else ""
         speed = reader.read_bytes / 1e6 / (self.told - self.began)
         left = f", {(reader.size - reader.read_bytes) / 1e6 / speed:.0f} s left" if reader.size and speed else ""
         text = f"tlbridge-trace: {reader.read_bytes / 1e6:.0f}{of} MB, {speed:.0f} MB/s{left}"
-        print("\r" * self.is_terminal + text.ljust(60 * self.is_terminal), end="" if self.is_terminal else "\n", file=sys.stderr, flush=True)
+        print(
+            "\r" * self.is_terminal + text.ljust(60 * self.is_terminal),
+            end="" if self.is_terminal else "\n",
+            file=sys.stderr,
+            flush=True,
+        )
         self.written = True
 
     def done(self) -> None:

@@ -1,0 +1,149 @@
+"""What all tests share: the builds of the verified programs, the limit of each test, and the last line of a run."""
+
+import faulthandler
+import os
+import signal
+import zlib
+from collections import Counter
+from pathlib import Path
+from typing import Any, Iterator, List
+
+import project
+import pytest
+from differences import Differences
+
+# Seconds of processor time that Python may take in one test. A test that calls the C library could otherwise be in a
+# loop that no exception ends. A busy machine does not shorten this limit.
+LIMIT = 60
+LIMIT_OF_LONG = 1800
+
+
+def pytest_addoption(parser: pytest.Parser) -> None:
+    parser.addoption(
+        "--both-builds",
+        action="store_true",
+        help="fail if a program is not there in both builds, as `rt ci` leaves them",
+    )
+    parser.addoption(
+        "--write",
+        action="store_true",
+        help="store what a test computes from the sources, such as the reading list, and do not compare it",
+    )
+
+
+def pytest_configure(config: pytest.Config) -> None:
+    project.programs_are_required = config.getoption("--both-builds")
+    capture: Any = config.pluginmanager.getplugin("capturemanager")
+    with capture.global_and_fixture_disabled():
+        errors = os.dup(2)
+    faulthandler.register(signal.SIGVTALRM, file=errors, all_threads=False, chain=True)
+
+
+@pytest.hookimpl(hookwrapper=True)
+def pytest_runtest_protocol(item: pytest.Item) -> Iterator[None]:
+    """Ends the process with a traceback if a test exceeds its limit."""
+    signal.setitimer(signal.ITIMER_VIRTUAL, LIMIT_OF_LONG if item.get_closest_marker("long") else LIMIT)
+    yield
+    signal.setitimer(signal.ITIMER_VIRTUAL, 0)
+
+
+# Files whose tests need nothing in common, and take so long that all processors should share them.
+SHARED = tuple(
+    f"tests/{name}.py"
+    for name in (
+        "explain/test_explain",
+        "explain/test_remarks",
+        "program/test_chain",
+        "program/test_hostile",
+        "program/test_program",
+        "program/test_refusals",
+        "repository/test_inputs",
+    )
+)
+SHARES = 8
+
+
+def unit_of(nodeid: str) -> str:
+    """The unit in which a test is sent to a process: its file, or a share of the file's tests of one name."""
+    file, _, name = nodeid.partition("::")
+    if file not in SHARED:
+        return file
+    return f"{file}::{name.partition('[')[0]}, {zlib.crc32(nodeid.encode()) % SHARES}"
+
+
+@pytest.hookimpl(optionalhook=True)
+def pytest_xdist_make_scheduler(config: pytest.Config, log: Any) -> Any:
+    """Runs each file in one process, as --dist loadfile does, except those above."""
+    if config.getoption("dist") != "loadfile":
+        return None
+    from xdist.scheduler import LoadScopeScheduling
+
+    class Units(LoadScopeScheduling):  # type: ignore[misc]
+        def _split_scope(self, nodeid: str) -> str:
+            return unit_of(nodeid)
+
+    return Units(config, log)
+
+
+@pytest.hookimpl(tryfirst=True)
+def pytest_collection_modifyitems(items: List[pytest.Item]) -> None:
+    """Begins with the files that one process runs, and ends with the small units that fill all processes."""
+    items.sort(key=lambda item: item.nodeid.partition("::")[0] in SHARED)
+
+
+@pytest.fixture
+def differences() -> Differences:
+    """Collects what differs in a test, which then fails with all of it."""
+    return Differences()
+
+
+@pytest.hookimpl(hookwrapper=True)
+def pytest_pyfunc_call(pyfuncitem: pytest.Function) -> Iterator[None]:
+    """Fails a test that found differences, once it has ended."""
+    outcome: Any = yield
+    if not outcome.excinfo and "differences" in pyfuncitem.funcargs:
+        differences: Any = pyfuncitem.funcargs["differences"]
+        differences.fail()
+
+
+@pytest.fixture(scope="session", params=project.BUILDS, ids=("llvm", "rattle"))
+def tlbridge(request: pytest.FixtureRequest) -> Path:
+    """The verified program `tlbridge`, once in each build."""
+    return project.needs_program("tlbridge", request.param)
+
+
+@pytest.fixture(scope="session", params=project.BUILDS, ids=("llvm", "rattle"))
+def tlexplain(request: pytest.FixtureRequest) -> Path:
+    """The verified program `tlexplain`, once in each build."""
+    return project.needs_program("tlexplain", request.param)
+
+
+@pytest.fixture(scope="session")
+def library() -> Path:
+    """The shared library with the pair 8:4, which the Python package then finds: the one that the variable
+    TLBRIDGE_LIBRARY names, or the one that `make install` left in out/."""
+    if not os.environ.get("TLBRIDGE_LIBRARY"):
+        os.environ["TLBRIDGE_LIBRARY"] = str(project.needs_library("8:4"))
+    return Path(os.environ["TLBRIDGE_LIBRARY"])
+
+
+def stale_programs() -> List[Path]:
+    """The built programs that are older than a source."""
+    sources = [path for part in ("src", "specs", "proofs") for path in project.ROOT.glob(f"crates/*/{part}/**/*")]
+    newest = max((path.stat().st_mtime for path in sources if path.is_file()), default=0.0)
+    programs = [project.built(name) for name in ("tlbridge", "tlexplain")]
+    return [path for path in programs if path.is_file() and path.stat().st_mtime < newest]
+
+
+@pytest.hookimpl(hookwrapper=True, tryfirst=True)
+def pytest_terminal_summary(terminalreporter: Any) -> Iterator[None]:
+    """Prints why tests were left out, and in the last line `N passed, M failed, K left out`, for .ci/run."""
+    yield
+    reasons = Counter(str(report.longrepr[2]) for report in terminalreporter.stats.get("skipped", []))
+    for reason, count in sorted(reasons.items()):
+        terminalreporter.write_line(f"left out: {count}: {reason.replace('Skipped: ', '', 1)}")
+    for path in stale_programs():
+        terminalreporter.write_line(f"{path.relative_to(project.ROOT)} is older than a source: it was tested as it is")
+    counts = {name: len(terminalreporter.stats.get(name, [])) for name in ("passed", "failed", "error", "skipped")}
+    left_out = f", {counts['skipped']} left out" if counts["skipped"] else ""
+    terminalreporter.write_line(f"{counts['passed']} passed, {counts['failed'] + counts['error']} failed{left_out}")

@@ -1,0 +1,51 @@
+"""Commands that a test runs: with a limit of time, and with what they printed in the message if they fail."""
+
+import os
+import subprocess
+from pathlib import Path
+from typing import Mapping, Optional, Sequence, Union
+
+Word = Union[str, Path, int]
+
+
+def run(
+    words: Sequence[Word],
+    folder: Optional[Path] = None,
+    timeout: float = 300,
+    environment: Optional[Mapping[str, str]] = None,
+    text: Optional[str] = None,
+) -> "subprocess.CompletedProcess[str]":
+    """Runs a command to its end. `environment` is added to the test's own, `text` is its standard input (none by
+    default).
+    """
+    return subprocess.run(
+        [str(word) for word in words],
+        cwd=folder,
+        env={**os.environ, **(environment or {})},
+        input=text,
+        stdin=subprocess.DEVNULL if text is None else None,
+        capture_output=True,
+        text=True,
+        errors="replace",
+        timeout=timeout,
+    )
+
+
+def said(done: "subprocess.CompletedProcess[str]", most: int = 3000) -> str:
+    """What a command printed, on both outputs, with its status: the end of it."""
+    return (
+        f"{' '.join(map(str, done.args))[:300]}: status {done.returncode}\n{done.stdout[-most:]}{done.stderr[-most:]}"
+    )
+
+
+def succeed(words: Sequence[Word], folder: Optional[Path] = None, timeout: float = 300) -> str:
+    """Runs a command that has to end with status 0. Returns its standard output."""
+    done = run(words, folder, timeout)
+    assert done.returncode == 0, said(done)
+    return done.stdout
+
+
+def succeed_silently(words: Sequence[Word], folder: Optional[Path] = None, timeout: float = 300) -> None:
+    """Runs a command that has to end with status 0 and print nothing: no warning."""
+    done = run(words, folder, timeout)
+    assert (done.returncode, done.stdout, done.stderr) == (0, "", ""), said(done)

@@ -1,0 +1,526 @@
+"""The maker of lawful traffic, by a seed: of two links at once with its times, and as a trace.
+
+An event is a beat that a link accepts at a time, or a change of a link's reset. `exchange` makes lawful traffic of all
+five channels, with the
+far beats that tlbridge-model gives; `flipped` and others plant a mistake in it, and `reported` says in which words a
+scoreboard has to report the
+difference, by nothing but the rules of docs/SCOREBOARD.md. `TraceMaker` makes a trace, whose beats have no time.
+"""
+import random
+from dataclasses import dataclass, field, replace
+from functools import lru_cache
+from typing import Dict, List, Optional, Tuple
+
+from project import MODEL, script
+from tables import FIELDS, FROM_CLIENT, MASKED, NUMBERS, OPCODES, RELEASE_ACK, near_width
+
+model = script(MODEL)
+
+CLIENT, MANAGER = 0, 1
+NAMES = {CLIENT: "client", MANAGER: "manager"}
+DIGITS = {"opcode": 1, "param": 1, "size": 1, "source": 4, "sink": 4, "address": 16, "denied": 1, "corrupt": 1}
+
+
+def is_partial(message):
+    """Whether each beat's mask says which of its bytes are written."""
+    return message.channel in "AB" and message.head["opcode"] == NUMBERS["A", "PutPartialData"]
+
+
+@dataclass(frozen=True)
+class Event:
+    """A beat that a link accepts. `number` counts those of its channel on this link; `active` are the lanes with a byte
+    of the message; and of
+    a far beat, `lanes` says which of them are compared."""
+
+    time: int
+    link: int
+    channel: str
+    head: Dict[str, int] = field(default_factory=dict)
+    mask: int = 0
+    data: bytes = b""
+    corrupt: int = 0
+    number: int = 0
+    lanes: Tuple[bool, ...] = ()
+    active: int = 0
+    place: str = "only"  # first, middle, last or only beat of its message
+    opcode: int = 0
+
+    @property
+    def is_far(self):
+        return self.link != near_link(self.channel)
+
+    def value(self, name):
+        return getattr(self, name) if name in ("mask", "data", "corrupt") else self.head[name]
+
+
+def reset(time, link, asserted):
+    return Event(time, link, "R", {"opcode": int(asserted)})
+
+
+def near_link(channel):
+    return CLIENT if channel in FROM_CLIENT else MANAGER
+
+
+def place_of(at, count):
+    return "only" if count == 1 else "first" if at == 0 else "last" if at == count - 1 else "middle"
+
+
+class Exchange:
+    """Makes the events of messages, one after the other; each beat is later than the one before, unless `step` is 0."""
+
+    def __init__(self, client, manager, seed=1, step=10, id_bits=16):
+        self.widths = {CLIENT: client, MANAGER: manager}
+        self.random = random.Random(f"{client} {manager} {seed}")
+        self.step, self.time, self.id_bits = step, 10, id_bits
+        self.numbers = {(link, channel): 0 for link in NAMES for channel in "ABCDE"}
+        self.events: List[Event] = []
+
+    def tick(self, least=0):
+        self.time += max(self.step, least)
+
+    def head(self, channel, opcode, size, **more):
+        choose = self.random
+        if channel == "E":
+            return {"sink": choose.getrandbits(self.id_bits), **more}
+        kind = OPCODES[channel][opcode]
+        head = {
+            "opcode": opcode,
+            "param": choose.randrange(kind.params),
+            "size": size,
+            "source": choose.getrandbits(self.id_bits),
+        }
+        if channel == "D":
+            head.update(sink=choose.getrandbits(self.id_bits), denied=choose.randrange(2))
+        else:
+            head["address"] = choose.getrandbits(64) >> size << size
+        return {**head, **more}
+
+    def message(self, channel, head, home=None):
+        """A lawful message with bytes, mask and corrupt bits at random, on all lanes."""
+        width = self.widths[near_link(channel)]
+        made = model.Message(channel, head, home=head.get("address", 0) if home is None else home)
+        for at in range(made.beat_count(width)):
+            mask = made.active_lanes(at, width) if channel in "AB" else 0
+            if is_partial(made):
+                mask &= self.random.getrandbits(width)
+            corrupt = int(made.has_data and self.random.random() < 0.3)
+            made.beats.append(model.Beat(head, mask, self.random.randbytes(width) if channel != "E" else b"", corrupt))
+        return made
+
+    def add(self, link, channel, beat, at, message, count, time=None):
+        width = self.widths[link]
+        lanes, active = (), 0
+        if channel != "E" and message.has_data:
+            active = message.active_lanes(at, width)
+        if link != near_link(channel) and channel != "E":
+            lanes = tuple(
+                bool(active >> lane & 1) and (not is_partial(message) or bool(beat.mask >> lane & 1))
+                for lane in range(width)
+            )
+        self.events.append(
+            Event(
+                self.time if time is None else time,
+                link,
+                channel,
+                beat.head,
+                beat.mask,
+                beat.lanes,
+                beat.corrupt,
+                self.numbers[link, channel],
+                lanes,
+                active,
+                place_of(at, count),
+                beat.head.get("opcode", 0),
+            )
+        )
+        self.numbers[link, channel] += 1
+
+    def send(self, channel, head, home=None, far_first=False):
+        """The near beats of a message, and each far beat once it is due (or before its near beats)."""
+        near = near_link(channel)
+        made = self.message(channel, head, home)
+        came = model.far_beats(made, self.widths[near], self.widths[1 - near]) if channel != "E" else [model.Beat(head)]
+        count = len(made.beats)
+        sent = 0
+        for at, beat in enumerate(made.beats):
+            due = (
+                len(came)
+                if far_first
+                else made.far_count(at + 1, self.widths[near], self.widths[1 - near])
+                if channel != "E"
+                else 1
+            )
+            order = [("near", at, beat)] + [("far", i, came[i]) for i in range(sent, due)]
+            sent = due
+            for where, i, one in order[1:] + order[:1] if far_first else order:
+                self.tick()
+                self.add(
+                    near if where == "near" else 1 - near,
+                    channel,
+                    one,
+                    i,
+                    made,
+                    count if where == "near" else len(came),
+                )
+        return head
+
+    def ask(self, opcode, size, response, far_first=False, **more):
+        """A request on A and its response on D."""
+        head = self.send("A", self.head("A", opcode, size, **more), far_first=far_first)
+        self.tick()
+        answer = self.head("D", response, size, source=head["source"])
+        self.send("D", answer, home=head["address"], far_first=far_first)
+        return head
+
+
+REQUESTS = ((0, 0), (1, 0), (2, 1), (3, 1), (4, 1), (5, 2), (6, 5), (7, 4), (6, 4))
+OTHERS = {"B": (0, 1, 2, 3, 4, 5, 6, 7), "C": (0, 1, 2, 4, 5, 6, 7)}
+
+
+def exchange(client, manager, **more):
+    """Each message of each channel, of sizes around both widths, up to `most`."""
+    return list(made_exchange(client, manager, **more))
+
+
+@lru_cache(maxsize=None)
+def made_exchange(client, manager, seed=1, step=10, far_first=False, rounds=1, most=None, id_bits=16):
+    made = Exchange(client, manager, seed, step, id_bits)
+    low, high = sorted((client.bit_length() - 1, manager.bit_length() - 1))
+    most = min(high + 2, 12) if most is None else most
+    sizes = sorted({0, max(low - 1, 0), low, min(low + 2, 12), high, most})
+    for _ in range(rounds):
+        for at, (request, response) in enumerate(REQUESTS):
+            for size in sizes if OPCODES["A"][request].has_data or response in (1, 5) else sizes[at % len(sizes) :][:1]:
+                made.ask(request, min(size, most), response, far_first)
+        for channel, opcodes in OTHERS.items():
+            for at, opcode in enumerate(opcodes):
+                carries = OPCODES[channel][opcode].has_data
+                for size in sizes if carries else sizes[at % len(sizes) :][:1]:
+                    made.send(channel, made.head(channel, opcode, min(size, most)), far_first=far_first)
+        made.send("D", made.head("D", 6, 3), home=0, far_first=far_first)
+        for _ in range(4):
+            made.send("E", made.head("E", 0, 0), far_first=far_first)
+    return made.events
+
+
+def with_value(event, name, value):
+    if name in ("mask", "data", "corrupt"):
+        return replace(event, **{name: value})
+    return replace(event, head={**event.head, name: value})
+
+
+def bits_of(event, name):
+    """The bits of a field, lowest first, of those that may be changed so that the field still fits."""
+    if name == "data":
+        return [8 * lane + bit for lane, compared in enumerate(event.lanes) if compared for bit in (0, 7)]
+    if name == "mask":
+        return list(range(len(event.data)))
+    most = {"opcode": 3, "param": 2 if event.channel == "D" else 3, "size": 4, "source": 16, "sink": 16, "address": 64}
+    return list(range(most.get(name, 1)))
+
+
+def flipped(event, name, bit):
+    """The event with one bit of a field changed."""
+    if name != "data":
+        return with_value(event, name, event.value(name) ^ 1 << bit)
+    data = bytearray(event.data)
+    data[bit // 8] ^= 1 << bit % 8
+    return with_value(event, name, bytes(data))
+
+
+def shown(event, name, value):
+    """A value as a scoreboard prints it: of data, the highest lane first, and `..` for a lane that is not compared."""
+    if name == "data":
+        return "".join(
+            f"{byte:02x}" if compared else ".." for byte, compared in reversed(list(zip(value, event.lanes)))
+        )
+    digits = max(len(event.data) + 3, 4) // 4 if name == "mask" else DIGITS[name]
+    return f"{value:0{digits}x}"
+
+
+def reported(was, came):
+    """Returns the line about a far beat that arrived as `came`, and was expected unchanged."""
+    order = "opcode param size source sink address mask denied corrupt data".split()
+    names = [name for name in order if name in FIELDS[was.channel] and was.value(name) != came.value(name)]
+    said = "".join(
+        f"; {name} got {shown(was, name, came.value(name))}, expected {shown(was, name, was.value(name))}"
+        for name in names
+    )
+    return f"time {came.time}: far {was.channel} beat {was.number}{said}"
+
+
+def of(events, channel, far=True, place=None, opcode=None, data=None):
+    """The numbers of the events that are such beats."""
+    return [
+        i
+        for i, event in enumerate(events)
+        if event.channel == channel
+        and event.is_far == far
+        and place in (None, event.place)
+        and opcode in (None, event.opcode)
+        and (data is None or any(event.lanes) == data)
+    ]
+
+
+def far_of(events, at):
+    """The numbers of the far beats of the message of a near beat."""
+    channel = events[at].channel
+    message = sum(events[i].place in ("first", "only") for i in of(events, channel, far=False) if i <= at)
+    far, count = [], 0
+    for i in of(events, channel):
+        count += events[i].place in ("first", "only")
+        if count == message:
+            far.append(i)
+    return far
+
+
+def spoilt(event, fault):
+    """The near beat with this fault, by its number; None if it cannot have it."""
+    head, channel = event.head, event.channel
+    if fault == 1:
+        return with_value(event, "opcode", 3) if channel in "CD" else None
+    if fault == 2:
+        return with_value(event, "param", 3 if channel == "D" else 7)
+    if fault == 3:
+        return with_value(event, "size", 13)
+    if fault == 4:
+        return with_value(event, "address", head["address"] | 1) if channel != "D" and head["size"] > 0 else None
+    if fault == 5:
+        return with_wrong_mask(event) if channel in "AB" else None
+    if fault == 6:
+        return with_value(event, "corrupt", 1) if not event.active else None
+    if fault == 10:
+        return with_value(event, "size", head["size"] + 1) if channel == "D" and head["opcode"] != 6 else None
+    return flipped(event, "denied", 0) if channel == "D" else flipped(event, "address", 60)
+
+
+def with_wrong_mask(event):
+    """PutPartialData may have any active lane, so a lane next to them is set if there is one."""
+    width, size = len(event.data), event.head["size"]
+    beside = event.head["address"] % width ^ (1 << size) if 1 << size < width else None
+    if event.head["opcode"] == 1 and beside is None:
+        return None
+    return with_value(event, "mask", event.mask ^ 1 << (beside if event.head["opcode"] == 1 else 0))
+
+
+def broken(events, channel, fault, place, whole=False):
+    """The traffic with this fault in a near beat (or in each beat of its message), and the number of that beat; None if
+    none can have it.
+    """
+    for at in of(events, channel, far=False, place=place):
+        if spoilt(events[at], fault) is not None and (events[at].active or place == "only" or fault == 6):
+            break
+    else:
+        return None
+    message = [at]
+    if whole:
+        message += [i for i in of(events, channel, far=False) if at < i and far_of(events, i) == far_of(events, at)]
+    made = list(events)
+    for i in message:
+        made[i] = spoilt(events[i], fault)
+    return made, at
+
+
+def head_said(event):
+    """The head of a beat in the words of a scoreboard."""
+    head = event.head
+    if event.channel == "E":
+        return f"sink {head['sink']:04x}"
+    last = f", sink {head['sink']:04x}" if event.channel == "D" else f", address {head['address']:x}"
+    return f"opcode {head['opcode']}, size {head['size']}, source {head['source']:04x}{last}"
+
+
+def moved(events, by):
+    return [replace(event, time=event.time + by) for event in events]
+
+
+def renumbered(events):
+    """The events, each with its number on its channel and link."""
+    counts, made = {}, []
+    for event in events:
+        key = event.link, event.channel
+        counts[key] = counts.get(key, -1) + 1
+        made.append(replace(event, number=counts[key]))
+    return made
+
+
+def packed(events):
+    """The same traffic in few cycles: a beat has the time of the one before, unless its channel has a beat of its link
+    at this time. So a response may
+    come in the cycle of its request, a request in the cycle in which its source becomes free, and a far beat in the
+    cycle of its near beat.
+    """
+    time, seen, made = events[0].time, set(), []
+    for event in events:
+        if (event.link, event.channel) in seen or (event.channel != "R" and "R" in {channel for _, channel in seen}):
+            time, seen = time + 10, set()
+        seen.add((event.link, event.channel))
+        made.append(replace(event, time=time))
+    return made
+
+
+# ---- Traces
+
+
+@dataclass(frozen=True)
+class TraceOptions:
+    """Near beats until there are `beats` of them, or three times as many far ones."""
+
+    client: int  # the width of each link, in bytes
+    manager: int
+    beats: int
+    seed: int
+    sources: int = 0  # draw from only so many: they are used again at once, often amid the rest of the last response
+    unique: bool = False  # use each source for one request on A only
+    outstanding: int = 1 << 16  # the most requests without a response at a time
+    largest: int = 12  # size
+    mix: Tuple[int, ...] = (5, 5, 2, 2, 1, 1)  # shares of A, D, B, C, E, ReleaseAck
+    kind: Optional[int] = None  # only this opcode on A and B, AccessAckData on D
+    size: Optional[int] = None  # only this one
+    source_bits: int = 8
+    sink_bits: int = 8
+    address_bits: int = 64
+
+
+class TraceMaker:
+    """Random lawful traffic as a trace, whose beats have no time.
+
+    Lanes without a byte hold anything; masks of PutPartialData, corrupt, denied, params and ids are random. Every
+    request is answered, at some
+    later place and in any order.
+    """
+
+    def __init__(self, options: TraceOptions) -> None:
+        o = self.options = options
+        self.random = random.Random(f"{o.client} {o.manager} {o.seed}")
+        self.version = 2 if max(o.client, o.manager) == 128 or max(o.source_bits, o.sink_bits) > 8 else 1
+        self.digits = 2 * self.version
+        self.near = {k: near_width(k, o.client, o.manager) for k in "ABCDE"}
+        self.far = {k: near_width(k, o.manager, o.client) for k in "ABCDE"}
+        self.sources = 1 << min(4 * self.digits, o.source_bits)
+        self.sinks = 1 << min(4 * self.digits, o.sink_bits)
+        self.pool = [self.random.randrange(self.sources) for _ in range(o.sources)]
+        self.unused = self.random.sample(range(self.sources), min(self.sources, 4096)) if o.unique else []
+        self.lines: List[str] = []
+        self.near_beats = self.far_beats = 0
+        self.outstanding: Dict[int, int] = {}  # the size of each request, by its source
+
+    def source(self) -> int:
+        r = self.random
+        return (
+            r.choice(self.pool)
+            if self.pool
+            else r.choice([r.randrange(self.sources), 7, self.sources - 1, r.randrange(4)]) % self.sources
+        )
+
+    def size(self, k: str, data: bool) -> int:
+        r, o = self.random, self.options
+        if o.size is not None:
+            return o.size
+        size = min(r.randint(0, r.choice([3, 5, 8, 12])), o.largest)
+        while data and size and (1 << size) // self.near[k] > max(1, o.beats - self.near_beats):
+            size -= 1
+        return size
+
+    def address(self, size: int) -> int:
+        r = self.random
+        some = r.choice([r.randrange(0x4000), r.getrandbits(64), (1 << 64) - 1 - r.randrange(0x3000)])
+        return some % (1 << self.options.address_bits) >> size << size
+
+    def message(
+        self,
+        k: str,
+        opcode: int,
+        param: int,
+        size: int,
+        source: int,
+        address: int = 0,
+        sink: int = 0,
+        denied: int = 0,
+        data: bool = False,
+    ) -> None:
+        """Adds the lines of a message."""
+        r, width = self.random, self.near[k]
+        per_beat = min(width, 1 << size)
+        active = sum(1 << (address + i) % width for i in range(per_beat)) if k in MASKED else 0
+        head = f"{k} {opcode:x} {param:x} {size:x} {source:0{self.digits}x} "
+        head += f"{sink:0{self.digits}x} {denied}" if k == "D" else f"{address:016x}"
+        often_corrupt = r.random() < 0.25
+        count = (1 << size) // per_beat if data else 1
+        for _ in range(count):
+            corrupt = int(data and r.random() < (0.5 if often_corrupt else 0.03))
+            mask = ""
+            if k in "AB":
+                partial = k in "AB" and opcode == 1
+                bits = active & r.choice([r.getrandbits(width), r.getrandbits(width), 0, active]) if partial else active
+                mask = f" {bits:0{(width + 3) // 4}x}"
+            self.lines.append(f"{head}{mask} {r.getrandbits(8 * width):0{2 * width}x} {corrupt}")
+        self.near_beats += count
+        self.far_beats += max(1, (1 << size) // self.far[k]) if data else 1
+
+    def pick(self, k: str) -> Tuple[int, int, bool]:
+        """An opcode and a param of a channel, and whether the message carries data."""
+        kind = self.options.kind
+        opcode = self.random.choice(self.kinds(k)) if kind is None else 1 if k == "D" else kind if k in "AB" else 7
+        of = OPCODES[k][opcode]
+        return opcode, self.random.randrange(of.params), of.has_data
+
+    def request(self) -> bool:
+        """A request on A; False if there is no room for one, or its source is busy."""
+        source = self.unused[-1] if self.unused else self.source()
+        if (
+            source in self.outstanding
+            or len(self.outstanding) >= self.options.outstanding
+            or (self.options.unique and not self.unused)
+        ):
+            return False
+        if self.unused:
+            self.unused.pop()
+        opcode, param, data = self.pick("A")
+        size = self.size("A", data)
+        self.outstanding[source] = size
+        self.message("A", opcode, param, size, source, self.address(size), data=data)
+        return True
+
+    def response(self) -> None:
+        """A response on D to one of the requests."""
+        source = self.random.choice(list(self.outstanding))
+        opcode, param, data = self.pick("D")
+        size = self.outstanding.pop(source)
+        self.message(
+            "D", opcode, param, size, source, 0, self.random.randrange(self.sinks), self.random.randrange(2), data=data
+        )
+
+    def step(self) -> None:
+        """A message, of the channel that is drawn."""
+        r, o = self.random, self.options
+        what = r.choices("ADBCEr", o.mix)[0]
+        if what == "A" and not self.request():
+            what = "D"
+        if what == "D" and self.outstanding:
+            self.response()
+        elif what == "r":
+            self.message(
+                "D", RELEASE_ACK, 0, r.randint(0, o.largest), self.source(), 0, r.randrange(self.sinks), r.randrange(2)
+            )
+        elif what == "E":
+            self.lines.append(f"E {r.randrange(self.sinks):0{self.digits}x}")
+        elif what in "BC":
+            opcode, param, data = self.pick(what)
+            size = self.size(what, data)
+            self.message(what, opcode, param, size, self.source(), self.address(size), data=data)
+
+    @staticmethod
+    def kinds(k: str) -> List[int]:
+        """The opcodes of a channel; on D those of responses to requests on A."""
+        return [opcode for opcode in OPCODES[k] if (k, opcode) != ("D", RELEASE_ACK)]
+
+    def text(self) -> str:
+        """The trace."""
+        o = self.options
+        while self.near_beats < o.beats and self.far_beats < 3 * o.beats and not (o.unique and not self.unused):
+            self.step()
+        for source, size in self.outstanding.items():
+            self.message("D", 0, 0, size, source)
+        head = f"tilelink-trace {self.version} client {o.client} manager {o.manager}"
+        return "\n".join([head, *self.lines]) + "\n"

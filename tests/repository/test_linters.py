@@ -1,0 +1,79 @@
+"""The linters of each language: black, flake8 and mypy for Python, shellcheck for scripts of the shell. A missing one
+is a skip."""
+
+import os
+import re
+import subprocess
+
+import pytest
+from project import ROOT, needs_tools
+
+FIRST_LINE = re.compile(rb"#!.*\b(python3|sh|bash)\b")
+# What mypy checks strictly, and files there that have no types yet.
+TYPED = ("python/tlbridge", "tests/lib")
+UNTYPED = tuple(
+    f"tests/lib/{name}.py"
+    for name in ("board_library", "checker_model", "lawful", "link_cases", "subtests", "valgrind")
+)
+
+
+def files_of(kind):
+    """The files of the repository in Python or in the language of the shell: by their ending, or by their first
+    line."""
+    listed = subprocess.run(["git", "ls-files", "-z"], cwd=ROOT, capture_output=True, timeout=60, check=False)
+    names = [name for name in listed.stdout.decode().split("\0") if name]
+    if listed.returncode:  # (an archive without the history)
+        names = [str(path.relative_to(ROOT)) for path in ROOT.rglob("*") if path.is_file() and "out" not in path.parts]
+    return sorted(name for name in names if kind_of(ROOT / name) == kind)
+
+
+def kind_of(path):
+    if path.is_symlink() or not path.is_file():
+        return ""
+    if path.suffix:
+        return {".py": "python", ".sh": "shell"}.get(path.suffix, "")
+    with open(path, "rb") as file:
+        found = FIRST_LINE.match(file.readline(200))
+    return {b"python3": "python", b"sh": "shell", b"bash": "shell"}[found[1]] if found else ""
+
+
+def passes(*words, **environment):
+    """Fails with what a linter prints if its status is not 0."""
+    needs_tools(words[0])
+    done = subprocess.run(
+        words, cwd=ROOT, capture_output=True, text=True, timeout=600, check=False, env={**os.environ, **environment}
+    )
+    assert done.returncode == 0, done.stdout[-5000:] + done.stderr[-5000:]
+
+
+def test_there_are_scripts_of_both_kinds():
+    assert {"tlbridge-model", "tools/build", "tests/conftest.py"} <= {*files_of("python")}
+    assert {"tlbridge", ".ci/run", "tools/install-tools"} <= {*files_of("shell")}
+
+
+def test_black():
+    """All Python is laid out by black, with the configuration in pyproject.toml."""
+    passes("black", "--check", *files_of("python"))
+
+
+def test_flake8():
+    """No file has a name that is not used, a line above 120 columns, or another finding of flake8."""
+    passes("flake8", *files_of("python"))
+
+
+@pytest.mark.parametrize("folder", TYPED)
+def test_mypy(folder):
+    """The types of the package and of what the tests share are checked strictly."""
+    names = [str(path.relative_to(ROOT)) for path in sorted((ROOT / folder).rglob("*.py"))]
+    passes(
+        "mypy",
+        "--follow-imports=silent",
+        *(name for name in names if name not in UNTYPED),
+        MYPYPATH=os.pathsep.join(str(ROOT / name) for name in ("python", "tests/lib")),
+    )
+
+
+@pytest.mark.parametrize("name", files_of("shell"))
+def test_shellcheck(name):
+    """A script may read another one, as tlexplain does."""
+    passes("shellcheck", "--external-sources", name)
