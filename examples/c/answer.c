@@ -1,4 +1,4 @@
-/* Answers the trace on standard input, as `tlbridge run --sync`: docs/LIBRARY.md. */
+/* Answers the trace on standard input, as `tlbridge run --sync`: docs/C.md. */
 #include "tlbridge.h"
 #include <stdio.h>
 

@@ -1,6 +1,7 @@
 """A cocotb test of the adapter of examples/start: a host, a device, and the scoreboard on both links.
 
-It was not run under a real cocotb; python/tests runs `Scoreboard.watch` with a stand-in for its triggers.
+It was not run under a real cocotb (docs/COCOTB.md). tests/python runs `Scoreboard.watch` with a substitute for its
+triggers.
 """
 import cocotb
 from cocotb.clock import Clock

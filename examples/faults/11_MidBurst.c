@@ -1,6 +1,6 @@
 /* A caller closes channel A after the first of two beats of a burst: refused, and A stays open for the second.
  *
- *     bench/make-library 8 4
+ *     tools/make-library 8 4
  *     cc -Iinclude examples/faults/11_MidBurst.c out/libtlbridge_8_4.a && ./a.out
  */
 #include "tlbridge.h"

@@ -1,6 +1,6 @@
 /* A caller asks for rings of 0, 1, 4,096 and 4,097 beats: a ring holds 1 to 4,096.
  *
- *     bench/make-library 8 4
+ *     tools/make-library 8 4
  *     cc -Iinclude examples/faults/12_RingSize.c out/libtlbridge_8_4.a && ./a.out
  */
 #include "tlbridge.h"

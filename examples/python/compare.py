@@ -1,5 +1,5 @@
 #!/usr/bin/env python3
-"""Reports two logs of beats to a scoreboard: those of examples/start/lane_bug, from an adapter of 8 to 4 bytes with a bug.
+"""Reports two logs of beats to a scoreboard: examples/start/lane_bug, from an adapter of 8 to 4 bytes with a bug.
 
     compare.py FOLDER
 """
