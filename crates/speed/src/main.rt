@@ -1,5 +1,5 @@
 //! Measures reading, conversion and writing of traces, and one crossing between its two ends.
-//! `bench/run` runs it on traces that `tools/make-bursts` makes. `bench/programs` measures whole
+//! `bench/run` runs it on traces that `tools/make-trace` makes. `bench/programs` measures whole
 //! runs as processes of `tlbridge`.
 //!
 //! - `speed measure` reads a trace of A or E lines from standard input. Each line of its output is

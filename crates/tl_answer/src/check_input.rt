@@ -94,8 +94,8 @@ fn new_judge<const C: usize, const M: usize>(
     Judge::new(client, manager)
 }
 
-/// Returns the answer of a check to a text whose header names this version and these widths. The
-/// input holds its first piece, and nothing of it was used. The text is read to its end,
+/// Returns the answer of a check to a text whose header names this version and these widths. Its
+/// first piece has been read and not consumed. The text is read to its end,
 /// incrementally: one piece of it, the beats that wait and fewer finished beats are in memory.
 /// Errors: as `script_of_input`.
 #[inline(never)]

@@ -137,8 +137,8 @@ fn cross<R: Read, const C: usize, const M: usize>(
 }
 
 /// Returns the answer of a run in one thread, with rings of `ring` beats, to a text whose header
-/// names this version and these widths. The input holds its first piece, and nothing of it was
-/// used. The text is read to its end, incrementally: one piece of it, the beats that wait, fewer
+/// names this version and these widths. Its first piece has been read and not consumed.
+/// The text is read to its end, incrementally: one piece of it, the beats that wait, fewer
 /// finished beats and the answer so far are in memory. Errors: as `script_of_input`.
 #[inline(never)]
 pub(crate) fn run_input<R: Read, const C: usize, const M: usize>(

@@ -14,8 +14,8 @@ use tl_trace::laws::traces_have_beats;
 ///
 /// - The accepted beats carry whole messages, one after the other, and then perhaps the first beats
 ///   of one more.
-/// - The beats that arrive are the layout of these messages at the far width; of the last one, as
-///   many as are due. No burst is interrupted there.
+/// - The beats that arrive are the layout of these messages at the far width, the last one up
+///   to the beats that are due. No burst is interrupted there.
 /// - The verdict depends on whether the next beat is admitted, and on what it waits for.
 ///
 /// All of this holds in the one settled state. `run_text` writes the lines of these far beats and

@@ -48,8 +48,8 @@ fn write_answer<W: Write>(writer: &mut W, answer: &AnswerParts) -> Result<bool, 
     Ok(answer.all_done)
 }
 
-/// Returns the answer to a text in the way of the order. The input holds the first piece of the text,
-/// and nothing of it was used. Errors: as `script_of_input`.
+/// Returns the answer to a text as the command asks. The first piece of the text has been read and
+/// not consumed. Errors: as `script_of_input`.
 fn answer_by<T: Threads, R: Read>(
     rt: &T,
     alloc: Global,

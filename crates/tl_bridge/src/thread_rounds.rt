@@ -1,5 +1,5 @@
 //! The rounds of a run in two threads.
-ghost use Rattle.std.specs.Prelude.{◌≡◌, ◌+◌, ℕ};
+ghost use Rattle.std.specs.Prelude.{◌≡◌, ◌≤◌, ◌+◌, ℕ};
 ghost use Rattle.tl_run.specs.Arrivals.{no_beats};
 ghost use Rattle.tl_run.specs.Scripts.{HasShortLists, near_beats};
 ghost use Rattle.tl_offer.specs.Widths.{AreWidths};
@@ -148,6 +148,7 @@ pub(crate) fn play_rounds<
         G.HasPassed (n + result.rounds) client_gate.new }
     ensures manager_passed { (n : ℕ) → H.HasPassed n manager_gate.old →
         H.HasPassed (n + result.rounds) manager_gate.new }
+    ensures some_round { 1 ≤ result.rounds }
 {
     let mut at = PerChannel {
         a: 0,

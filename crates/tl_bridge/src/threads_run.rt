@@ -72,6 +72,7 @@ pub fn run_threads<R: Threads, G: Gate + Send, H: Gate + Send, const C: usize, c
         IfOk result (λ outcome. G.HasPassed (n + outcome.rounds) client_gate.new) }
     ensures manager_rounds { (n : ℕ) → H.HasPassed n manager_gate.old →
         IfOk result (λ outcome. H.HasPassed (n + outcome.rounds) manager_gate.new) }
+    ensures some_round { IfOk result (λ outcome. 1 ≤ outcome.rounds) }
     ensures size { IsOk result → (1 ≤ ring) × (ring ≤ MAX_RING) }
     ensures ring_size { IfErr result (λ fault. (fault ≡ RingSize) ↔
         ((ring ≡ 0) ⊎ (MAX_RING < ring))) }

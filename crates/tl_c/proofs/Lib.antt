@@ -5,3 +5,4 @@ mod Taking
 mod Keeping
 mod Meeting
 mod Opening
+mod Responding

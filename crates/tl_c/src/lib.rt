@@ -10,6 +10,7 @@
 mod answers;
 mod client_handle;
 mod closes;
+mod example;
 mod held;
 mod manager_handle;
 mod meetings;

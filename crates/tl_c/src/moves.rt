@@ -9,8 +9,8 @@ use std::alloc::Global;
 use tl_c_beats::on_held;
 
 /// Moves staged beats of A, C and E into their rings. Returns their total number: at most three
-/// times [`tl_ring::STAGE_CAPACITY`], and 0 if no side is held. On each channel at least the beats that the
-/// side knows to fit are moved. Nothing else of the side changes.
+/// times [`tl_ring::STAGE_CAPACITY`], and 0 if no side is held. On each channel it moves at least all
+/// beats that are known to fit. Nothing else of the side changes.
 #[unsafe(no_mangle)]
 pub extern "C" fn tl_pump_client(alloc: Global, client: &mut ClientHandle) -> usize
     ensures moves { Moves HoldsClient ClientPumps client_pumped
@@ -22,8 +22,8 @@ pub extern "C" fn tl_pump_client(alloc: Global, client: &mut ClientHandle) -> us
 }
 
 /// Moves beats of B and D from their rings into the inboxes. Returns their total number: at most
-/// twice [`tl_ring::STAGE_CAPACITY`], and 0 if no side is held. On each channel at least the beats that the
-/// side knows to be in the ring are moved, as many as the inbox has room for. Nothing else of the
+/// twice [`tl_ring::STAGE_CAPACITY`], and 0 if no side is held. On each channel it moves at least all
+/// beats that are known to be in the ring, up to the free places of the inbox. Nothing else of the
 /// side changes.
 #[unsafe(no_mangle)]
 pub extern "C" fn tl_fetch_client(alloc: Global, client: &mut ClientHandle) -> usize
@@ -36,8 +36,8 @@ pub extern "C" fn tl_fetch_client(alloc: Global, client: &mut ClientHandle) -> u
 }
 
 /// Moves staged beats of B and D into their rings. Returns their total number: at most twice
-/// [`tl_ring::STAGE_CAPACITY`], and 0 if no side is held. On each channel at least the beats that the side
-/// knows to fit are moved. Nothing else of the side changes.
+/// [`tl_ring::STAGE_CAPACITY`], and 0 if no side is held. On each channel it moves at least all beats
+/// that are known to fit. Nothing else of the side changes.
 #[unsafe(no_mangle)]
 pub extern "C" fn tl_pump_manager(alloc: Global, manager: &mut ManagerHandle) -> usize
     ensures moves { Moves HoldsManager ManagerPumps manager_pumped
@@ -49,8 +49,8 @@ pub extern "C" fn tl_pump_manager(alloc: Global, manager: &mut ManagerHandle) ->
 }
 
 /// Moves beats of A, C and E from their rings into the inboxes. Returns their total number: at most
-/// three times [`tl_ring::STAGE_CAPACITY`], and 0 if no side is held. On each channel at least the beats that
-/// the side knows to be in the ring are moved, as many as the inbox has room for. Nothing else of
+/// three times [`tl_ring::STAGE_CAPACITY`], and 0 if no side is held. On each channel it moves at least all
+/// beats that are known to be in the ring, up to the free places of the inbox. Nothing else of
 /// the side changes.
 #[unsafe(no_mangle)]
 pub extern "C" fn tl_fetch_manager(alloc: Global, manager: &mut ManagerHandle) -> usize

@@ -8,7 +8,7 @@ use crate::client_handle::ClientHandle;
 use crate::manager_handle::ManagerHandle;
 use crate::widths::{CLIENT, MANAGER};
 use std::alloc::Global;
-use tl_c_beats::{BeatFields, on_held, tell_a, tell_b, tell_c, tell_d, tell_e};
+use tl_c_beats::{BeatFields, on_held, write_a, write_b, write_c, write_d, write_e};
 
 /// Removes the first beat of A's inbox at the manager's side, and writes it. Returns whether there
 /// was one. If there was none, nothing changes.
@@ -24,7 +24,7 @@ pub extern "C" fn tl_take_a(
     ensures kept { KeepsOfManager takes_a.Keeps manager.old manager.new }
 {
     let far = on_held!(manager, alloc, false, |held| held.side.take_a());
-    tell_a(far, beat, lanes)
+    write_a(far, beat, lanes)
 }
 
 /// Removes the first beat of B's inbox at the client's side, and writes it. Returns whether there
@@ -41,7 +41,7 @@ pub extern "C" fn tl_take_b(
     ensures kept { KeepsOfClient takes_b.Keeps client.old client.new }
 {
     let far = on_held!(client, alloc, false, |held| held.side.take_b());
-    tell_b(far, beat, lanes)
+    write_b(far, beat, lanes)
 }
 
 /// Removes the first beat of C's inbox at the manager's side, and writes it. Returns whether there
@@ -58,7 +58,7 @@ pub extern "C" fn tl_take_c(
     ensures kept { KeepsOfManager takes_c.Keeps manager.old manager.new }
 {
     let far = on_held!(manager, alloc, false, |held| held.side.take_c());
-    tell_c(far, beat, lanes)
+    write_c(far, beat, lanes)
 }
 
 /// Removes the first beat of D's inbox at the client's side, and writes it. Returns whether there
@@ -75,7 +75,7 @@ pub extern "C" fn tl_take_d(
     ensures kept { KeepsOfClient takes_d.Keeps client.old client.new }
 {
     let far = on_held!(client, alloc, false, |held| held.side.take_d());
-    tell_d(far, beat, lanes)
+    write_d(far, beat, lanes)
 }
 
 /// Removes the first beat of E's inbox at the manager's side, and writes it. Returns whether there
@@ -92,5 +92,5 @@ pub extern "C" fn tl_take_e(
     ensures kept { KeepsOfManager takes_e.Keeps manager.old manager.new }
 {
     let far = on_held!(manager, alloc, false, |held| held.side.take_e());
-    tell_e(far, beat, lanes)
+    write_e(far, beat, lanes)
 }

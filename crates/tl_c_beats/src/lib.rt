@@ -15,10 +15,10 @@ mod making;
 mod masks;
 mod parts;
 mod settling;
-mod tells;
 mod text_held;
 mod texts;
 mod totals;
+mod writes;
 
 pub use answer_block::AnswerBlock;
 pub use answers::{
@@ -35,9 +35,9 @@ pub use fields::{
 pub use masks::{high_word, low_word, whole_mask};
 pub use parts::{Live, Parts, boxed};
 pub use settling::settle;
-pub use tells::{tell_a, tell_b, tell_c, tell_d, tell_e};
 pub use texts::{NAME_BYTES, SENTENCE_BYTES, StatusText, status_text};
 pub use totals::{
     BeatTotals, CLIENT_FINISHED, MANAGER_FINISHED, NOT_FINISHED, count_client, count_manager,
     drained_client, drained_manager, finish_client, finish_manager,
 };
+pub use writes::{write_a, write_b, write_c, write_d, write_e};

@@ -3,6 +3,8 @@
 use Rattle.std.specs.Prelude.{◌≡◌, ◌++◌, ℕ, Bool, true, false, List, Option}
 use Rattle.std.specs.Io.KnownBytes.{Keeps, Appends}
 use Rattle.tl_answer.specs.Texts.{IsAnswer, IsOfText}
+use Rattle.tl_explain.specs.declared.display_options.Format.{Format}
+use Rattle.tl_explain.specs.declared.display_options.Format.TheVariants.{Text, Json, Page}
 use Rattle.tl_stream.specs.declared.fault.TextFault.{TextFault}
 use Rattle.tl_stream.specs.declared.fault.TextFault.TheVariants as faults
 
@@ -11,6 +13,12 @@ pub record IsExplanation (text : List ℕ) (explanation : List ℕ) (done : Bool
   pub answer : List ℕ
   pub ends : explanation ≡ sentences ++ answer
   pub answered : IsAnswer text true answer done
+
+-- whether the format is a page
+abbrev pub is_page : Format → Bool
+is_page Text = false
+is_page Json = false
+is_page Page = true
 
 -- the output is the explanation of a text
 abbrev pub Explains : (text : List ℕ) (held holds : Option (List ℕ)) (done : Bool) → Type 0

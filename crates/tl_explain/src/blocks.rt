@@ -6,7 +6,7 @@ ghost use Rattle.tl_explain.specs.Inner.Explanation.{Continues};
 use crate::story::Story;
 use std::io::Write;
 use tl_answer::{TextFault, write_all};
-use tl_remarks::TextBuf;
+use tl_text::TextBuf;
 
 /// The number of bytes that are collected before they are written.
 const BLOCK: usize = 65_536;

@@ -10,7 +10,7 @@ use std::slice;
 use tl_convert::Converter;
 use tl_lanes::{WIDEST, is_width};
 use tl_msg::{Beat, Channel};
-use tl_remarks::{Describe, beat_fields_of};
+use tl_text::{Describe, beat_fields_of};
 use tl_trace::write_far;
 
 /// Returns whether both are widths.
@@ -75,7 +75,7 @@ fn put_beats<K: Describe, const W: usize, const V: usize>(
 ) {
     let has_lanes = story.has_lanes();
     if has_lanes {
-        if story.look.page {
+        if story.look.format.is_page() {
             keep_lines::<K, W>(story, slice::from_ref(beat));
         }
         story.put_beat(record, &record.near_beat(W), &beat.lanes, 0);

@@ -1,15 +1,36 @@
-//! The options for the display of the sentences, and the choice of lines.
+//! The options for the output: its format, and the choice of lines.
+ghost use Rattle.std.specs.Prelude.{◌≡◌};
+ghost use Rattle.tl_explain.specs.Explained.{is_page};
+
 use tl_msg::SourceId;
 
-/// The options for the display of the sentences, and the choice of lines.
+/// The format of the output.
+#[derive(Clone, Copy, Default, PartialEq, Eq, Debug)]
+pub enum Format {
+    /// Sentences.
+    #[default]
+    Text,
+    /// JSON Lines.
+    Json,
+    /// A page for a browser. It shows the lanes of each beat.
+    Page,
+}
+
+impl Format {
+    /// Returns whether it is a page.
+    pub fn is_page(self) -> bool
+        ensures { result ≡ is_page self }
+    {
+        matches!(self, Format::Page)
+    }
+}
+
+/// The options for the output.
 #[derive(Clone, Copy, Default)]
 pub struct DisplayOptions {
-    /// Whether each beat has a picture of its lanes.
+    pub format: Format,
+    /// Whether each beat of a text has a picture of its lanes.
     pub lanes: bool,
-    /// Whether a page is requested instead of text. A page shows the lanes of each beat.
-    pub page: bool,
-    /// Whether JSON Lines are requested instead of text.
-    pub json: bool,
     /// Whether the outcome of a line has a colour, for a terminal.
     pub colour: bool,
     /// Whether the remarks of a protocol monitor on accepted beats are written.

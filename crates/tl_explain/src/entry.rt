@@ -3,8 +3,8 @@ use crate::beat_outcome::BeatOutcome;
 use crate::display_options::LineFilter;
 use crate::record::{LineRecord, Span};
 use crate::walk::{LETTERS, Walk, place};
-use tl_remarks::Piece::{Letter, Number};
-use tl_remarks::TextBuf;
+use tl_text::Piece::{Letter, Number};
+use tl_text::TextBuf;
 
 /// A line that is shown, or several lines whose beats were not offered.
 #[derive(Clone, Copy, Default)]

@@ -7,11 +7,11 @@ ghost use Rattle.tl_trace.specs.Scripts.{TellsScript};
 ghost use Rattle.tl_answer.specs.Texts.{IsAnswer};
 ghost use Rattle.tl_stream.specs.Inputs.{most_bytes};
 ghost use Rattle.tl_stream.specs.declared.fault.TextFault.TheVariants.{OutOfMemory as NoMemory, Write as WriteFault};
-ghost use Rattle.tl_explain.specs.Explained.{Explains, IsUntold};
+ghost use Rattle.tl_explain.specs.Explained.{Explains, IsUntold, is_page};
 ghost use Rattle.tl_explain.specs.Inner.Explanation.{Continues, Tells};
 
 use crate::channel::tell;
-use crate::display_options::DisplayOptions;
+use crate::display_options::{DisplayOptions, Format};
 use crate::held::{HeldPair, held_of, waiting_source};
 use crate::letters::letters_of;
 use crate::story::Story;
@@ -138,11 +138,11 @@ fn with_widths<W: Write, const C: usize, const M: usize>(
     writer: &mut W,
 ) -> Result<Explanation, TextFault>
     requires { HasHeader text.now version C M × (length text.now ≤ most_bytes) }
-    ensures { Tells look.now.page text.now (W.contents writer.old) (W.contents writer.new) result }
+    ensures { Tells (is_page look.now.format) text.now (W.contents writer.old) (W.contents writer.new) result }
 {
     let script = read_script::<C, M>(alloc, text, version)?;
     let mut telling = begin::<C, M>(alloc, text, &script, version, look, times)?;
-    tell_all::<W, C, M>(&mut telling.story, &script, look.page, writer)?;
+    tell_all::<W, C, M>(&mut telling.story, &script, look.format.is_page(), writer)?;
     Ok(telling)
 }
 
@@ -158,7 +158,7 @@ pub fn explanation_of<W: Write>(
     writer: &mut W,
 ) -> Result<Explanation, TextFault>
     requires few { length text.now ≤ most_bytes }
-    ensures { Tells look.now.page text.now (W.contents writer.old) (W.contents writer.new) result }
+    ensures { Tells (is_page look.now.format) text.now (W.contents writer.old) (W.contents writer.new) result }
 {
     let header = match known_header(text) {
         Ok(header) => header,
@@ -195,8 +195,7 @@ pub fn explain_to<W: Write>(
         (IsUntold false text.now (W.contents writer.old) (W.contents writer.new)) }
 {
     let look = DisplayOptions {
-        page: false,
-        json: false,
+        format: Format::Text,
         ..*look
     };
     let telling = explanation_of::<W>(alloc, text, &look, times, writer)?;

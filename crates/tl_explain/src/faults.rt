@@ -6,8 +6,8 @@ use crate::record::LineRecord;
 use crate::sentences::name_of;
 use crate::walk::Walk;
 use tl_msg::{BeatFault, Kind, SideFault};
-use tl_remarks::Piece::{self, Address, Id, Length, Letter, Line, Number, Text};
-use tl_remarks::{BeatFields, TextBuf};
+use tl_text::Piece::{self, Address, Id, Length, Letter, Line, Number, Text};
+use tl_text::{BeatFields, TextBuf};
 
 /// Returns the sentence on a wrong opcode.
 fn opcode_fault(letter: u8) -> &'static str {
@@ -64,7 +64,7 @@ fn put_mask(out: &mut TextBuf, beat: &BeatFields, w: usize) {
         let rule = ", but it may have only active lanes, which are ";
         (beat.mask & !lanes, rule)
     } else {
-        let rule = ", but it has to have exactly the active lanes, which are ";
+        let rule = ", expected the active lanes, which are ";
         (beat.mask, rule)
     };
     out.put_text("the mask has ");
@@ -143,15 +143,15 @@ fn put_none_waits(out: &mut TextBuf, walk: &Walk, beat: &BeatFields) {
         &[source_of(beat)],
     );
     if let Some(held) = walk.held.request {
-        out.put_text(": that in ");
+        out.put_text(": the request in ");
         return put_held(out, walk, held);
     }
     if let Some(last) = walk.last_request(beat.source) {
         return out.say(": its last one, in #, is answered", &[Line(last.line)]);
     }
-    out.put_text(": send one on A, or mend the source");
+    out.put_text(": send one on A, or correct the source");
     if let Some(request) = walk.open_request(None) {
-        let waits = "; the first request that waits is of source #, in #";
+        let waits = "; the oldest outstanding request has source #, in #";
         out.say(waits, &[Id(request.id, beat.version), Line(request.line)]);
     }
 }
@@ -160,7 +160,7 @@ fn put_none_waits(out: &mut TextBuf, walk: &Walk, beat: &BeatFields) {
 fn put_no_request(out: &mut TextBuf, walk: &Walk, beat: &BeatFields) {
     match walk.open_request(Some(beat.source)) {
         Some(request) => out.say(
-            "the request of source # in # has not arrived: bytes of its first far beat are missing",
+            "the request of source # in # is incomplete: its first far beat still needs bytes",
             &[source_of(beat), Line(request.line)],
         ),
         None => put_none_waits(out, walk, beat),
@@ -169,16 +169,10 @@ fn put_no_request(out: &mut TextBuf, walk: &Walk, beat: &BeatFields) {
 
 /// Writes why a beat of D is refused: its size is not that of its request.
 fn put_mismatch(out: &mut TextBuf, walk: &Walk, beat: &BeatFields) {
-    out.say(
-        "the response is of #, but its request",
-        &[Length(beat.size)],
-    );
+    out.say("the response has #, but its request", &[Length(beat.size)]);
     match walk.open_request(Some(beat.source)) {
-        Some(request) => out.say(
-            ", in #, is of #",
-            &[Line(request.line), Length(request.size)],
-        ),
-        None => out.put_text(" is of another size"),
+        Some(request) => out.say(", in #, has #", &[Line(request.line), Length(request.size)]),
+        None => out.put_text(" has another size"),
     }
 }
 

@@ -1,6 +1,7 @@
 //! Beats that their channel did not accept.
 use tl_msg::{Beat, SourceId, Verdict};
-use tl_remarks::{Cursor, Describe, accepted};
+use tl_remarks::{Cursor, accepted};
+use tl_text::Describe;
 
 /// A beat that its channel did not accept.
 #[derive(Clone, Copy)]

@@ -5,7 +5,7 @@ ghost use Rattle.tl_stream.specs.Inputs.{most_bytes};
 ghost use Rattle.tl_explain.specs.Explained.{ShowsAnswer, IsUntold};
 
 use crate::beat_outcome::BeatOutcome;
-use crate::display_options::DisplayOptions;
+use crate::display_options::{DisplayOptions, Format};
 use crate::explain::explanation_of;
 use crate::faults::put_fault as put_fault_sentence;
 use crate::links::Links;
@@ -17,8 +17,9 @@ use std::alloc::{AllocError, Global};
 use std::io::Write;
 use tl_answer::TextFault;
 use tl_msg::{SideFault, Verdict};
-use tl_remarks::Piece::{Address, Byte, Letter, Name, Number, Text};
-use tl_remarks::{BeatFields, Piece, Remark, TextBuf, put_sentence_of};
+use tl_remarks::{Remark, put_sentence_of};
+use tl_text::Piece::{Address, Byte, Letter, Name, Number, Text};
+use tl_text::{BeatFields, Piece, TextBuf};
 use tl_trace::{TraceFault, TraceKind};
 
 /// Writes bytes as a JSON string. A byte that is not printable ASCII is written as the character
@@ -322,8 +323,7 @@ pub fn records_to<W: Write>(
         (IsUntold false text.now (W.contents writer.old) (W.contents writer.new)) }
 {
     let look = DisplayOptions {
-        page: false,
-        json: true,
+        format: Format::Json,
         colour: false,
         ..*look
     };

@@ -1,6 +1,6 @@
 //! Lanes in words.
 use tl_lanes::{MAX_SIZE, Mask, WIDEST, active, is_width};
-use tl_remarks::TextBuf;
+use tl_text::TextBuf;
 
 /// Returns the lanes of a message of `2^size` bytes at this address, on a bus of `w` bytes. Returns
 /// `None` if there is no such message or no such bus.

@@ -29,7 +29,7 @@ mod unreadable;
 mod walk;
 
 pub use beat_outcome::BeatOutcome;
-pub use display_options::{DisplayOptions, LineFilter};
+pub use display_options::{DisplayOptions, Format, LineFilter};
 pub use entry::Entry;
 pub use explain::explain_to;
 pub use json::{fault_record, records_to};
@@ -41,6 +41,5 @@ pub use record::{BeatRecord, LineRecord};
 pub use sentences::{
     put_cuts, put_fate, put_fields, put_name, put_place, put_remarks, put_sentence,
 };
-pub use times::{TimesFault, TimesKind, check_times};
 pub use unreadable::show_fault;
 pub use walk::{LETTERS, Position, Walk};

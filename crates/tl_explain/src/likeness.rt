@@ -3,8 +3,8 @@ use crate::places::{put_blank_end, put_expected};
 use crate::walk::LETTERS;
 use std::alloc::Global;
 use tl_lanes::WIDEST_POWER;
-use tl_remarks::Piece::{Letter, Number, Text};
-use tl_remarks::TextBuf;
+use tl_text::Piece::{Letter, Number, Text};
+use tl_text::TextBuf;
 use tl_trace::{Header, header_of_text, id_digits, read};
 
 /// Returns a buffer with the header of a trace.
@@ -119,7 +119,7 @@ pub fn put_length(
     at: usize,
 ) {
     out.say(
-        "the line has # characters and has to have #, in the form below the mark",
+        "the line has # characters, expected #, in the form below the mark",
         &[Number(line.len() as u64), Number(form.len() as u64)],
     );
     let (Some(header), [letter, .., last]) = (header_of_text(text), line) else {

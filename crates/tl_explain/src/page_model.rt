@@ -6,7 +6,7 @@ ghost use Rattle.tl_stream.specs.Inputs.{most_bytes};
 ghost use Rattle.tl_explain.specs.Explained.{IsUntold};
 
 use crate::beat_outcome::BeatOutcome;
-use crate::display_options::DisplayOptions;
+use crate::display_options::{DisplayOptions, Format};
 use crate::entry::Entry;
 use crate::explain::{Explanation, explanation_of};
 use crate::links::{Links, index_of, links_at};
@@ -211,9 +211,8 @@ pub fn page_model_of<W: Write>(
         (IsUntold true text.now (W.contents writer.old) (W.contents writer.new)) }
 {
     let look = DisplayOptions {
+        format: Format::Page,
         colour: false,
-        page: true,
-        json: false,
         ..*look
     };
     let telling = explanation_of::<W>(alloc, text, &look, times, writer)?;

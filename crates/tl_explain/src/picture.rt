@@ -2,8 +2,8 @@
 use crate::lane_list::{has_lane, lanes_of};
 use crate::record::BeatRecord;
 use tl_lanes::Mask;
-use tl_remarks::Piece::{Byte, Text};
-use tl_remarks::{BeatFields, Piece, TextBuf};
+use tl_text::Piece::{Byte, Text};
+use tl_text::{BeatFields, Piece, TextBuf};
 
 /// The number of lanes in a row.
 pub const ROW: usize = 16;

@@ -1,6 +1,6 @@
 //! The expected and the actual byte at a position of a line.
-use tl_remarks::Piece::{Byte, Letter, Text};
-use tl_remarks::TextBuf;
+use tl_text::Piece::{Byte, Letter, Text};
+use tl_text::TextBuf;
 
 /// The text on the expected line 1.
 const HEADER: &str =

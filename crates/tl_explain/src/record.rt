@@ -4,7 +4,7 @@ ghost use Rattle.std.specs.Prelude.{◌≤◌};
 use crate::beat_outcome::BeatOutcome;
 use crate::links::Links;
 use tl_lanes::{MAX_SIZE, beat_bytes, is_width, lane};
-use tl_remarks::BeatFields;
+use tl_text::BeatFields;
 
 /// A part of a list: the items from index `from` up to, but not including, index `to`.
 #[derive(Clone, Copy, Default)]

@@ -5,8 +5,9 @@ use crate::faults::put_fault;
 use crate::record::LineRecord;
 use crate::walk::Walk;
 use tl_msg::Verdict;
-use tl_remarks::Piece::{self, Coloured, Letter, Line, Name, Number, Opcode, Text};
-use tl_remarks::{BeatFields, Colour, TextBuf, put_remark};
+use tl_remarks::put_remark;
+use tl_text::Piece::{self, Coloured, Letter, Line, Name, Number, Opcode, Text};
+use tl_text::{BeatFields, Colour, TextBuf};
 
 /// Writes the number of a line, and its time if that is known. For several lines, `last` is the
 /// number of the last one; otherwise it is 0.

@@ -1,7 +1,7 @@
 //! The output on the lines of a text, in sentences or as JSON; or what a page shows of them.
 use crate::beat_outcome::BeatOutcome;
 use crate::blocks::BLOCK_CAPACITY;
-use crate::display_options::DisplayOptions;
+use crate::display_options::{DisplayOptions, Format};
 use crate::entry::Entry;
 use crate::json::{begin_object, put_json_beat, put_json_remarks, put_summary};
 use crate::page_model::Kept;
@@ -11,7 +11,7 @@ use crate::sentences::{put_cuts, put_remarks, put_sentence};
 use crate::walk::Walk;
 use std::alloc::{AllocError, Global};
 use tl_lanes::WIDEST;
-use tl_remarks::TextBuf;
+use tl_text::TextBuf;
 use tl_trace::LONGEST_LINE;
 
 /// Returns the line with this number, from 0, of lines that all have this length.
@@ -53,7 +53,7 @@ impl Story {
             line_length: 0,
             kept: Kept::new(alloc),
         };
-        if !look.page {
+        if !look.format.is_page() {
             story.page.text.reserve(BLOCK_CAPACITY)?;
             story.lines.reserve(WIDEST * LONGEST_LINE)?;
         }
@@ -63,7 +63,7 @@ impl Story {
     /// Begins the output on a line that is shown. Returns whether its beats are shown: not if it is
     /// one of several lines whose beats were not offered.
     fn begin(&mut self, record: &LineRecord) -> bool {
-        if self.look.json {
+        if let Format::Json = self.look.format {
             begin_object(&mut self.page, &self.walk, record);
             return true;
         }
@@ -73,12 +73,13 @@ impl Story {
             return false;
         }
         self.end_entry();
-        if self.look.page || matches!(record.fate, BeatOutcome::NotOffered) {
+        let is_page = self.look.format.is_page();
+        if is_page || matches!(record.fate, BeatOutcome::NotOffered) {
             self.entry.add(record);
             self.entry.beats.from = self.kept.len();
             self.from = self.page.text.len();
         }
-        if !self.look.page {
+        if !is_page {
             put_sentence(&mut self.page, &self.walk, record);
             self.page.put_text("\n");
         }
@@ -96,7 +97,7 @@ impl Story {
         if self.entry.count == 0 {
             return;
         }
-        if self.look.page {
+        if self.look.format.is_page() {
             self.kept.add_entry(&self.entry);
         } else if self.entry.count > 1 {
             self.entry.put(&mut self.page, &self.walk);
@@ -107,7 +108,7 @@ impl Story {
 
     /// Returns whether the lanes of beats are part of the output.
     pub fn has_lanes(&self) -> bool {
-        self.look.page | self.look.json | self.look.lanes
+        self.look.lanes || !matches!(self.look.format, Format::Text)
     }
 
     /// Adds the text of a far beat: line `number`, from 0, of `lines`.
@@ -126,11 +127,10 @@ impl Story {
         number: usize,
     ) {
         let text = line_in(&self.lines, self.line_length, number);
-        if self.look.page {
-            return self.kept.add_beat(beat, lanes, text);
-        }
-        if self.look.json {
-            return put_json_beat(&mut self.page, record, beat, lanes, text);
+        match self.look.format {
+            Format::Text => {}
+            Format::Json => return put_json_beat(&mut self.page, record, beat, lanes, text),
+            Format::Page => return self.kept.add_beat(beat, lanes, text),
         }
         if beat.is_far {
             self.put_far_line(number);
@@ -142,23 +142,21 @@ impl Story {
 
     /// Ends the output on a line whose beats are shown: adds the remarks.
     pub fn end_shown(&mut self, record: &LineRecord) {
-        if self.look.json {
-            return put_json_remarks(&mut self.page, &self.walk, record);
-        }
-        if !self.look.page {
-            put_remarks(&mut self.page, &self.walk, record, "    ", "\n");
+        match self.look.format {
+            Format::Text => put_remarks(&mut self.page, &self.walk, record, "    ", "\n"),
+            Format::Json => put_json_remarks(&mut self.page, &self.walk, record),
+            Format::Page => {}
         }
     }
 
     /// Adds the text after the last line.
     #[inline(never)]
     pub fn end(&mut self) {
-        if self.look.json {
-            return put_summary(&mut self.page, &self.walk);
-        }
         self.end_entry();
-        if !self.look.page {
-            put_cuts(&mut self.page, &self.walk, "", "\n");
+        match self.look.format {
+            Format::Text => put_cuts(&mut self.page, &self.walk, "", "\n"),
+            Format::Json => put_summary(&mut self.page, &self.walk),
+            Format::Page => {}
         }
     }
 }

@@ -6,8 +6,8 @@ use crate::places::{put_expected, put_no_channel, put_no_header, put_range};
 use arrayvec::ArrayVec;
 use std::alloc::{AllocError, Global};
 use tl_lanes::WIDEST_POWER;
-use tl_remarks::Piece::{Number, Text};
-use tl_remarks::TextBuf;
+use tl_text::Piece::{Number, Text};
+use tl_text::TextBuf;
 use tl_trace::{Header, LONGEST_LINE, TraceFault, TraceKind, header_of_text};
 
 /// The number of bytes of a line that are shown: the length of the longest line of a trace, so that

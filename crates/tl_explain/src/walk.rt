@@ -8,8 +8,9 @@ use crate::record::{LineRecord, Span, bytes_of};
 use crate::times::Times;
 use std::alloc::{AllocError, Global};
 use tl_msg::{SourceId, Verdict};
-use tl_remarks::Piece::{Line, Text};
-use tl_remarks::{BeatFields, Exchange, Message, Noted, Remark, TextBuf, accepted};
+use tl_remarks::{Exchange, Message, Noted, Remark, accepted};
+use tl_text::Piece::{Line, Text};
+use tl_text::{BeatFields, TextBuf};
 use tl_trace::Header;
 
 /// The letters of the channels.

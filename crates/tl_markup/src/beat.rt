@@ -1,8 +1,8 @@
 //! A beat with its lanes.
 use crate::text::{ascii, put_escaped};
 use tl_explain::{BeatRecord, Cell, Drawn, PageModel, Picture, ROW};
-use tl_remarks::Piece::{Byte, Number, Text};
-use tl_remarks::TextBuf;
+use tl_text::Piece::{Byte, Number, Text};
+use tl_text::TextBuf;
 
 /// The number of lanes in a row of a narrow column.
 const NARROW_ROW: usize = 8;

@@ -3,7 +3,8 @@ use crate::beat::put_beat;
 use tl_explain::{
     Entry, PageModel, put_fate, put_fields, put_name, put_place, put_remarks, put_sentence,
 };
-use tl_remarks::{TextBuf, put_remark};
+use tl_remarks::put_remark;
+use tl_text::TextBuf;
 
 /// Writes the heading of a line: its beat, the line, and the beat's fields. The heading of a message
 /// is that of its first line, with its last line, which is otherwise 0.

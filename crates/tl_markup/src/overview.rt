@@ -1,8 +1,9 @@
 //! The sentences on a whole trace: its messages, its faults, and its remarks.
 use tl_explain::{LETTERS, PageModel, Position};
 use tl_msg::Verdict;
-use tl_remarks::Piece::{Letter, Number, Text};
-use tl_remarks::{TextBuf, accepted};
+use tl_remarks::accepted;
+use tl_text::Piece::{Letter, Number, Text};
+use tl_text::TextBuf;
 
 /// Returns the name of one message of the channel with this letter, and of several.
 fn names_on(letter: u8) -> (&'static str, &'static str) {

@@ -5,7 +5,7 @@ use crate::summary::{put_answer, put_columns, put_heads, put_problems};
 use crate::text::{ascii, put_escaped};
 use std::alloc::{AllocError, Global};
 use tl_explain::{PageModel, put_cuts};
-use tl_remarks::TextBuf;
+use tl_text::TextBuf;
 
 /// Returns a page up to its contents.
 fn begun(alloc: Global) -> TextBuf {

@@ -1,8 +1,8 @@
 //! The lines of a trace. Successive lines of different channels are side by side.
 use crate::line::{put_body, put_heading};
 use tl_explain::{BeatOutcome, Entry, PageModel};
-use tl_remarks::Piece::{Letter, Number, Text};
-use tl_remarks::TextBuf;
+use tl_text::Piece::{Letter, Number, Text};
+use tl_text::TextBuf;
 
 /// The number of colours for exchanges.
 const HUES: u64 = 12;

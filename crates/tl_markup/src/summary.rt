@@ -4,8 +4,8 @@ use crate::overview::put_overview;
 use crate::text::{ascii, put_escaped};
 use tl_explain::{PageModel, Position};
 use tl_msg::Verdict;
-use tl_remarks::Piece::{Letter, Number, Text};
-use tl_remarks::TextBuf;
+use tl_text::Piece::{Letter, Number, Text};
+use tl_text::TextBuf;
 
 /// Returns the direction of the beats of the channel with this letter.
 fn way_of(letter: u8) -> &'static str {

@@ -1,5 +1,5 @@
 //! Text without markup.
-use tl_remarks::TextBuf;
+use tl_text::TextBuf;
 
 /// Writes any text, escaped so that none of it is read as markup.
 pub fn put_escaped(out: &mut TextBuf, text: &str) {

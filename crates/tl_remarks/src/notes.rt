@@ -1,13 +1,13 @@
 //! From the beats of a script to remarks.
 ghost use Rattle.tl_lanes.specs.Lanes.{IsWidth};
 
-use crate::beat_fields::{BeatFields, Describe, beat_fields_of};
 use crate::exchange::{Stops, judge};
 use crate::fits::N_TO_B;
 use crate::lines::Cursor;
 use crate::remark::{Message, Noted, Rule};
 use std::alloc::Global;
 use tl_msg::{Beat, ChA, ChB, ChC, ChD, ChE, Kind, Verdict};
+use tl_text::{BeatFields, Describe, beat_fields_of};
 use tl_trace::Script;
 
 /// The messages of the accepted beats, and those that begin with a beat at which a channel stops.

@@ -1,8 +1,8 @@
 //! The sentences of remarks.
 use crate::remark::{Message, Remark, Rule};
-use crate::text_buf::Piece::{self, Id, Line, Name, Text};
-use crate::text_buf::{Colour, TextBuf};
 use tl_msg::Kind;
+use tl_text::Piece::{self, Id, Line, Name, Text};
+use tl_text::{Colour, TextBuf};
 
 /// The params of an Acquire, of a Grant or a probe, and of a report, as the standard spells them.
 const GROWTHS: &[&str] = &["NtoB", "NtoT", "BtoT"];
@@ -13,14 +13,14 @@ const REPORTS: &[&str] = &["TtoB", "TtoN", "BtoN", "TtoT", "BtoB", "NtoN"];
 
 /// The sentence of each rule, in the order of [`Rule`].
 const SENTENCES: &[&str; 9] = &[
-    "it is no response to #, in # (TileLink 1.8: #)",
+    "it is not a valid response to #, in # (TileLink 1.8: #)",
     "it grants #, but #, in #, asks for # (TileLink 1.8: Grant)",
     "it reports #, but #, in #, leaves # (TileLink 1.8: ProbeAck)",
     "no # # answers it (TileLink 1.8: #)",
     "there is no # # for it (TileLink 1.8: #)",
     "a ReleaseAck cannot be denied (TileLink 1.8: #)",
     "data that are denied have to be corrupt (TileLink 1.8: #)",
-    "it gives no data, and so it asks for NtoT or BtoT, and not for NtoB (TileLink 1.8: #)",
+    "an AcquirePerm has to ask for NtoT or BtoT, not for NtoB (TileLink 1.8: #)",
     "# # is still in use by #, in # (TileLink 1.8: #)",
 ];
 

@@ -53,7 +53,7 @@ impl<T, A: Allocator, P: Protocol<T>> Model for CountingConsumer<T, A, P> {
     ghost invariant = { λ c. c.count ≡ counted (length (received c.end)) };
 }
 
-/// Shows all that a producer pushed before it was given up, and how many items these are.
+/// Proof of what a dropped producer pushed, and of how many items these are.
 #[derive(Drop)]
 pub struct CountedFinish<T, A: Allocator, P: Protocol<T>> {
     end: Finished<T, A, P>,
@@ -124,7 +124,7 @@ impl<T, A: Allocator, P: Protocol<T>> CountingProducer<T, A, P> {
         self.end.slots_beside(&mut consumer.end)
     }
 
-    /// Gives the end up. Returns what shows all that it pushed, or `None` if the other end is gone.
+    /// Consumes the end. Returns the proof of what it pushed, or `None` if the other end is closed.
     pub(crate) fn finish(self) -> Option<CountedFinish<T, A, P>>
     where
         T: Drop,

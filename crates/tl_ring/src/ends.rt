@@ -25,9 +25,9 @@ use tl_msg::{Beat, BeatFault, Channel};
 
 /// The sending end of one channel's crossing, from a bus of `W` bytes to a bus of `V` bytes.
 ///
-/// It is offered near beats, and sends the far beats that become due through a ring: `offer` fills
+/// Accepts near beats, and sends the resulting far beats through a ring: `offer` fills
 /// the stage, which holds at most [`STAGE_CAPACITY`] beats, and `pump` moves beats from there into the ring.
-/// The end can be moved to a thread of its own. No call waits for the other end (this project's
+/// The end can be moved to its own thread. No call waits for the other end (this project's
 /// choice, after a crossing between two clocks).
 #[derive(Drop)]
 pub struct SendEnd<K: Channel, const W: usize, const V: usize, A: Allocator = Global> {
@@ -235,9 +235,9 @@ impl<K: Channel, const W: usize, const V: usize, A: Allocator> TakeEnd<K, W, V, 
         TakeEnd { inbox, intake }
     }
 
-    /// Moves beats from the ring to the inbox, in order. Returns their number: at least the number
-    /// of beats that the end knows to be in the ring, or as many as the inbox has room for if that
-    /// is smaller, and never more than that room. After a meeting it knows every beat in the ring.
+    /// Moves beats from the ring to the inbox, in order. Returns their number: at least the smaller
+    /// of the number of beats that are known to be in the ring and the number of free places in the
+    /// inbox, and never more than the latter. After a meeting it knows every beat in the ring.
     pub fn fetch(&mut self) -> usize
         ensures least { min (length (known_items self.old))
             (inbox_room - length self.old.inbox) ≤ result }

@@ -69,7 +69,7 @@ pub struct RingReader<K: Channel, const V: usize, A: Allocator = Global> {
 }
 
 impl<K: Channel, const V: usize, A: Allocator> RingReader<K, V, A> {
-    /// Creates the intake from its half of a new ring ([`new_ring`]).
+    /// Creates the reader from its half of a new ring ([`new_ring`]).
     pub fn from_half(half: TakeHalf<K, V, A>) -> Self
         ensures { result.half ≡ half }
     {
@@ -80,9 +80,9 @@ impl<K: Channel, const V: usize, A: Allocator> RingReader<K, V, A> {
     }
 }
 
-/// Moves beats from a ring into the inbox, in order. Returns their number: at least the number of
-/// beats that the half knows to be in the ring, or as many as the inbox has room for if that is
-/// smaller, and never more than that room. After [`observe_both`] it knows every beat in the ring.
+/// Moves beats from a ring into the inbox, in order. Returns their number: at least the smaller of
+/// the number of beats that are known to be in the ring and the number of free places in the inbox,
+/// and never more than the latter. After [`observe_both`] it knows every beat in the ring.
 pub fn receive<K: Channel, const V: usize, A: Allocator>(
     intake: &mut RingReader<K, V, A>,
     inbox: &mut Inbox<K, V>,

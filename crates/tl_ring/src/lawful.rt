@@ -5,7 +5,7 @@ use rtrb::Protocol;
 use std::marker::PhantomData;
 use tl_msg::{Beat, Channel};
 
-/// The protocol of a ring between two threads: each beat in it is lawful at `V` bytes, that is, a
+/// The invariant of a ring between two threads: each beat in it is lawful at `V` bytes, that is, a
 /// new tracker does not refuse it (this project's choice).
 pub struct LawfulAt<K: Channel, const V: usize> {
     channel: PhantomData<K>,

@@ -18,7 +18,7 @@ use std::alloc::Allocator;
 use tl_msg::Channel;
 
 /// Creates the two ends of one channel's crossing, over a ring of `ring` beats, the only memory
-/// that is allocated. Each end can be moved to a thread of its own.
+/// that is allocated. Each end can be moved to its own thread.
 ///
 /// Errors: `RingSize` if and only if `ring` is 0 or above 4,096; otherwise `OutOfMemory` if the
 /// allocator fails. Requires: `W` and `V` are widths.
@@ -57,7 +57,7 @@ pub fn ring_pair<K: Channel, const W: usize, const V: usize, A: Allocator + Copy
 /// stage, the ring and the inbox. The beats taken, followed by those in the inbox, the ring and the
 /// stage, are the far layout of the accepted beats: each beat once, in order. No beat moves. The
 /// taking end then knows every beat in the ring, and the sending end every free position. Both
-/// ends, and the ring between them, are then one crossing, as a pipe is. Requires: the ends are a
+/// ends, and the ring between them, form one crossing, like a `SyncPipe`. Requires: the ends are a
 /// pair.
 pub fn meet<K: Channel, const W: usize, const V: usize, A: Allocator>(
     send: &mut SendEnd<K, W, V, A>,

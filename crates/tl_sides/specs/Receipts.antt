@@ -90,7 +90,7 @@ module _ {C M : ℕ} where
     pub d : IsNumberOf n.d y.d.taken
     pub e : IsNumberOf n.e y.e
 
--- if as many beats were taken as were sent, they are all of them, in order, and none is on its way
+-- if as many beats were taken as were sent, they are all of them, in order, and none is in a ring or an inbox
 abbrev pub AllIfAsMany : {K A H : Type 0} {v : ℕ} → Taking K A H v → (sent taken : List (BeatOf H v)) → Type 0
 AllIfAsMany t sent taken = length taken ≡ length sent → (taken ≡ sent) × IsIdle t
 

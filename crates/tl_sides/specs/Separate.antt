@@ -31,7 +31,7 @@ module _ {C M : ℕ} where
     pub arrives : (s : Bridge C M) → (channel s).ring ≢ [] → length (channel s).inbox < inbox_room →
         length (channel s).inbox < length (channel (each_fetched s)).inbox
 
--- an end of a channel at a side in a thread of its own. The contracts of a side's pump and fetch describe each of its
+-- an end of a channel at a side in its own thread. The contracts of a side's pump and fetch describe each of its
 -- ends by itself
 pub record EndsAreSeparate (K A H : Type 0) (v : ℕ) : Type 0 where
   -- it advances: a pump sends staged beats if the end knows a free position in its own ring, and a fetch moves beats

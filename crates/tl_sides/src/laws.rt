@@ -71,9 +71,9 @@ pub fn all_beats_of_sides_arrive<const C: usize, const M: usize, A: Allocator>()
     ensures { AllBeatsCome A C M }
 {}
 
-/// As many beats taken as sent are all beats that were sent. If the two numbers of a channel are
-/// equal at a meeting of both sides, the beats taken are those that the other side has sent, in
-/// order, and none is in the ring or in the inbox.
+/// Equal counts mean that every sent beat was taken. If the two numbers of a channel are equal at a
+/// meeting of both sides, the beats taken are the beats that the other side has sent, in order, and
+/// none is in the ring or in the inbox.
 pub fn as_many_are_all<const C: usize, const M: usize, A: Allocator>()
     ensures { (s : ClientState A C M) (t : ManagerState A C M) (x : ClientPast C M)
         (y : ManagerPast C M) → SidesMeet s t x y → AsManyAreAll A C M s t x y }

@@ -1,4 +1,4 @@
-//! The two sides of the bridge: together in one thread, and each for a thread of its own.
+//! The two sides of the bridge: together in one thread, and each for its own thread.
 #![tactic(auto)]
 
 // The value of a call that succeeds. If it fails, discards the rings named after it and returns the

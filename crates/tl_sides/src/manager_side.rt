@@ -183,7 +183,7 @@ impl<const C: usize, const M: usize, A: Allocator> ManagerSide<C, M, A> {
     }
 
     /// Moves staged beats into the rings on each channel that this side sends. Returns their total
-    /// number. On each channel at least the beats that the side knows to fit are moved.
+    /// number. On each channel it moves at least all beats that are known to fit.
     pub fn pump(&mut self) -> usize
         ensures total { result ≡
             pump_count self.old.b self.new.b + pump_count self.old.d self.new.d }
@@ -202,8 +202,8 @@ impl<const C: usize, const M: usize, A: Allocator> ManagerSide<C, M, A> {
     }
 
     /// Moves beats from the rings into the inboxes on each channel that this side takes. Returns
-    /// their total number. On each channel at least the beats that the side knows to be in the ring
-    /// are moved, as many as the inbox has room for.
+    /// their total number. On each channel it moves at least all beats that are known to be in the
+    /// ring, up to the free places of the inbox.
     pub fn fetch(&mut self) -> usize
         ensures total { result ≡ fetch_count self.old.a self.new.a +
             fetch_count self.old.c self.new.c + fetch_count self.old.e self.new.e }
@@ -231,9 +231,9 @@ impl<const C: usize, const M: usize, A: Allocator> ManagerSide<C, M, A> {
     }
 
     /// Ends the sending. Returns the ends that still take beats of A, C and E, and a receipt for
-    /// each channel that was sent. A receipt shows the client's side all beats that were sent on
-    /// its channel. If it is `None`, there is no receipt, and beats that were sent can still be
-    /// fetched. No contract says when it is `None`; that happens if the other side was dropped.
+    /// each channel that was sent, which shows the client's side all beats that were sent. It is
+    /// `None` if the other side was dropped (no contract says so); beats that were sent can still be
+    /// fetched.
     /// Requires: B and D are closed and nothing of them is staged.
     pub fn finish(self) -> FinishedManager<C, M, A>
         requires { ManagerIsSentOut self }

@@ -73,8 +73,8 @@ fn read_on<By, L: BeatConsumer<By, C, M>, const C: usize, const M: usize>(
     read_held(lines, input)
 }
 
-/// Reads a text to its end, incrementally. The input holds its first piece, nothing of it was used,
-/// and no line was read yet. After each piece except the last one, the consumer advances over the
+/// Reads a text to its end, incrementally. Its first piece has been read and not consumed, and no
+/// line was parsed yet. After each piece except the last one, the consumer advances over the
 /// beats that were read, and the beats that it no longer needs are removed.
 ///
 /// Errors: as `script_of_input`, and `OutOfMemory` if the consumer fails.
@@ -109,8 +109,8 @@ fn read_pieces<R: Read, By, L: BeatConsumer<By, C, M>, const C: usize, const M: 
     }
 }
 
-/// Reads a text to its end, incrementally. Its header names this version and these widths. The
-/// input holds its first piece, nothing of it was used, and the consumer is new. After each piece
+/// Reads a text to its end, incrementally. Its header names this version and these widths. Its
+/// first piece has been read and not consumed, and the consumer is new. After each piece
 /// except the last one, the consumer advances over the beats that were read, and the beats that it
 /// no longer needs are removed. A piece has at most as many bytes as the input's buffer. Returns the
 /// beats of the script that are left at the end.
@@ -141,8 +141,8 @@ pub fn read_through<R: Read, By, L: BeatConsumer<By, C, M>, const C: usize, cons
 }
 
 /// Reads a text to its end, incrementally, so that only a piece of it is in memory. Its header
-/// names this version and these widths. The input holds its first piece, and nothing of it was
-/// used. Returns the script of the text.
+/// names this version and these widths. Its first piece has been read and not
+/// consumed. Returns the script of the text.
 ///
 /// Errors:
 /// - `Trace`: the text's first fault and its line. The rest of the text is not read yet.

@@ -46,7 +46,7 @@ fn sync_option<'a>(alloc: Global) -> Arg<'a>
     Arg::new(alloc, "sync")
         .long("sync")
         .help(
-            "Runs both sides in one thread, for machines with one core; --turns has no effect, and the answer is the same",
+            "Runs both sides in one thread, which is fastest; --turns has no effect, and the output is the same",
         )
         .action(ArgAction::SetTrue)
 }
@@ -98,7 +98,7 @@ fn bare_command<'a>(alloc: Global) -> Command<'a>
     ensures { app_of result ≡ bare }
 {
     let about =
-        "Sends a TileLink trace across a clock and width bridge. Reads the trace from a file or from standard input, and writes the answer to standard output.";
+        "Computes which beats come out of a TileLink width adapter or clock crossing. Reads a trace of those that go in from a file or from standard input, and writes the output to standard output.";
     Command::new(alloc, "tlbridge")
         .about(about)
         .version(VERSION)

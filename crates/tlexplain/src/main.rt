@@ -11,9 +11,10 @@ use std::fs::File;
 use std::io::{self, IsTerminal, Stdin};
 use std::process::ExitCode;
 use tl_answer::{FaultLine, TextFault, exit_status, read_all};
-use tl_explain::{DisplayOptions, FAULTS, TimesFault, meaning};
-use tl_page::{ExplainFault, run_explain};
-use words::{Wish, not_utf8, wish_of};
+use tl_explain::{DisplayOptions, FAULTS, meaning};
+use tl_formats::{ExplainFault, run_explain};
+use tl_times::TimesFault;
+use words::{Command, command_of, not_utf8};
 
 /// The program's name, with which its lines on standard error begin.
 const PROGRAM: &str = "tlexplain";
@@ -132,9 +133,9 @@ fn explain(
 }
 
 /// Executes a command. Returns the exit status.
-fn obey(rt: &HostRuntime, wish: &Wish<'_>) -> ExitCode {
-    match *wish {
-        Wish::Explain { file, times, look } => {
+fn execute(rt: &HostRuntime, command: &Command<'_>) -> ExitCode {
+    match *command {
+        Command::Explain { file, times, look } => {
             let Some(path) = times else {
                 return explain(rt, file, "", None, &look);
             };
@@ -143,14 +144,14 @@ fn obey(rt: &HostRuntime, wish: &Wish<'_>) -> ExitCode {
                 Err(fault) => refuse_file(rt, path, fault),
             }
         }
-        Wish::Faults => status(rt, print_faults(rt)),
+        Command::Faults => status(rt, print_faults(rt)),
     }
 }
 
 /// Executes the command in these words of a command line. Returns the exit status.
 fn run(rt: &HostRuntime, words: &[String]) -> ExitCode {
-    match wish_of(rt.alloc(), words) {
-        Ok(wish) => obey(rt, &wish),
+    match command_of(rt.alloc(), words) {
+        Ok(command) => execute(rt, &command),
         Err(error) => refuse(rt, &error),
     }
 }

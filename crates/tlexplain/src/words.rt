@@ -1,9 +1,9 @@
 //! The command line.
 use clap::builder::ValueParser;
 use clap::error::{Error, ErrorKind};
-use clap::{Arg, ArgAction, ArgGroup, ArgMatches, Command};
+use clap::{Arg, ArgAction, ArgGroup, ArgMatches};
 use std::alloc::{AllocError, Global};
-use tl_explain::{DisplayOptions, LineFilter};
+use tl_explain::{DisplayOptions, Format, LineFilter};
 
 /// The program's version.
 const VERSION: &str = "0.7.0";
@@ -14,7 +14,7 @@ const ABOUT: &str =
 
 /// A command of the command line.
 #[derive(Clone, Copy)]
-pub enum Wish<'a> {
+pub enum Command<'a> {
     /// Explain the trace of this file, or that on standard input, with the times in another file,
     /// and with these options.
     Explain {
@@ -86,19 +86,20 @@ fn argument<'a>(alloc: Global, word: &Word) -> Arg<'a> {
     }
 }
 
-fn command<'a>(alloc: Global) -> Result<Command<'a>, AllocError> {
-    let mut command = Command::new(alloc, "tlexplain")
+/// Returns clap's description of the command line.
+fn grammar<'a>(alloc: Global) -> Result<clap::Command<'a>, AllocError> {
+    let mut grammar = clap::Command::new(alloc, "tlexplain")
         .about(ABOUT)
         .version(VERSION);
     for word in WORDS {
-        command = command.arg(argument(alloc, word))?;
+        grammar = grammar.arg(argument(alloc, word))?;
     }
-    command.group(ArgGroup::new(alloc, "output").arg("html")?.arg("json")?)
+    grammar.group(ArgGroup::new(alloc, "output").arg("html")?.arg("json")?)
 }
 
 /// Returns an error with this message, followed by the usage.
 fn refusal(alloc: Global, message: &str) -> Result<Error, AllocError> {
-    command(alloc)?.error(ErrorKind::ValueValidation, message)
+    grammar(alloc)?.error(ErrorKind::ValueValidation, message)
 }
 
 /// Returns the error for a wrong value of `--source`.
@@ -125,12 +126,22 @@ fn channel_of(matches: &ArgMatches<'_>) -> Option<u8> {
     matches.get_str("channel")?.as_bytes().first().copied()
 }
 
+/// Returns the format of the output. The command line has at most one of its options.
+fn format_of(matches: &ArgMatches<'_>) -> Format {
+    if matches.get_flag("html") {
+        Format::Page
+    } else if matches.get_flag("json") {
+        Format::Json
+    } else {
+        Format::Text
+    }
+}
+
 /// Returns the options of the explanation, with only the lines of this source, if there is one.
 fn look_of(matches: &ArgMatches<'_>, source: Option<u16>) -> DisplayOptions {
     DisplayOptions {
         lanes: matches.get_flag("lanes"),
-        page: matches.get_flag("html"),
-        json: matches.get_flag("json"),
+        format: format_of(matches),
         colour: false,
         in_order: matches.get_flag("in-order") || matches.contains_id("times"),
         remarks: !matches.get_flag("no-remarks"),
@@ -144,13 +155,13 @@ fn look_of(matches: &ArgMatches<'_>, source: Option<u16>) -> DisplayOptions {
     }
 }
 
-/// Returns the command in the words of a command line that `command` accepts.
-fn wish_in<'a>(alloc: Global, matches: &ArgMatches<'a>) -> Result<Wish<'a>, Error> {
+/// Returns the command in the words of a command line that `grammar` accepts.
+fn command_in<'a>(alloc: Global, matches: &ArgMatches<'a>) -> Result<Command<'a>, Error> {
     if matches.get_flag("faults") {
-        return Ok(Wish::Faults);
+        return Ok(Command::Faults);
     }
     let source = source_of(alloc, matches)?;
-    Ok(Wish::Explain {
+    Ok(Command::Explain {
         file: matches.get_str("FILE"),
         times: matches.get_str("times"),
         look: look_of(matches, source),
@@ -159,9 +170,9 @@ fn wish_in<'a>(alloc: Global, matches: &ArgMatches<'a>) -> Result<Wish<'a>, Erro
 
 /// Returns the command in the words of a command line. The first word is the program's name.
 /// Errors: clap's error for any other command line; also help and the version.
-pub fn wish_of<'a>(alloc: Global, words: &'a [String]) -> Result<Wish<'a>, Error> {
-    let matches = command(alloc)?.try_get_matches_from(words)?;
-    wish_in(alloc, &matches)
+pub fn command_of<'a>(alloc: Global, words: &'a [String]) -> Result<Command<'a>, Error> {
+    let matches = grammar(alloc)?.try_get_matches_from(words)?;
+    command_in(alloc, &matches)
 }
 
 /// Returns the error for a command line with a word that is not UTF-8.

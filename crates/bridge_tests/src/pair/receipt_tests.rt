@@ -3,8 +3,8 @@
 
 ghost use Rattle.std.specs.Prelude.{IfSome};
 ghost use Rattle.std.specs.Global.{Global};
-ghost use Rattle.tl_sides.specs.Receipts.{AreClientsReceipts, AreManagersReceipts, ClientLeaves, ManagerLeaves};
-ghost use Rattle.tl_sides.specs.Sides.{AreSides, ClientState, ManagerState, SameClient, SameManager};
+ghost use Rattle.tl_sides.specs.Receipts.{AreClientsReceipts, AreManagersReceipts, ClientLeaves, LeftShowsManager, ManagerLeaves, ShowsManager};
+ghost use Rattle.tl_sides.specs.Sides.{AreSides, ClientState, ManagerPast, ManagerStandsFor, ManagerState, SameClient, SameManager};
 
 use crate::lending::let_both_go;
 use crate::values::{ack, blank};
@@ -217,8 +217,10 @@ fn sends_a_probe(manager: &mut ManagerSide<4, 16>) -> bool
 
 /// Returns the receipts of a manager's side that has finished, if there is one for each channel.
 fn manager_receipt(left: FinishedManager<4, 16>) -> Option<ManagerReceipt<4, 16>>
-    ensures { (s : ClientState Global 4 16) → ManagerLeaves left s →
+    ensures taker { (s : ClientState Global 4 16) → ManagerLeaves left s →
         IfSome result (λ receipt. AreManagersReceipts receipt s) }
+    ensures shows { (y : ManagerPast 4 16) → LeftShowsManager left y →
+        IfSome result (λ receipt. ShowsManager receipt y) }
 {
     let FinishedManager { a, b, c, d, e } = left;
     let_both_go(a, c);
@@ -230,9 +232,12 @@ fn manager_receipt(left: FinishedManager<4, 16>) -> Option<ManagerReceipt<4, 16>
 }
 
 /// Finishes a manager's side that has sent everything.
-fn finished_manager(manager: ManagerSide<4, 16>) -> Option<ManagerReceipt<4, 16>>
-    ensures { (s : ClientState Global 4 16) → AreSides s manager →
+pub fn finished_manager(manager: ManagerSide<4, 16>) -> Option<ManagerReceipt<4, 16>>
+    ensures taker { (s : ClientState Global 4 16) → AreSides s manager →
         IfSome result (λ receipt. AreManagersReceipts receipt s) }
+    // for every past that the side represents
+    ensures shows { (y : ManagerPast 4 16) → ManagerStandsFor manager y →
+        IfSome result (λ receipt. ShowsManager receipt y) }
 {
     if manager.is_sent_out() {
         manager_receipt(manager.finish())

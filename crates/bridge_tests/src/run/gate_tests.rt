@@ -35,7 +35,7 @@ impl<'a> Gate for Spin<'a> {
 
 /// Adds two requests by one source and two responses to it. Returns whether there was memory for
 /// them.
-fn use_twice(script: &mut Script<4, 4>) -> bool {
+pub fn use_twice(script: &mut Script<4, 4>) -> bool {
     let asks = script
         .a
         .extend_from_slice(&[get(1, 0, 0xf), get(1, 4, 0xf)]);

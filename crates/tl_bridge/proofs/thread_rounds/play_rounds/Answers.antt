@@ -47,6 +47,9 @@ overflow_add-rounds g c =
 passed-on : (P : ℕ → Type 0) (n rounds : ℕ) → P (n + rounds + 1) → P (n + (rounds + 1))
 passed-on P n rounds h = let e : n + rounds + 1 ≡ n + (rounds + 1) = omega arith in subst P e h
 
+at-least-one : (rounds : ℕ) → 1 ≤ rounds + 1
+at-least-one rounds = omega arith
+
 pub returns-in-Some : goal.returns-in-Some
 returns-in-Some g c =
     let h = c.round.ensures.round in
@@ -56,6 +59,7 @@ returns-in-Some g c =
           (c.round.ensures.client_passed (n + c.rounds.rounds) (c.rounds.invariant.client_passed n passed));
       manager_passed = λ n passed. passed-on (λ k. g.H.Gate.HasPassed k c.round.new.manager_gate) n c.rounds.rounds
           (c.round.ensures.manager_passed (n + c.rounds.rounds) (c.rounds.invariant.manager_passed n passed));
+      some_round = at-least-one c.rounds.rounds;
       ended = met-ended near c.round.result.0.at (beats_of (taken_of c.round.new.client c.round.new.manager)) c.round.new.client.side
           c.round.new.manager.side h.met c.in-Some.stops (c.rounds.rounds + 1)
           (subst (λ o. AllStop near c.round.result.0.at

@@ -1,4 +1,4 @@
-use Rattle.std.proofs.Common.{◌+◌, refl, sym, subst, ⊎_elim, inl, inr}
+use Rattle.std.proofs.Common.{◌+◌, ◌≤◌, refl, sym, subst, ⊎_elim, inl, inr}
 use Rattle.tl_bridge.proofs.Words.{near_beats, beats_of, HasEnded, not-ok}
 use Rattle.tl_bridge.proofs.Words.{only-memory, stalled-never}
 use Rattle.tl_bridge.specs.Inner.Sides.{bridge_of}
@@ -9,6 +9,7 @@ returns-then-ring-eq0 g c = record {
   outcome = tt;
   client_rounds = λ n passed. tt;
   manager_rounds = λ n passed. tt;
+  some_round = tt;
   size = λ ok. not-ok ok;
   ring_size = (λ same. ⊎_elim (λ z. inl z) (λ p. inr p.1) c.then-ring-eq0.either, λ either. refl);
   never_stalled = stalled-never _ refl;
@@ -26,6 +27,7 @@ returns g c =
           (c.play_rounds-end.ensures.client_passed n passed);
       manager_rounds = λ n passed. subst (λ k. g.H.Gate.HasPassed (n + k) c.play_rounds-end.new.manager_gate) (sym c.outcome_at.ensures.rounds)
           (c.play_rounds-end.ensures.manager_passed n passed);
+      some_round = subst (λ k. 1 ≤ k) (sym c.outcome_at.ensures.rounds) c.play_rounds-end.ensures.some_round;
       size = λ _. c.in-Ok-bridge.ensures.size refl;
       ring_size = tt;
       never_stalled = tt;
@@ -35,10 +37,10 @@ returns g c =
 pub returns-in_default : goal.returns-in_default
 returns-in_default g c =
     let only = only-memory _ refl c.args.ring c.if-ring-eq0.false c.if-ring-gt-MAX_RING.false in
-    record { outcome = tt; client_rounds = λ n passed. tt; manager_rounds = λ n passed. tt; size = λ ok. not-ok ok; ring_size = only.0; never_stalled = only.1 }
+    record { outcome = tt; client_rounds = λ n passed. tt; manager_rounds = λ n passed. tt; some_round = tt; size = λ ok. not-ok ok; ring_size = only.0; never_stalled = only.1 }
 
 -- or for the bridge
 pub returns-in_default-bridge : goal.returns-in_default-bridge
 returns-in_default-bridge g c =
     let only = only-memory _ refl c.args.ring c.if-ring-eq0.false c.if-ring-gt-MAX_RING.false in
-    record { outcome = tt; client_rounds = λ n passed. tt; manager_rounds = λ n passed. tt; size = λ ok. not-ok ok; ring_size = only.0; never_stalled = only.1 }
+    record { outcome = tt; client_rounds = λ n passed. tt; manager_rounds = λ n passed. tt; some_round = tt; size = λ ok. not-ok ok; ring_size = only.0; never_stalled = only.1 }

@@ -20,7 +20,7 @@ returns c =
     let was = held_at c.in-Some-on_held.ensures.some c.deref_mut.ensures.value in
     record {
       take = takes (λ h. h.side.a.inbox) {h = c.deref_mut.result.now} {k = record { side = c.take_a.new.self }} was c.on_held-put.ensures.held
-          c.take_a.ensures.beat c.take_a.ensures.lawful c.take_a.ensures.taken c.tell_a.ensures;
+          c.take_a.ensures.beat c.take_a.ensures.lawful c.take_a.ensures.taken c.write_a.ensures;
       kept = kept _ {h = c.deref_mut.result.now} {k = record { side = c.take_a.new.self }} was c.on_held-put.ensures.held
           (taken_a c.take_a.ensures.rest, c.take_a.ensures.rest) c.on_held-take.ensures.number c.on_held-put.ensures.number;
     }

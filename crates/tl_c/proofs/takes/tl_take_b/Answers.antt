@@ -16,7 +16,7 @@ returns c =
     let was = held_at c.in-Some-on_held.ensures.some c.deref_mut.ensures.value in
     record {
       take = takes (λ h. h.side.b.inbox) {h = c.deref_mut.result.now} {k = record { side = c.take_b.new.self }} was c.on_held-put.ensures.held
-          c.take_b.ensures.beat c.take_b.ensures.lawful c.take_b.ensures.taken c.tell_b.ensures;
+          c.take_b.ensures.beat c.take_b.ensures.lawful c.take_b.ensures.taken c.write_b.ensures;
       kept = kept _ {h = c.deref_mut.result.now} {k = record { side = c.take_b.new.self }} was c.on_held-put.ensures.held
           (taken_b c.take_b.ensures.rest, c.take_b.ensures.rest) c.on_held-take.ensures.number c.on_held-put.ensures.number;
     }

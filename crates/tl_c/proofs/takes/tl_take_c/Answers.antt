@@ -16,7 +16,7 @@ returns c =
     let was = held_at c.in-Some-on_held.ensures.some c.deref_mut.ensures.value in
     record {
       take = takes (λ h. h.side.c.inbox) {h = c.deref_mut.result.now} {k = record { side = c.take_c.new.self }} was c.on_held-put.ensures.held
-          c.take_c.ensures.beat c.take_c.ensures.lawful c.take_c.ensures.taken c.tell_c.ensures;
+          c.take_c.ensures.beat c.take_c.ensures.lawful c.take_c.ensures.taken c.write_c.ensures;
       kept = kept _ {h = c.deref_mut.result.now} {k = record { side = c.take_c.new.self }} was c.on_held-put.ensures.held
           (taken_c c.take_c.ensures.rest, c.take_c.ensures.rest) c.on_held-take.ensures.number c.on_held-put.ensures.number;
     }

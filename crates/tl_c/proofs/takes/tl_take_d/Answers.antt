@@ -20,7 +20,7 @@ returns c =
     let was = held_at c.in-Some-on_held.ensures.some c.deref_mut.ensures.value in
     record {
       take = takes (λ h. h.side.d.inbox) {h = c.deref_mut.result.now} {k = record { side = c.take_d.new.self }} was c.on_held-put.ensures.held
-          c.take_d.ensures.beat c.take_d.ensures.lawful c.take_d.ensures.taken c.tell_d.ensures;
+          c.take_d.ensures.beat c.take_d.ensures.lawful c.take_d.ensures.taken c.write_d.ensures;
       kept = kept _ {h = c.deref_mut.result.now} {k = record { side = c.take_d.new.self }} was c.on_held-put.ensures.held
           (taken_d c.take_d.ensures.rest, c.take_d.ensures.rest) c.on_held-take.ensures.number c.on_held-put.ensures.number;
     }

@@ -16,7 +16,7 @@ returns c =
     let was = held_at c.in-Some-on_held.ensures.some c.deref_mut.ensures.value in
     record {
       take = takes (λ h. h.side.e.inbox) {h = c.deref_mut.result.now} {k = record { side = c.take_e.new.self }} was c.on_held-put.ensures.held
-          c.take_e.ensures.beat c.take_e.ensures.lawful c.take_e.ensures.taken c.tell_e.ensures;
+          c.take_e.ensures.beat c.take_e.ensures.lawful c.take_e.ensures.taken c.write_e.ensures;
       kept = kept _ {h = c.deref_mut.result.now} {k = record { side = c.take_e.new.self }} was c.on_held-put.ensures.held
           (taken_e c.take_e.ensures.rest, c.take_e.ensures.rest) c.on_held-take.ensures.number c.on_held-put.ensures.number;
     }
