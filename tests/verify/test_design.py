@@ -153,6 +153,11 @@ REFUSED: Dict[str, Tuple[str, str, int]] = {
         "no clock found for the link p. Add --client-clock NAME",
         2,
     ),
+    "clocks": (
+        f"module dut(input clk_a, input clk_b, {ports('p_', True)}); endmodule",
+        "more than one clock fits the link p: clk_a, clk_b. Add --client-clock clk_a",
+        2,
+    ),
     "width": (
         f"module dut(input clk, {ports('p_', True, 3)}); endmodule",
         "has 24 bits: a width in bytes is one of",

@@ -50,10 +50,32 @@ def test_a_right_design(tmp_path: Path) -> None:
     assert offsets == set(range(8))
 
 
+LOOP = """module loop(input clock, reset, a_valid, output a_ready, input [2:0] a_opcode, a_param, input [1:0] a_size,
+  input [1:0] a_source, input [7:0] a_address, input [3:0] a_mask, input [31:0] a_data, output d_valid, input d_ready,
+  output [2:0] d_opcode, output [1:0] d_size, d_source, output [31:0] d_data, output d_denied);
+    reg flips = 0;
+    always @(flips or a_valid) if (a_valid === 1'b1) flips <= ~flips;
+    assign a_ready = d_ready, d_valid = a_valid, d_opcode = 1, d_size = a_size, d_source = a_source, d_data = flips;
+    assign d_denied = 0;
+endmodule
+"""
+
+
+def test_a_combinational_loop(
+    tmp_path: Path, monkeypatch: pytest.MonkeyPatch, capsys: pytest.CaptureFixture[str]
+) -> None:
+    needs_tools("verilator", "iverilog")
+    (tmp_path / "loop.v").write_text(LOOP)
+    monkeypatch.setattr(command, "_LOOP_SECONDS", 1)
+    assert command.main([str(tmp_path / "loop.v"), "--simulator", "icarus", "--out", str(tmp_path / "out")]) == 3
+    assert "the design has a combinational loop: icarus did not end 100 cycles" in capsys.readouterr().err
+    assert files_of(tmp_path) == ["loop.v"]
+
+
 def test_a_mistake_and_its_folder(tmp_path: Path) -> None:
     status, out, err = verify(tmp_path, START, "-D", "BUG", "--simulator", "icarus", "--out", "found/here")
     assert (status, err) == (1, "")
-    assert "MISTAKE: client link: AccessAckData" in out and "expected .." in out and "<-- wrong" in out
+    assert "MISTAKE: client link: AccessAckData" in out and ".. .. .." in out and "<-- wrong" in out
     assert "several requests outstanding" in out
     folder = tmp_path / "found" / "here"
     verdict = json.loads((folder / "verdict.json").read_text())
@@ -123,7 +145,7 @@ BAD: Dict[str, Tuple[List[str], int, str]] = {
     "no file": (["missing.sv"], 2, "there is no file missing.sv"),
     "no files": ([], 2, "name the files of the design"),
     "two files without top": ([START, START], 2, "--top MODULE is needed"),
-    "no such module": ([START, "--top", "bridge"], 2, "the files have no module bridge"),
+    "no such module": ([START, "--top", "bridge"], 2, "Modules found: adapter"),
     "no such link": ([START, "--client", "left"], 2, "has the prefix left. Links found: up, down"),
     "no such clock": ([START, "--client-clock", "clk"], 2, "--client-clock clk: the design has no input of one bit"),
     "unknown parameter": ([START, "-P", "WIDTH=3"], 2, "the module adapter has no parameter WIDTH"),

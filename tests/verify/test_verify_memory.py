@@ -78,11 +78,19 @@ RIGHT = {
         get(1, 16),
         data(1, "22222222"),
     ],
+    "corrupt byte next to a good one": [
+        put(0, 16, "11111111", corrupt=1),
+        ack(0),
+        put(0, 16, "22222222", "1"),
+        ack(0),
+        get(1, 16),
+        data(1, "11111122", corrupt=1),
+    ],
     "corrupt write": [put(0, 16, "11111111", corrupt=1), ack(0), get(1, 16), data(1, "99999999")],
     "corrupt and denied reads": [
         put(0, 16, "11111111"),
         ack(0),
-        get(1, 16),
+        get(1, 20),
         data(1, "00000000", corrupt=1),
         get(1, 16),
         data(1, "00000000", denied=1),
@@ -167,6 +175,15 @@ RIGHT = {
         get(1, 16),
         data(1, "22222223"),
     ],
+    # the response comes after the first beat of the put
+    "early acknowledgement": [
+        put(0, 16, "11111111", size=3),
+        ack(0),
+        put(0, 16, "22222222", size=3),
+        get(1, 16, 3),
+        data(1, "11111111", 3),
+        data(1, "22222222", 3),
+    ],
     "a write that is only offered": [
         put(0, 16, "11111111"),
         ack(0),
@@ -204,6 +221,27 @@ WRONG = {
             data(1, "00000008"),
         ],
         "reads 08 at 0x10, which holds 07",
+    ),
+    "corrupt for ever": (
+        [
+            put(0, 16, "11111111", corrupt=1),
+            ack(0),
+            put(0, 16, "22222222"),
+            ack(0),
+            get(1, 16),
+            data(1, "22222222", corrupt=1),
+        ],
+        "is corrupt at 0x10, and good puts wrote all its bytes",
+    ),
+    "after an early acknowledgement": (
+        [
+            put(0, 16, "11111111", size=3),
+            ack(0),
+            put(0, 16, "22222222", size=3),
+            get(1, 20),
+            data(1, "11111111"),
+        ],
+        "at 0x14, which holds 22",
     ),
     "atomic returns the new value": (
         [put(0, 16, "00000005"), ack(0), atomic(0, 16, 2, 4, "00000002"), data(0, "00000007")],

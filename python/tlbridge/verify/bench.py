@@ -5,6 +5,7 @@ Verilator, and writes the same beats in both.
 """
 from __future__ import annotations
 
+import contextlib
 import os
 import re
 import shlex
@@ -33,7 +34,7 @@ _LOW = {
     "mask": 115,
 }
 _ROOM = {"opcode": 3, "param": 3, "size": 8, "address": 64, "source": 16, "sink": 16, "denied": 1, "corrupt": 1}
-_IDLE_CYCLES = 2000  # without a beat: a hang
+IDLE_CYCLES = 2000  # without a beat: a hang
 _END_CYCLES = 200  # without a beat after the last one: the end
 _RUN_SECONDS = 120  # of processor time
 _WALL_SECONDS = 3600
@@ -84,6 +85,7 @@ class Bench:
         self.present = {side: channels_of(design, side, is_bridge) for side in self.sides}
         self.clock_of = {side: f"{side if self.has_two else self.sides[0]}_clock" for side in self.sides}
         self.lines: List[str] = []
+        self.level = ""  # that the checkers judge by, if the user names one
 
     def say(self, text: str) -> None:
         self.lines.append(text)
@@ -163,6 +165,7 @@ class Bench:
             for word, name in (("ADDRESS", "address"), ("SIZE", "size"), ("SOURCE", "source"), ("SINK", "sink"))
         )
         offered = ", .RESPOND_TO_OFFERED(1)" if side == "client" else ""
+        offered += f', .LEVEL("{self.level}")' if self.level else ""
         clock = f".clock({self.clock_of[side]}), .reset({side}_reset)"
         self.say(
             f'    tl_trace_monitor #(.FILE("{side}.beats"), .DATA_BYTES({link.width}), {sizes},'
@@ -301,7 +304,7 @@ class Bench:
         )
         faults = " + ".join(f"{side}_faults" for side in self.sides)
         self.say("    reg [31:0] idle = 0, moved = 0, most_idle, end_idle; integer cycles = 0, most, stop, faulty = 0;")
-        self.say(f'    initial begin if (!$value$plusargs("idle=%d", most_idle)) most_idle = {_IDLE_CYCLES};')
+        self.say(f'    initial begin if (!$value$plusargs("idle=%d", most_idle)) most_idle = {IDLE_CYCLES};')
         self.say(f'        if (!$value$plusargs("end=%d", end_idle)) end_idle = {_END_CYCLES};')
         self.say(
             '        if (!$value$plusargs("most=%d", most)) most = 0; if (!$value$plusargs("stop=%d", stop)) stop = 0;'
@@ -359,25 +362,42 @@ class Run:
 _FAULT = re.compile(r"(\d+): \S*?(client|manager)_checker\.\w: ([A-D]) beat \d+: (fault .*?) \(")
 
 
+class OverTime(SimulatorError):
+    """A run did not end within its seconds."""
+
+
+class Endless(SimulatorError):
+    """A run took more processor time than it may."""
+
+
 class Cancel:
-    """Ends a compilation that is no longer needed, with the compilers that it started."""
+    """Ends compilations and runs that are no longer needed, with the processes that they started."""
 
     def __init__(self) -> None:
-        self.process: Optional["subprocess.Popen[str]"] = None
+        self.processes: Set["subprocess.Popen[str]"] = set()
         self.is_set = False
 
     def set(self) -> None:
         self.is_set = True
-        process = self.process
-        if process is not None and process.poll() is None:
-            try:
-                os.killpg(process.pid, signal.SIGTERM)
-            except ProcessLookupError:
-                pass
+        for process in list(self.processes):
+            _end(process)
+
+
+def _end(process: "subprocess.Popen[str]") -> None:
+    """Ends a process and all that it started, which are a group."""
+    if process.poll() is None:
+        try:
+            os.killpg(process.pid, signal.SIGTERM)
+        except ProcessLookupError:
+            pass
 
 
 def _called(
-    words: Sequence[str], folder: Optional[Path] = None, seconds: float = 600, cancel: Optional[Cancel] = None
+    words: Sequence[str],
+    folder: Optional[Path] = None,
+    seconds: float = 600,
+    cancel: Optional[Cancel] = None,
+    is_nice: bool = False,
 ) -> "subprocess.CompletedProcess[str]":
     pipe = subprocess.PIPE
     try:
@@ -388,7 +408,7 @@ def _called(
             text=True,
             errors="replace",
             cwd=folder,
-            start_new_session=cancel is not None,
+            start_new_session=True,
         )
     except FileNotFoundError:
         raise SimulatorError(
@@ -397,15 +417,21 @@ def _called(
     except OSError as error:
         raise SimulatorError(f"{Path(words[0]).name} cannot be started: {error.strerror}") from error
     with process:
+        if is_nice:
+            with contextlib.suppress(OSError):
+                os.setpriority(os.PRIO_PROCESS, process.pid, 4)
         if cancel is not None:
-            cancel.process = process
+            cancel.processes.add(process)
             if cancel.is_set:
                 cancel.set()
         try:
             out, err = process.communicate(timeout=seconds)
         except BaseException:
-            process.kill()
+            _end(process)
             raise
+        finally:
+            if cancel is not None:
+                cancel.processes.discard(process)
     return subprocess.CompletedProcess(words, process.returncode, out, err)
 
 
@@ -425,6 +451,7 @@ class Simulation:
     ):
         self.design, self.simulator, self.room = design, simulator, room
         self.has_two, self.plusargs = bench.has_two, list(plusargs)
+        self._text, self._extra = bench, extra
         room.mkdir(parents=True, exist_ok=True)
         self.bench = room / "tl_verify_bench.sv"
         self.bench.write_text(bench.text())
@@ -466,14 +493,21 @@ class Simulation:
                 "unique",
                 "-CFLAGS",
                 "-O1",
+                "--output-split",
+                "60000",
                 "--Mdir",
                 str(room / "obj"),
             ]
             self.compile_words += [*(["--trace"] if has_waves else []), *ours, *source.words("verilator")]
             self._verilate(cancel)
 
+    def with_waves(self, room: Path) -> "Simulation":
+        """Returns the same bench, compiled so that it can write waves."""
+        return Simulation(self.design, self.simulator, room, self._text, self._extra, self.plusargs, has_waves=True)
+
     def _verilate(self, cancel: Optional[Cancel]) -> None:
-        done = _called(self.compile_words, cancel=cancel)
+        is_nice = cancel is not None  # in the background, it leaves the processors to the runs
+        done = _called(self.compile_words, cancel=cancel, is_nice=is_nice)
         self._check(done, is_made=False)
         version = _called(["verilator", "--version"]).stdout.split()
         cache = cache_folder() / "-".join(version[1:2] or ["unknown"])
@@ -483,13 +517,13 @@ class Simulation:
             "make",
             "-s",
             "-j",
-            os.environ.get("JOBS", "2"),
+            os.environ.get("JOBS", str(min(4, os.cpu_count() or 1))),
             "-C",
             str(self.room / "obj"),
             "-f",
             "Vtl_verify_bench.mk",
         ]
-        self._check(_called(words, cancel=cancel))
+        self._check(_called(words, cancel=cancel, is_nice=is_nice))
         if not cache.exists():
             self._keep(cache)
 
@@ -532,22 +566,35 @@ class Simulation:
             + [f"+{word}" for word in self.plusargs]
         )
 
-    def run(self, script: Sequence[Message], settings: Mapping[str, int], folder: Path, waves: bool = False) -> Run:
-        """Plays a script. Errors: the simulator dies, does not end, or the disk is full."""
+    def run(
+        self,
+        script: Sequence[Message],
+        settings: Mapping[str, int],
+        folder: Path,
+        waves: bool = False,
+        seconds: float = _WALL_SECONDS,
+        cancel: Optional[Cancel] = None,
+        processor: int = _RUN_SECONDS,
+    ) -> Run:
+        """Plays a script. Errors: the simulator dies, does not end within `seconds` or within its processor seconds, or
+        the disk is full."""
         folder.mkdir(parents=True, exist_ok=True)
         for channel in "ABC":
             words = "".join(message.word() for message in script if message.channel == channel)
             (folder / f"{channel.lower()}.hex").write_text(words)
         command = self.words(script, settings) + (["+vcd"] if waves else [])
         try:
-            limited = ["/bin/sh", "-c", f'ulimit -t {_RUN_SECONDS}; exec "$@"', "sh"]
-            done = _called([*limited, *command], folder, _WALL_SECONDS)
+            limited = ["/bin/sh", "-c", f'ulimit -t {processor}; exec "$@"', "sh"]
+            done = _called([*limited, *command], folder, min(seconds, _WALL_SECONDS), cancel)
         except subprocess.TimeoutExpired:
-            raise SimulatorError(f"{self.simulator} did not end within {_WALL_SECONDS} seconds") from None
+            raise OverTime(
+                f"{self.simulator} did not end a run within {seconds:.0f} seconds, since this machine is slow or the"
+                " design is large: --seconds gives it more"
+            ) from None
         if done.returncode in (-signal.SIGXCPU, -signal.SIGKILL):
-            raise SimulatorError(
-                f"{self.simulator} did not end within {_RUN_SECONDS} processor seconds: is there a combinational loop"
-                " in the design?"
+            raise Endless(
+                f"{self.simulator} did not end a run within {processor} processor seconds: is there a combinational"
+                " loop in the design?"
             )
         run = _read_output(folder, done.stdout + done.stderr)
         if not run.cycles:

@@ -1,16 +1,19 @@
 """Plays random lawful TileLink traffic through a design, judges it, and shrinks a run that fails.
 
     tlbridge-verify adapter.sv --top adapter              a bridge between two links, by the names of its ports
-    tlbridge-verify ram.sv --top ram                      a device: reads return what was written tlbridge-verify
-    fragmenter.sv --top f --rules-only    no plain bridge: each link by its rules, with a memory behind it
-    tlbridge-verify adapter.sv --top adapter --seeds 1-1000 --jobs 4 --junit report.xml tlbridge-verify merge FOLDER ..
-    joins the verdicts and the coverage of several runs
+    tlbridge-verify ram.sv --top ram                      a device: reads return what was written
+    tlbridge-verify fragmenter.sv --top f --rules-only    no plain bridge: each link by its rules, with a memory
+    tlbridge-verify adapter.sv --top adapter --seeds 1-1000 --jobs 4 --junit report.xml
+    tlbridge-verify merge FOLDER ..                       joins the verdicts and the coverage of several runs
 """
 from __future__ import annotations
 
 import argparse
+import collections
 import concurrent.futures
+import itertools
 import json
+import math
 import multiprocessing
 import os
 import re
@@ -21,18 +24,31 @@ import tempfile
 import threading
 import time
 import xml.etree.ElementTree as tree
-from dataclasses import dataclass, field
+from dataclasses import dataclass, field, replace
 from pathlib import Path
-from typing import Any, Dict, Iterator, List, Mapping, Optional, Sequence, Tuple
+from typing import Any, Deque, Dict, Generator, Iterator, List, Mapping, Optional, Sequence, Set, Tuple
 
 from ..judge import find_program
-from .bench import Bench, Cancel, Settings, Simulation, SimulatorError, repeat_text, sv_folder
-from .design import Choice, DesignError, Source, described, read_design, read_file_list
+from .bench import (
+    IDLE_CYCLES,
+    Bench,
+    Cancel,
+    Endless,
+    OverTime,
+    Run,
+    Settings,
+    Simulation,
+    SimulatorError,
+    repeat_text,
+    sv_folder,
+)
+from .design import Choice, Design, DesignError, Source, described, modules_of, read_design, read_file_list
+from .explore import explored, held_largest, stated_largest
 from .judge import Beat, Beats, Judge, Problem, Rules, is_near, name_of, trace_of
 from .report import Coverage, not_compared, speed_of
 from .shrink import Shrinker, needs_of, options_of
 from .skew import skewed
-from .traffic import KINDS, Limits, Message, Traffic, limits_of
+from .traffic import HOST_STYLES, KINDS, PLAIN_LARGEST, STYLES, Limits, Message, Traffic, limits_of, style_of
 
 PROGRAM = "tlbridge-verify"
 RIGHT, MISTAKE, INCOMPLETE, FAILED = "right", "mistake", "incomplete", "failed"
@@ -41,12 +57,25 @@ exit status:
   0  no mistake was found, and each kind of message that should pass has arrived
   1  a mistake; or some kind of message never arrived, so that the design is not called right
   2  a wrong command line, or two readings of the ports are possible: the message names the option that decides
-  3  the design does not compile
+  3  the design does not compile, or has a combinational loop
   4  a simulator is missing, dies or does not end; a file cannot be written
 """
-_FIRST_ROUNDS = 13  # in Icarus, if both simulators are used: two directed rounds and each style once
-_SHORT, _LONG = 200, 1500  # messages of a round, in Icarus and in Verilator
-_DEFAULT_MESSAGES = 40000
+_FIRST_ROUNDS = 13  # in Icarus, if both simulators are used: two directed rounds and each style
+_LEAST_ROUNDS = 6  # in Icarus, even if Verilator is ready earlier
+_SHORT, _MIDDLE, _LONG = (
+    200,
+    400,
+    1500,
+)  # messages of a round: in Icarus, and of the first and the later ones in Verilator
+_DEFAULT_MESSAGES = 80000
+_SECONDS = 70  # of a run
+_STYLES_SECONDS = 50  # in which the first simulator plays each style once, with shorter rounds on a slow machine
+_MORE_SECONDS = 25  # for a machine on which that was not enough
+_LEAST_MESSAGES = 30  # of a shorter round
+_ALL_SECONDS = 112  # until a mistake is shrunk
+_LOOP_SECONDS = 5  # of processor time for a hundred cycles, which no design needs
+_LATE_SHARE = 0.3  # of the messages, with bits that arrive late at another clock
+_PATIENCE = 4  # a hang has to last this many times as long, when the round is played again
 _HOST_ROUNDS, _HOST_CYCLES = 6, 3000  # of a host, which sends by itself: rounds in Icarus, and their cycles
 
 
@@ -59,7 +88,9 @@ def _arguments() -> argparse.ArgumentParser:
     )
     design = words.add_argument_group("the design")
     design.add_argument("files", nargs="*", metavar="FILE", help="Verilog or SystemVerilog files")
-    design.add_argument("--top", metavar="MODULE", help="the module to verify [the name of the only file]")
+    design.add_argument(
+        "--top", metavar="MODULE", help="the module to verify [the one that no other module has inside]"
+    )
     design.add_argument(
         "-f", action="append", default=[], dest="lists", metavar="LIST", help="a file list, as Verilator has them"
     )
@@ -104,9 +135,8 @@ def _arguments() -> argparse.ArgumentParser:
     traffic.add_argument(
         "--messages",
         type=int,
-        default=_DEFAULT_MESSAGES,
         metavar="N",
-        help=f"that the tool sends of its own accord [{_DEFAULT_MESSAGES}]",
+        help=f"that the tool sends of its own accord [{_DEFAULT_MESSAGES}, or as many as --seconds allow]",
     )
     traffic.add_argument("--level", choices=tuple(KINDS), help="TL-UL, TL-UH or TL-C [by the ports]")
     traffic.add_argument(
@@ -130,8 +160,11 @@ def _arguments() -> argparse.ArgumentParser:
     traffic.add_argument("--same-cycle", action="store_true", help="also responses in the cycle of their request")
     traffic.add_argument("--withdraw", action="store_true", help="also a valid that falls before ready")
     traffic.add_argument(
-        "--skew", action="store_true", help="bits that cross to another clock may each arrive late (needs yosys)"
+        "--skew",
+        action="store_true",
+        help="bits that cross to another clock may each arrive late: refuse a design on which that cannot be played",
     )
+    traffic.add_argument("--no-skew", action="store_true", help="bits that cross to another clock arrive together")
     traffic.add_argument(
         "--plusarg", action="append", default=[], metavar="WORD", help="passed to the simulation as +WORD"
     )
@@ -148,7 +181,13 @@ def _arguments() -> argparse.ArgumentParser:
     running = words.add_argument_group("running")
     running.add_argument("--simulator", choices=("auto", "icarus", "verilator"), default="auto")
     running.add_argument(
-        "--shrink-seconds", type=float, default=45, metavar="S", help="how long a failing run is shrunk [45]"
+        "--seconds",
+        type=float,
+        metavar="S",
+        help=f"how long the design is played [{_SECONDS}; no limit with --messages or --seeds]",
+    )
+    running.add_argument(
+        "--shrink-seconds", type=float, default=25, metavar="S", help="how long a failing run is shrunk [25]"
     )
     running.add_argument("--no-waves", action="store_true", help="no waves.vcd of a failing run")
     running.add_argument(
@@ -170,9 +209,7 @@ def _source_of(options: argparse.Namespace) -> Source:
     files = tuple(options.files) + tuple(name for made in lists for name in made.files)
     if not files:
         raise DesignError("name the files of the design, or a file list with -f")
-    top = options.top or (Path(files[0]).stem if len(files) == 1 else "")
-    if not top:
-        raise DesignError("--top MODULE is needed, since there are several files")
+    top = options.top or _top_of(files)
     parameters = {name: value for made in lists for name, value in made.parameters.items()}
     parameters.update(_pairs(options.parameters, "-P"))
     defines = tuple(name for made in lists for name in made.defines) + tuple(options.defines)
@@ -182,6 +219,17 @@ def _source_of(options: argparse.Namespace) -> Source:
         if not Path(folder).is_dir():
             raise DesignError(f"there is no folder {folder}")
     return Source(top, files, parameters, defines, includes, libraries)
+
+
+def _top_of(files: Sequence[str]) -> str:
+    """Returns the module of the file's name, or the only one that no other module has inside."""
+    made, outer = modules_of(files)
+    stem = Path(files[0]).stem
+    if len(files) == 1 and (stem in made or not made):
+        return stem
+    if len(outer) != 1:
+        raise DesignError(f"--top MODULE is needed. Modules found: {', '.join(dict.fromkeys(outer or made)) or 'none'}")
+    return outer[0]
 
 
 def _choice_of(options: argparse.Namespace) -> Choice:
@@ -234,12 +282,13 @@ class Outcome:
     found_processor_seconds: float = 0
     seconds: float = 0
     messages: int = 0  # of the shrunk run
+    notes: List[str] = field(default_factory=list)  # what the design does not hold, and need not hold
     coverage: Dict[str, Any] = field(default_factory=dict)
     text: List[str] = field(default_factory=list)  # for a reader
 
     def as_json(self) -> Dict[str, Any]:
         counted = ("seed", "verdict", "words", "judge", "beats", "cycles")
-        timed = ("found_seconds", "found_processor_seconds", "seconds", "messages")
+        timed = ("found_seconds", "found_processor_seconds", "seconds", "messages", "notes")
         names = (*counted, *timed)
         return {name: getattr(self, name) for name in names}
 
@@ -294,32 +343,42 @@ class Session:
         self.options, self.room = options, room
         self.start = time.monotonic()
         source, choice = _source_of(options), _choice_of(options)
-        if options.messages < 1:
+        if options.messages is not None and options.messages < 1:
             raise DesignError("--messages has to be 1 or more")
+        if options.seconds is not None and options.seconds <= 0:
+            raise DesignError("--seconds has to be above 0")
         self.design = read_design(source, choice)
         self._examine()
         self.is_bridge = self.design.is_bridge and not options.rules_only
         self.one_clock = options.one_clock
         window = _window_of(options.window)
         self.limits = limits_of(self.design, self.is_bridge, options.level, options.largest, options.only, window)
+        self.stated = stated_largest(source.files) if options.largest is None else None
+        self.most_bytes = self.limits.largest  # that the size field can say, if nothing else is known
+        if self.stated is not None:
+            self.most_bytes = min(self.most_bytes, self.stated)
+            self.limits = replace(self.limits, largest=self.most_bytes)
+        elif options.largest is None:
+            self.limits = replace(self.limits, largest=min(self.most_bytes, PLAIN_LARGEST))
         plain = not set(self.limits.kinds) & {"acquire", "acquireperm", "release", "probe"}
         self.has_memory = not self.is_bridge and plain
         self.rules = Rules(self.is_bridge, self.has_memory and self.design.client is not None and not options.no_memory)
+        if self.has_memory and self.design.client is not None:  # a memory computes what fits into a beat
+            self.limits = replace(self.limits, atomic=min(self.design.client.width, 8))
         self._limit_window()
         self.judge = Judge(self.design, self.rules)
-        self.extra: List[Path] = []
-        self.played = self.design
-        self.late_bits = 0
-        if options.skew:
-            self.played, self.late_bits = skewed(self.design, room)
-            self.extra = [sv_folder() / "tl_skew.sv"]
-            if not self.late_bits:
-                raise DesignError("--skew: no bit of the design crosses directly to a flip-flop of another clock")
-        self.bench = Bench(self.played, self.is_bridge, self.one_clock, self.has_memory)
+        self.bench = Bench(self.design, self.is_bridge, self.one_clock, self.has_memory)
+        self.bench.level = options.level or ""
         self.bench.text()
+        self.late: Optional[Late] = None
+        self.has_late = self.bench.has_two and not options.no_skew and bool(options.skew or shutil.which("yosys"))
+        if options.skew and not self.netlist().bits:
+            raise DesignError("--skew: no bit of the design crosses directly to a flip-flop of another clock")
         self.forced = self._forced()
         self.compiled: Dict[str, Simulation] = {}
         self.failed: Dict[str, DesignError] = {}
+        self.is_mixed = False  # Verilator plays after Icarus
+        self.build_seconds = 0.0  # of the slowest compilation
         self.background: Optional[threading.Thread] = None
         self.cancel = Cancel()
 
@@ -329,6 +388,8 @@ class Session:
             raise DesignError("--one-clock: the design has one clock")
         if options.skew and (not design.has_two_clocks or options.one_clock):
             raise DesignError("--skew: the design has one clock, so no bit crosses")
+        if options.skew and options.no_skew:
+            raise DesignError("--skew and --no-skew exclude each other")
         if options.rules_only and not design.is_bridge:
             raise DesignError("--rules-only: a design with one link is judged so anyway")
         if options.no_memory and design.is_bridge and not options.rules_only:
@@ -349,11 +410,11 @@ class Session:
         if limits.window is None and self.rules.is_memory:
             span = 256 if not design.is_bridge else 4096
             span = min(span, 1 << min(link.bits("address") for link in design.links.values()))
-            limits = Limits(limits.kinds, limits.largest, (0, span))
+            limits = replace(limits, window=(0, span))
         if limits.window and limits.largest > limits.window[1]:
             if self.options.largest:
                 raise DesignError(f"--largest {limits.largest}: the window has {limits.window[1]} bytes")
-            limits = Limits(limits.kinds, 1 << (limits.window[1].bit_length() - 1), limits.window)
+            limits = replace(limits, largest=1 << (limits.window[1].bit_length() - 1))
         self.limits = limits
 
     def _forced(self) -> Settings:
@@ -380,16 +441,17 @@ class Session:
                 else "two clocks of any ratio (--one-clock if both inputs have to get the same clock)"
             )
             lines.append(f"  {how}")
-        if self.late_bits:
+        if self.late and self.late.bits:
             lines.append(
-                f"  {self.late_bits} bits cross directly to a flip-flop of another clock: each may arrive late"
+                f"  {self.late.bits} bits cross directly to a flip-flop of another clock: each may arrive late"
             )
         limits, level = self.limits, self.options.level or self.design.level
         if self.design.client is not None:
+            stated = ", as a comment of the design says" if self.stated == limits.largest else ""
             where = f", at {limits.window[0]:#x} to {sum(limits.window) - 1:#x}" if limits.window else ""
             lines.append(
-                f"  traffic: TL-{level}, up to {limits.largest} bytes{where}: {', '.join(limits.kinds)} (--level,"
-                " --largest, --only)"
+                f"  traffic: TL-{level}, up to {limits.largest} bytes{stated}{where}: {', '.join(limits.kinds)}"
+                " (--level, --largest, --only)"
             )
         if self.is_bridge and not_compared(self.design):
             lines.append(f"  not compared, since only one link has it: {', '.join(not_compared(self.design))}")
@@ -398,23 +460,54 @@ class Session:
 
     # -- building
 
+    def netlist(self) -> "Late":
+        """Returns the netlist with late bits, which is made once. Errors: there is no yosys, or it cannot read the
+        design."""
+        if self.late is None:
+            design, bits = skewed(self.design, self.room)
+            bench = Bench(design, self.is_bridge, self.one_clock, self.has_memory)
+            bench.level = self.bench.level
+            self.late = Late(design, bench, bits)
+        return self.late
+
     def build(self, name: str, cancel: Optional[Cancel] = None) -> Optional[Simulation]:
-        """Compiles the bench once. Returns None if it cannot be compiled, and `failed` has the reason."""
+        """Compiles the bench once: for `icarus` or `verilator`, with ` late` after it for the netlist with late bits.
+        Returns None if it cannot be compiled, and `failed` has the reason."""
         if name not in self.compiled and name not in self.failed:
+            simulator, _, is_late = name.partition(" ")
             try:
-                plusargs = self.options.plusarg
-                self.compiled[name] = Simulation(
-                    self.played, name, self.room / name, self.bench, self.extra, plusargs, cancel=cancel
-                )
+                design, bench, extra = self.design, self.bench, []
+                if is_late:
+                    late = self.netlist()
+                    design, bench, extra = late.design, late.bench, [sv_folder() / "tl_skew.sv"]
+                    if not late.bits:
+                        raise DesignError("no bit of the design crosses directly to a flip-flop of another clock")
+                begun = time.monotonic()
+                room, plusargs = self.room / name.replace(" ", "-"), self.options.plusarg
+                made = Simulation(design, simulator, room, bench, extra, plusargs, cancel=cancel)
+                self.compiled[name] = made
+                self.build_seconds = max(self.build_seconds, time.monotonic() - begun)
             except DesignError as error:
                 self.failed[name] = error
         return self.compiled.get(name)
 
-    def build_in_background(self, name: str) -> None:
-        """Begins to compile the bench for another simulator, unless that was done."""
-        if self.background is None and name not in self.compiled and name not in self.failed:
-            self.background = threading.Thread(target=self.build, args=(name, self.cancel))
+    def build_in_background(self, names: Sequence[str]) -> None:
+        """Begins to compile benches that are needed later."""
+
+        def build_each() -> None:
+            for name in names:
+                if not self.cancel.is_set:
+                    self.build(name, self.cancel)
+
+        if self.background is None:
+            self.background = threading.Thread(target=build_each)
             self.background.start()
+
+    def is_building(self, name: str) -> bool:
+        """Whether a bench is still being compiled in the background, or waits for it."""
+        if name in self.compiled or name in self.failed or self.background is None:
+            return False
+        return self.background.is_alive()
 
     def cancel_background(self) -> None:
         """Ends a compilation in the background, whose result nobody needs."""
@@ -425,9 +518,8 @@ class Session:
 
     def simulation(self, name: str) -> Simulation:
         """Returns the compiled bench. Errors: it cannot be compiled."""
-        if self.background is not None and name not in self.compiled:
-            self.background.join()
-            self.background = None
+        while self.is_building(name):
+            time.sleep(0.05)
         made = self.build(name)
         if made is None:
             raise self.failed[name]
@@ -443,23 +535,77 @@ class Session:
                 reason = str(self.failed["icarus"]).partition(": ")[2]
                 say(f"  Icarus cannot compile it ({reason[:160]}), so Verilator plays all rounds")
                 wanted = "verilator"
-        self.simulation(wanted)
+        simulation = self.simulation(wanted)
         say(f"  compiled for {wanted} in {time.monotonic() - begun:.1f} s")
+        self.settle(simulation)
         return wanted
 
-    def simulator_of(self, number: int, first: str) -> str:
-        """Which simulator plays a round: it does not depend on the speed of the machine."""
-        is_mixed = first == "icarus" and self.options.simulator == "auto" and shutil.which("verilator") is not None
-        return "verilator" if is_mixed and number >= self.first_rounds else first
+    def settle(self, simulation: Simulation) -> None:
+        """Plays a few cycles. Errors: they do not end, since signals change without end in one of them."""
+        traffic = Traffic(self.design, self.limits, 1, self.is_bridge, self.bench.has_two, self.has_memory)
+        script = traffic.drawn(4, 2, "small") if self.design.client is not None else []
+        settings = {**traffic.settings(0x3FF), **self.forced, "most": 100}
+        try:
+            simulation.run(script, settings, self.room / "settle", seconds=2 * _SECONDS, processor=_LOOP_SECONDS)
+        except OverTime:
+            return
+        except Endless:
+            raise DesignError(
+                f"the design has a combinational loop: {simulation.simulator} did not end 100 cycles within"
+                f" {_LOOP_SECONDS} processor seconds",
+                3,
+            ) from None
 
-    @property
-    def first_rounds(self) -> int:
-        """How many rounds Icarus plays."""
-        return _FIRST_ROUNDS if self.design.client is not None else _HOST_ROUNDS
+    def explore(self, first: str, say: "Voice") -> None:
+        """Finds out at which addresses a device answers, and whether it computes atomics, unless the user says so."""
+        options, before = self.options, self.limits
+        if not self.rules.is_memory or self.design.is_bridge:
+            return
+        finds_kinds = options.level is None and options.only is None and self.design.has("A", "param")
+        room = self.room / "explore"
+        limits = explored(self.design, self.simulation(first), before, room, options.window is None, finds_kinds)
+        self.limits = limits
+        self._limit_window()
+        if limits.window != before.window and limits.window:
+            held = f", of which it holds {limits.held} bytes" if limits.held else ""
+            say(f"  it answers at {limits.window[0]:#x} to {sum(limits.window) - 1:#x}{held} (--window)")
+        if limits.kinds != before.kinds:
+            say(f"  it computes atomics: {', '.join(limits.kinds)} (--level, --only)")
 
-    def needs_verilator(self) -> bool:
-        """Whether there are rounds after those of Icarus."""
-        return bool(self.options.messages > _FIRST_ROUNDS * _SHORT) or self.design.client is None
+    def explore_sizes(self, simulation: Simulation, say: "Voice") -> None:
+        """Finds out which messages above 64 bytes a design holds, once, unless that is known."""
+        if self.most_bytes <= self.limits.largest or self.design.client is None:
+            return
+        most, self.most_bytes = self.most_bytes, 0
+        traffic = Traffic(self.design, self.limits, 1, self.is_bridge, self.bench.has_two, self.has_memory)
+        held = held_largest(traffic, simulation, self.judge, self.forced, self.room / "sizes", most)
+        self.limits = replace(self.limits, largest=held)
+        more = f"; it fails with those of {2 * held} bytes, so add --largest {2 * held} if it has to hold them"
+        say(f"  messages of up to {held} bytes are played{more if held < most else ''}")
+
+    def long_simulator(self, first: str) -> str:
+        """The simulator of the rounds after the first ones."""
+        self.is_mixed = first == "icarus" and self.options.simulator == "auto" and not self.is_short()
+        return "verilator" if self.is_mixed else first
+
+    def is_short(self) -> bool:
+        """Whether the first rounds are all that was asked for."""
+        return self.options.messages is not None and self.options.messages <= _FIRST_ROUNDS * _SHORT
+
+    def later_builds(self, first: str) -> List[str]:
+        """The benches that are needed after the first rounds."""
+        long = self.long_simulator(first)
+        names = [long] if long != first else []
+        return names + ([f"{long} late"] if self.has_late else [])
+
+
+@dataclass(frozen=True)
+class Late:
+    """A netlist of the design in which bits that cross to another clock may each arrive late."""
+
+    design: Design
+    bench: Bench
+    bits: int
 
 
 class Voice:
@@ -481,60 +627,166 @@ class Voice:
             print(f"\r\x1b[K{text}", end="", file=sys.stderr, flush=True)
 
 
+@dataclass(frozen=True)
+class Round:
+    """A script with its settings, and the bench that plays it."""
+
+    name: str
+    script: List[Message]
+    settings: Settings
+    style: str = ""
+    is_patient: bool = False  # it is played again, since it seemed to hang
+
+
+@dataclass(frozen=True)
+class Played:
+    """A round that was played and judged. `run` is None if time was over before it ended."""
+
+    round: Round
+    simulation: Simulation
+    run: Optional[Run]
+    beats: Beats
+    problems: List[Problem]
+
+
 class Play:
-    """One seed of a session."""
+    """One seed of a session.
+
+    Each simulator has its own sequence of rounds, which depends on the seed only. How many rounds of each are played
+    depends on the time that there is, unless the number of messages is given.
+    """
 
     def __init__(self, session: Session, seed: int, say: Voice, room: Path):
         self.session, self.seed, self.say, self.room = session, seed, say, room
-        options = session.options
-        has_two = session.bench.has_two
-        self.traffic = Traffic(session.design, session.limits, seed, session.is_bridge, has_two, session.has_memory)
         self.coverage = Coverage(session.design, session.is_bridge)
+        options = session.options
         self.start = session.start if options.seeds is None else time.monotonic()
+        self.sent = 0
+        self.most = options.messages or _DEFAULT_MESSAGES
+        is_endless = options.seconds is None and (options.messages is not None or options.seeds is not None)
+        seconds = options.seconds or _SECONDS
+        self.until = math.inf if is_endless else self.start + seconds
+        self.latest = self.until + _MORE_SECONDS * seconds / _SECONDS
+        self.styles: Set[str] = set()  # that were played
+        self.finished = 0  # messages of the scripts that were played
+        self.begun = time.monotonic()  # of the rounds
 
-    def rounds(self, first: str) -> Iterator[Tuple[Simulation, List[Message], Settings]]:
-        session, options = self.session, self.session.options
-        sent = number = 0
-        while sent < options.messages:
-            name = session.simulator_of(number, first)
-            simulation = (
-                session.simulation(name) if name != first or name not in session.compiled else session.compiled[name]
-            )
-            length = _SHORT if number < _FIRST_ROUNDS else _LONG
+    def traffic(self, sequence: int) -> Traffic:
+        """The maker of the rounds of one sequence."""
+        session = self.session
+        has_two = session.bench.has_two
+        seed = self.seed + (sequence << 32)
+        return Traffic(session.design, session.limits, seed, session.is_bridge, has_two, session.has_memory)
+
+    @property
+    def is_over(self) -> bool:
+        """Whether enough was played: a slow machine gets more time for styles that were not played."""
+        now = time.monotonic()
+        return self.sent >= self.most or now > (self.latest if self.not_played() else self.until)
+
+    def not_played(self) -> List[str]:
+        """The styles that were not played."""
+        styles = STYLES if self.session.design.client is not None else HOST_STYLES
+        return [style for style in dict.fromkeys(styles) if style not in self.styles]
+
+    def fitting(self, script: List[Message]) -> List[Message]:
+        """Returns the beginning of a script, so that each style can be played once in time."""
+        now = time.monotonic()
+        if self.until == math.inf or not self.finished:
+            return script
+        rests = max(0.0, self.start + _STYLES_SECONDS - now) / (len(self.not_played()) + 1)
+        return script[: max(_LEAST_MESSAGES, int(self.finished * rests / max(0.1, now - self.begun)))]
+
+    def rounds(self, first: str) -> Iterator[Optional[Round]]:
+        """Yields the rounds, and None if those before have to be judged first."""
+        session = self.session
+        long = session.long_simulator(first)
+        is_short = first == "icarus"
+        for number, found in enumerate(self.sequence(first, 0, _SHORT, self.most) if is_short else ()):
+            yield found
+            if number == 0 and session.options.seeds is None:
+                session.build_in_background(session.later_builds(first))
+            if (long != first or session.has_late) and self.is_enough(number + 1, long):
+                break
+        if session.options.seeds is None:
+            session.build_in_background(session.later_builds(first))
+        if not self.is_over:
+            yield from self.mixed(long)
+        yield None
+        yield from self.aimed(long if long in session.compiled else first)
+
+    def is_enough(self, played: int, long: str) -> bool:
+        """Whether the first simulator has played enough rounds."""
+        session = self.session
+        most = _FIRST_ROUNDS if session.design.client is not None else _HOST_ROUNDS
+        if self.until == math.inf:
+            return played >= most
+        return played >= _LEAST_ROUNDS and not session.is_building(long) and long in session.compiled
+
+    def mixed(self, long: str) -> Iterator[Round]:
+        """The rounds of the second simulator, and among them those with late bits."""
+        session = self.session
+        session.explore_sizes(session.simulation(long), self.say)
+        netlist, share = f"{long} late", self.most * _LATE_SHARE if session.has_late else 0
+        plain, late = self.sequence(long, 1, _MIDDLE, self.most - share), self.sequence(netlist, 2, _MIDDLE, self.most)
+        while not self.is_over:
+            found: Optional[Round] = None
+            for found in itertools.islice(plain, 2):
+                yield found
+            if session.has_late:
+                while (found is None or self.until == math.inf) and session.is_building(netlist) and not self.is_over:
+                    time.sleep(0.05)
+                if session.is_building(netlist):
+                    continue
+                if session.build(netlist):
+                    yield from itertools.islice(late, 1)
+                elif session.options.skew:
+                    raise session.failed[netlist]
+                else:
+                    session.has_late = False
+            elif found is None:
+                return
+
+    def sequence(self, name: str, number: int, length: int, most: float) -> Iterator[Round]:
+        """The rounds of one bench, until `most` messages were sent in all. `number` tells the sequences apart."""
+        session, options, traffic = self.session, self.session.options, self.traffic(number)
+        begin = 2 if number == 2 else _LEAST_ROUNDS if number and "icarus" in session.compiled else 0
+        for at in itertools.count(begin):
+            if self.is_over or self.sent >= most:
+                return
+            length = _LONG if number and at >= begin + _FIRST_ROUNDS else length
             if session.design.client is None:
-                script, settings = self.host_round(number)
-                sent += options.messages // 14 + 1
+                style = HOST_STYLES[at % len(HOST_STYLES)]
+                script, settings = self.host_round(traffic, style, number > 0)
+                self.sent += self.most // 24 + 1
             else:
-                script, settings = self.traffic.round(number, min(length, options.messages - sent))
-                script = script[: options.messages - sent]
-                sent += len(script)
-            if options.same_cycle and number % 2:
+                style = style_of(at)
+                if style == "large" and self.until != math.inf:
+                    session.explore_sizes(session.simulation(name), self.say)
+                    traffic.limits = session.limits
+                script, settings = traffic.round(at, min(length, self.most - self.sent))
+                script = (script if number or at < 2 else self.fitting(script))[: self.most - self.sent]
+                self.sent += len(script)
+            if options.same_cycle and at % 2:
                 settings["same_cycle"] = 1
-            if options.withdraw and number % 3 == 1:
+            if options.withdraw and at % 3 == 1:
                 settings["withdraw"] = 1
-            yield simulation, script, {**settings, **session.forced}
-            number += 1
-            if number == 3 and session.simulator_of(session.first_rounds, first) != first and session.needs_verilator():
-                session.build_in_background("verilator")
-            self.say.progress(
-                f"round {number}, {sent} of {options.messages} messages, {self.coverage.counts['beats']} beats"
-            )
-        yield from self.aimed(simulation)
+            if number == 2:
+                settings["skew"] = 1
+            yield Round(name, script, {**settings, **session.forced}, style)
 
-    def host_round(self, number: int) -> Tuple[List[Message], Settings]:
+    def host_round(self, traffic: Traffic, style: str, is_long: bool) -> Tuple[List[Message], Settings]:
         size = self.session.limits.largest.bit_length() - 1
         has_probes = "B" in self.session.design.channels
-        script = [self.traffic.message("probe", min(size, 6), 0) for _ in range(60)] if has_probes else []
-        _, settings = self.traffic.styled(
-            ("any", "full", "reset", "blocking", "all sources", "long stalls")[number % 6], 1
-        )
-        return script, {**settings, "most": _HOST_CYCLES * (1 if number < _HOST_ROUNDS else 6)}
+        script = [traffic.message("probe", min(size, 6), 0) for _ in range(60)] if has_probes else []
+        _, settings = traffic.styled(style, 1)
+        return script, {**settings, "most": _HOST_CYCLES * (6 if is_long else 1)}
 
-    def aimed(self, simulation: Simulation) -> Iterator[Tuple[Simulation, List[Message], Settings]]:
+    def aimed(self, name: str) -> Iterator[Round]:
         """A round for what no other round has sent."""
         holes = self.coverage.holes(self.session.limits)[:2000]
-        if holes and self.session.options.messages >= 2000 and self.session.design.client is not None:
-            traffic = self.traffic
+        if holes and self.most >= 2000 and self.session.design.client is not None:
+            traffic = self.traffic(3)
             sources = range(traffic.sources)
             script = [
                 traffic.message(
@@ -545,26 +797,92 @@ class Play:
                 )
                 for kind, size, offset in holes
             ]
-            yield simulation, script, {**traffic.settings(0x3FF), **self.session.forced}
+            yield Round(name, script, {**traffic.settings(0x3FF), **self.session.forced})
+
+    def played(self, first: str) -> Generator[Played, None, None]:
+        """Plays the rounds, two at a time, and yields them in their order."""
+        workers = 2 if self.session.options.seeds is None else 1
+        cancel = Cancel()
+        waiting: Deque["concurrent.futures.Future[Played]"] = collections.deque()
+        with concurrent.futures.ThreadPoolExecutor(workers) as pool:
+            try:
+                for number, found in enumerate(self.rounds(first)):
+                    if found is not None:
+                        folder = self.room / f"run-{number % (workers + 1)}"
+                        simulation = self.session.simulation(found.name)
+                        waiting.append(pool.submit(self.judged, found, simulation, folder, cancel))
+                    while len(waiting) > (workers - 1 if found else 0):
+                        yield waiting.popleft().result()
+                while waiting:
+                    yield waiting.popleft().result()
+            finally:
+                cancel.set()
+
+    def judged(self, found: Round, simulation: Simulation, folder: Path, cancel: Optional[Cancel] = None) -> Played:
+        session = self.session
+        limit = max(5.0, self.latest - time.monotonic() + 3)
+        try:
+            run = simulation.run(found.script, found.settings, folder, seconds=limit, cancel=cancel)
+        except OverTime:
+            if self.coverage.counts["runs"]:
+                return Played(found, simulation, None, Beats.none(session.design), [])
+            raise
+        beats = Beats(session.design, run)
+        problems = session.judge.problems(run, beats)
+        if problems and problems[0].kind == "hang" and not found.is_patient:
+            idle = _PATIENCE * found.settings.get("idle", IDLE_CYCLES)
+            patient = replace(found, settings={**found.settings, "idle": idle}, is_patient=True)
+            again = self.judged(patient, simulation, folder, cancel)
+            return again if again.run is not None else Played(found, simulation, run, beats, problems)
+        return Played(found, simulation, run, beats, problems)
 
     def outcome(self, first: str, out: Path) -> Outcome:
         """Plays all rounds. Writes what is found into `out`."""
         session = self.session
-        simulation = None
+        last = session.simulation(first)
         is_first = True
-        for simulation, script, settings in self.rounds(first):
-            run = simulation.run(script, settings, self.room / "run")
-            beats = Beats(session.design, run)
-            problems = session.judge.problems(run, beats)
+        rounds = self.played(first)
+        for done in rounds:
+            if done.run is None:
+                break
+            last = done.simulation
+            problems = done.problems
+            self.styles.add(done.round.style)
+            self.finished += len(done.round.script)
             if is_first:
                 is_first = False
                 found = problems[0].kind if problems else "no mistake"
-                self.say(f"  first verdict after {time.monotonic() - self.start:.1f} s: {found} in {len(beats)} beats")
-            self.coverage.add(beats, run, settings, session.bench.has_two)
+                seconds = time.monotonic() - self.start
+                self.say(f"  first verdict after {seconds:.1f} s: {found} in {len(done.beats)} beats")
+            self.coverage.add(done.beats, done.run, done.round.settings, session.bench.has_two)
+            self.say.progress(
+                f"{self.coverage.counts['runs']} rounds, {self.sent} messages, {self.coverage.counts['beats']} beats,"
+                f" {time.monotonic() - self.start:.0f} s"
+            )
+            if problems and done.round.settings.get("skew"):
+                checked = self.without_skew(done)
+                if checked is None:
+                    continue
+                done, problems = checked, checked.problems
             if problems:
-                return self.failed(simulation, script, settings, problems[0], out)
-        assert simulation
-        return self.passed(simulation, out)
+                rounds.close()
+                return self.failed(done, problems[0], out)
+        rounds.close()
+        return self.passed(last, out)
+
+    def without_skew(self, done: Played) -> Optional[Played]:
+        """A mistake that was seen with late bits: returns the same round without them if it fails, too. Returns None if
+        yosys made a netlist that differs from the design, which nobody may be blamed for."""
+        session = self.session
+        still = Round(done.round.name, done.round.script, {**done.round.settings, "skew": 0})
+        if not self.judged(still, done.simulation, self.room / "still").problems:
+            return done
+        name = done.round.name.partition(" ")[0]
+        same = self.judged(still, session.simulation(name), self.room / "still")
+        if same.problems:
+            return same
+        session.has_late = False
+        return None
 
     def base(self, verdict: str, words: str = "") -> Outcome:
         counts = self.coverage.counts
@@ -599,12 +917,39 @@ class Play:
             outcome.text.append("  More --messages may bring them; --only leaves out what the design need not pass.")
         else:
             outcome.text.append(f"NO MISTAKE in {size}")
+            outcome.notes = self.not_held(simulation)
+            outcome.text += [f"  It does not hold {note}" for note in outcome.notes]
+        if self.not_played():
+            outcome.text.append(f"  No time was left for these styles: {', '.join(self.not_played())} (--seconds)")
+        if session.background is not None and session.is_mixed and "verilator" not in session.compiled:
+            outcome.text.append(f"  Verilator played nothing: {session.failed.get('verilator', 'it still compiles')}")
+        if session.most_bytes > session.limits.largest and session.design.client is not None:
+            outcome.text.append(f"  No message above {session.limits.largest} bytes was tried (--largest)")
+        late = next((error for name, error in session.failed.items() if name.endswith(" late")), None)
+        if late:
+            outcome.text.append(f"  No bit arrived late at another clock: {late}")
         outcome.text += coverage.table(session.limits)
         if session.is_bridge:
-            outcome.text += speed_of(self.traffic, simulation, session.judge, session.limits, self.room / "speed")
+            outcome.text += speed_of(self.traffic(4), simulation, session.judge, session.limits, self.room / "speed")
         outcome.seconds = round(time.monotonic() - self.start, 2)
         self.store(outcome, out)
         return outcome
+
+    def not_held(self, simulation: Simulation) -> List[str]:
+        """Returns what a right design does not hold of that which many right designs do not hold. It changes no
+        verdict."""
+        session = self.session
+        if session.options.same_cycle or session.design.manager is None or self.until == math.inf:
+            return []
+        traffic = self.traffic(5)
+        for _ in range(2):
+            script, settings = traffic.styled("same cycle", _SHORT)
+            found = Round("", script, {**settings, **session.forced, "same_cycle": 1})
+            done = self.judged(found, simulation, self.room / "same-cycle")
+            if done.problems:
+                words = done.problems[0].words
+                return [f"responses in the cycle of their request, which --same-cycle calls a mistake: {words}"]
+        return []
 
     def store(self, outcome: Outcome, out: Path) -> None:
         out.mkdir(parents=True, exist_ok=True)
@@ -615,17 +960,23 @@ class Play:
         except OSError as error:
             raise SimulatorError(f"{out} cannot be written: {error.strerror}") from error
 
-    def failed(
-        self, simulation: Simulation, script: List[Message], settings: Settings, problem: Problem, out: Path
-    ) -> Outcome:
-        session = self.session
-        session.cancel_background()
+    def failed(self, done: Played, problem: Problem, out: Path) -> Outcome:
+        session, simulation, run = self.session, done.simulation, done.run
+        script, settings = done.round.script, done.round.settings
+        assert run
         found = self.base(MISTAKE, problem.words)
         self.say(f"  found after {found.seconds:.1f} s, {found.beats} beats: {problem.words}", "  shrinking ..")
-        shrinker = Shrinker(simulation, session.judge, self.room / "shrink", session.options.shrink_seconds, problem)
+        most = session.options.shrink_seconds
+        if self.until != math.inf and session.options.seconds is None:
+            most = min(most, max(5.0, self.start + _ALL_SECONDS - time.monotonic()))
+        shrinker = Shrinker(simulation, session.judge, self.room / "shrink", most, problem)
+        if simulation.simulator == "icarus" and session.options.simulator == "auto":
+            shrinker.faster = lambda: session.compiled.get("verilator")
         before = len(script)
-        script, settings = shrinker.shrink(script, settings, self.room / "run")
-        waver = self.with_waves(simulation)
+        script, settings = shrinker.shrink(script, settings, run.folder)
+        simulation = shrinker.simulation
+        session.cancel_background()
+        waver = self.with_waves(simulation, settings)
         out.mkdir(parents=True, exist_ok=True)
         run = waver.run(script, settings, out, waves=not session.options.no_waves)
         beats = Beats(session.design, run)
@@ -659,26 +1010,21 @@ class Play:
         self.store(outcome, out)
         return outcome
 
-    def with_waves(self, simulation: Simulation) -> Simulation:
+    def with_waves(self, simulation: Simulation, settings: Settings) -> Simulation:
         """The simulation that writes waves: Icarus if it can compile the bench, or Verilator compiled again."""
         session = self.session
         if session.options.no_waves or simulation.simulator == "icarus":
             return simulation
-        made = session.build("icarus") if shutil.which("iverilog") else None
+        is_late = bool(settings.get("skew"))
+        made = session.build("icarus late" if is_late else "icarus") if shutil.which("iverilog") else None
         if made is not None:
             return made
+        if time.monotonic() - self.start + session.build_seconds > _ALL_SECONDS - 10:
+            self.say("  no waves.vcd, since Verilator would have to compile again: repeat.sh writes it")
+            return simulation
         self.say("  compiling again for waves.vcd ..")
         try:
-            plusargs = session.options.plusarg
-            return Simulation(
-                session.played,
-                "verilator",
-                session.room / "waves",
-                session.bench,
-                session.extra,
-                plusargs,
-                has_waves=True,
-            )
+            return simulation.with_waves(session.room / "waves")
         except DesignError:
             return simulation
 
@@ -708,7 +1054,7 @@ class Play:
                 "    Nothing ever came out. Is the polarity of the reset right? (--client-reset !NAME is active low)"
             )
         needs = "; ".join(needs_of(settings, design, has_two))
-        if shrinker.ended_early:
+        if shrinker.is_cut:
             lines.append(f"It may need: {needs}. Not all was tried: --shrink-seconds.")
         else:
             lines.append(f"It needs: {needs}.")
@@ -725,7 +1071,7 @@ class Play:
             lines.append(f"    {beat.time / 1000:>9.1f} ns  {beat.side:7} {beat.line}   {name_of(beat.line)}{mark}")
         if len(beats) > last + 8:
             lines.append(f"    .. {len(beats) - last - 8} beats after")
-        options = options_of(settings, script, design, has_two, problem.kind)
+        options = [] if shrinker.is_cut else options_of(settings, script, design, has_two, problem.kind)
         if options:
             lines.append(f"If the design need not hold this: {', or '.join(options)}.")
         others = [other for other in problems[1:] if other.words != problem.words][:2]
@@ -755,8 +1101,10 @@ def _play(seed: int, first: str, out: str) -> Outcome:
 def _run_seeds(session: Session, seeds: Sequence[int], first: str) -> List[Outcome]:
     global _session
     out: Path = session.options.out
-    if session.needs_verilator() and session.simulator_of(session.first_rounds, first) == "verilator":
-        session.simulation("verilator")
+    for name in session.later_builds(first):
+        session.build(name)
+    if not session.is_short():
+        session.explore_sizes(session.simulation(session.long_simulator(first)), Voice())
     _session = session
     outcomes = []
     context = multiprocessing.get_context("fork")
@@ -864,6 +1212,7 @@ def _verify(options: argparse.Namespace, room: Path) -> int:
         say = Voice()
         say(*session.describe())
         first = session.first_simulator(say)
+        session.explore(first, say)
         try:
             if folder is None:
                 outcomes = _run_seeds(session, seeds, first)

@@ -308,6 +308,13 @@ def _layout(text: str) -> Leaves:
     return leaves[::-1]
 
 
+def _no_module(source: Source) -> DesignError:
+    known = ", ".join(dict.fromkeys(modules_of(source.files)[0])) or "none"
+    return DesignError(
+        f"the files have no module {source.top}: --top names the module to verify. Modules found: {known}"
+    )
+
+
 def _verilator(source: Source, out: Path) -> tree.Element:
     if not shutil.which("verilator"):
         raise DesignError(
@@ -336,7 +343,7 @@ def _verilator(source: Source, out: Path) -> tree.Element:
                 " that it has"
             )
         if "top-module" in said and "was not found" in said:
-            raise DesignError(f"the files have no module {source.top}: --top names the module to verify")
+            raise _no_module(source)
         raise DesignError(f"the design does not compile: {said}", 3)
     return tree.parse(out).getroot()
 
@@ -352,7 +359,7 @@ def read_ports(source: Source, structs: Sequence[str] = ()) -> Tuple[Dict[str, P
     types = {node.get("id", ""): node for node in root.iter() if node.get("id") and node.tag.endswith("dtype")}
     module = next((node for node in root.iter("module") if node.get("topModule") == "1"), None)
     if module is None:
-        raise DesignError(f"the files have no module {source.top}: --top names the module to verify")
+        raise _no_module(source)
     layouts = {sum(bits for _, bits in leaves): leaves for leaves in map(_layout, structs)}
     ports: Dict[str, Port] = {}
     signals: List[Tuple[str, Signal]] = []
@@ -400,12 +407,34 @@ def find_links(signals: Sequence[Tuple[str, Signal]]) -> Dict[str, Link]:
     return {stem: link for stem, link in links.items() if {"A", "D"} <= set(link.channels)}
 
 
+def _side_of(name: str, is_clock: bool) -> List[str]:
+    """The b at the end of a clock's name, which tells it from others. At the end of a reset's name it says active
+    low."""
+    return ["b"] if is_clock and re.search(r"_b$", name, re.IGNORECASE) else []
+
+
 def _words_of(name: str) -> List[str]:
     words = [
         re.sub(r"(?:a|(?<=[a-z]))?(?:clk|clock|rst|reset)n?$", "", word)
         for word in re.split(r"_|(?<=[a-z])(?=[A-Z])", name)
     ]
     return [word.lower() for word in words if word.lower() not in ("", "i", "ni", "n", "b", "io", "clock", "reset")]
+
+
+def modules_of(files: Sequence[str]) -> Tuple[List[str], List[str]]:
+    """Returns the names of the modules that are defined in these files, and of those that no other one has inside."""
+    text = ""
+    for name in files:
+        try:
+            text += Path(name).read_text(errors="replace") + "\n"
+        except OSError:
+            continue
+    text = re.sub(r"//[^\n]*|/\*.*?\*/", " ", text, flags=re.DOTALL)
+    head = r"\bmodule\s+(?:automatic\s+|static\s+)?"
+    made = re.findall(head + r"(\w+)", text)
+    bodies = re.sub(head + r"\w+", " ", text)
+    inside = {name for name in made if re.search(rf"\b{name}\s*(?:#\s*\(|\w+\s*(?:\[[^\]]*\]\s*)?\()", bodies)}
+    return made, [name for name in made if name not in inside]
 
 
 def _find_tick(link: Link, ports: Mapping[str, Port], is_clock: bool, side: str) -> str:
@@ -419,7 +448,7 @@ def _find_tick(link: Link, ports: Mapping[str, Port], is_clock: bool, side: str)
     ]
     stem = _words_of(link.stem)
     for head in [words for words in (stem, stem[1:], stem[:1], stem[-1:]) if words] + [[]]:
-        own = [name for name in here if _words_of(name) == head]
+        own = [name for name in here if _words_of(name) + _side_of(name, is_clock) == head]
         if len(own) == 1:
             return own[0]
     if len(here) > 1:

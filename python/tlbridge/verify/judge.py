@@ -6,6 +6,7 @@ read beat by beat.
 from __future__ import annotations
 
 import operator
+import os
 import subprocess
 from dataclasses import dataclass
 from importlib.machinery import SourceFileLoader
@@ -99,11 +100,16 @@ class Beats:
             first = next((at for at, time in enumerate(times) if time > run.reset_time), len(times))
             self.lines[side], self.times[side] = (lines[first:], times[first:]) if first else (lines, times)
 
+    @classmethod
+    def none(cls, design: Design) -> "Beats":
+        """No beats."""
+        return cls(design, Run(Path(os.devnull), ""))
+
     @staticmethod
     def _read(path: Path) -> Tuple[List[str], List[int]]:
         try:
             return path.read_text().splitlines(), list(map(int, Path(f"{path}.times").read_text().split()))
-        except FileNotFoundError:
+        except (FileNotFoundError, NotADirectoryError):
             return [], []
         except (OSError, ValueError) as error:
             raise SimulatorError(f"the simulator left no beats that can be read: {error}") from error
@@ -312,8 +318,12 @@ class Judge:
             from .memory import memory_problems
 
             found += memory_problems(self.design, beats)
+            if self.design.is_bridge:
+                from .corrupt import corrupt_problems
+
+                found += corrupt_problems(self.design, beats)
         if run.hang:
-            found.append(Problem("hang", "", f"hang: {run.hang.rstrip(',')}", run.time))
+            found.append(Problem("hang", "", f"hang: {run.hang.rstrip(',:')}", run.time))
         # a hang comes after all others; of two at one time, the wrong beat says more than the rule that it breaks
         group = {"unsteady": 1, "follow": 2, "lost": 2, "hang": 3}
         rank = {"wrong": 0, "unknown": 0, "invented": 1}

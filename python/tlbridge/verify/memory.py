@@ -4,7 +4,7 @@ Each read has an interval, from its request to its response, and so has each wri
 comes from a write that began before the read ended, and that no other write replaced for certain: none that began after
 that write had ended, and ended before the read began. Writes that overlap may come in any order. A byte of a write that
 was denied may have been written or not. A byte that was corrupt, or that an atomic is about to write, may have any
-value.
+value. A device returns corrupt data only if a byte of the beat was not replaced by a good one for certain.
 """
 from __future__ import annotations
 
@@ -40,25 +40,26 @@ class _Request:
     operand: Dict[int, str] = field(default_factory=dict)
     beats: int = 0  # that came
     is_corrupt: bool = False
+    is_done: Optional[bool] = None  # its response has ended, and was not denied
 
 
-def _computed(request: _Request, old: int, operand: int) -> int:
-    bits = 8 << request.size
-    if request.opcode == _LOGICAL:
-        return (old ^ operand, old | operand, old & operand, operand)[request.param & 3]
-
-    if request.param == 4:
+def computed(opcode: int, param: int, size: int, old: int, operand: int) -> int:
+    """Returns what an atomic leaves in 2^size bytes."""
+    bits = 8 << size
+    if opcode == _LOGICAL:
+        return (old ^ operand, old | operand, old & operand, operand)[param & 3]
+    if param == 4:
         return (old + operand) % (1 << bits)
-    top = 1 << (bits - 1) if request.param < 2 else 0  # MIN and MAX have a sign
+    top = 1 << (bits - 1) if param < 2 else 0  # MIN and MAX have a sign
     is_less = (old ^ top) < (operand ^ top)
-    return old if is_less == (request.param & 1 == 0) else operand
+    return old if is_less == (param & 1 == 0) else operand
 
 
 class _Memory:
     """The values that each byte may have."""
 
-    def __init__(self, width: int):
-        self.width = width
+    def __init__(self, width: int, is_device: bool):
+        self.width, self.is_device = width, is_device
         self.bytes: Dict[int, List[_Write]] = {}
 
     def write(self, address: int, value: Optional[int], begin: int) -> _Write:
@@ -93,7 +94,7 @@ def memory_problems(design: Design, beats: Beats) -> List[Problem]:
     """Returns the first wrong byte that a response returns on the link to the client."""
     width = design.links["client"].width
     lines, times = beats.lines["client"], beats.times["client"]
-    memory = _Memory(width)
+    memory = _Memory(width, design.manager is None)
     outstanding: Dict[str, _Request] = {}
     incoming: Optional[_Request] = None
     response: Optional[_Request] = None
@@ -112,7 +113,7 @@ def memory_problems(design: Design, beats: Beats) -> List[Problem]:
                 outstanding[values["source"]] = incoming
                 _expects(memory, incoming)
             assert incoming
-            _receive(memory, incoming, values, width)
+            _receive(memory, incoming, values, width, at)
             a_left -= 1
             continue
         if d_left == 0:
@@ -137,7 +138,7 @@ def _expects(memory: _Memory, request: _Request) -> None:
             request.writes[address] = memory.write(address, None, request.begin)
 
 
-def _receive(memory: _Memory, request: _Request, values: Dict[str, str], width: int) -> None:
+def _receive(memory: _Memory, request: _Request, values: Dict[str, str], width: int, at: int) -> None:
     """A beat of a request: its bytes are written, or are the operand of an atomic."""
     if request.opcode not in CARRIES_DATA["A"]:
         return
@@ -153,7 +154,9 @@ def _receive(memory: _Memory, request: _Request, values: Dict[str, str], width: 
             if mask >> lane & 1:
                 value = None if is_corrupt or is_unknown(data[lane]) else int(data[lane], 16)
                 # all beats of a burst count as begun with the first one
-                request.writes[address] = memory.write(address, value, request.begin)
+                write = request.writes[address] = memory.write(address, value, request.begin)
+                if request.is_done is not None:  # the response came before the last beat
+                    write.end, write.is_certain = at, request.is_done
         else:
             request.operand[address] = data[lane]
     request.beats += 1
@@ -190,10 +193,16 @@ def _respond(
     """Judges a beat of a response with data."""
     if int(values["opcode"], 16) != 1 or request.opcode not in (_GET, _ARITHMETIC, _LOGICAL):
         return None
-    if values["denied"] != "0" or values["corrupt"] != "0":
+    if values["denied"] != "0":
         return None
     data = lanes_of(values["data"])
     base = request.address // width * width + index * width
+    if values["corrupt"] != "0":
+        held = [memory.possible(base + lane, request.begin, at, None) for lane in range(width)]
+        if not memory.is_device or None in held:
+            return None
+        words = f"client link: {name_of(beat.line)} is corrupt at 0x{base:x}, and good puts wrote all its bytes"
+        return Problem("memory", "D", words, beat.time, beat=beat)
     for lane in range(width):
         address = base + lane
         if not request.address <= address < request.address + (1 << request.size):
@@ -212,6 +221,7 @@ def _respond(
 def _finish(memory: _Memory, request: _Request, values: Dict[str, str], at: int, said: Dict[int, int]) -> None:
     """The response is complete: what its request wrote is there, unless it was denied."""
     is_denied = values["denied"] != "0"
+    request.is_done = not is_denied
     if is_denied and request.opcode in (_ARITHMETIC, _LOGICAL):
         for address, write in request.writes.items():
             memory.bytes[address].remove(write)
@@ -222,7 +232,9 @@ def _finish(memory: _Memory, request: _Request, values: Dict[str, str], at: int,
         if None not in old and not any(map(is_unknown, new)) and values["corrupt"] == "0":
             before = int.from_bytes(bytes(byte for byte in old if byte is not None), "little")
             operand = int.from_bytes(bytes(int(byte, 16) for byte in new), "little")
-            after = _computed(request, before, operand).to_bytes(len(places), "little")
+            after = computed(request.opcode, request.param, request.size, before, operand).to_bytes(
+                len(places), "little"
+            )
             for place, value in zip(places, after):
                 request.writes[place].value = value
     for address, write in request.writes.items():

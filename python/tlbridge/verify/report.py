@@ -42,7 +42,7 @@ class Coverage:
         counts["cycles"] += run.cycles
         counts["runs"] += 1
         counts["resets"] += run.reset_time >= 0
-        for name in ("gather", "blocking", "long_stalls", "same_cycle", "withdraw"):
+        for name in ("gather", "blocking", "long_stalls", "same_cycle", "withdraw", "skew"):
             counts[f"runs with {name.replace('_', ' ')}"] += bool(settings.get(name))
         for (side, channel), number in run.stalls.items():
             counts[f"stalled cycles, {side} {channel}"] += number
@@ -176,7 +176,7 @@ class Coverage:
                 continue
             names = ("Release", "ReleaseData") if kind == "release" else (NAMES["A"][OPCODES[kind]],)
             channel = "C" if kind == "release" else "A"
-            for size in range(min(limits.largest, 64).bit_length()):
+            for size in range(min(limits.largest_of(kind), 64).bit_length()):
                 for offset in range(0, wide, 1 << size) if 1 << size < wide else (0,):
                     if not any(self.messages.get((side, channel, name, size, offset)) for name in names):
                         found.append((kind, size, offset))

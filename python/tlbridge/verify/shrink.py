@@ -8,7 +8,7 @@ import math
 import time
 from dataclasses import replace
 from pathlib import Path
-from typing import Any, Dict, Iterator, List, Optional, Sequence, Tuple
+from typing import Any, Callable, Dict, Iterator, List, Optional, Sequence, Tuple
 
 from .bench import Settings, Simulation
 from .design import Design, DesignError
@@ -28,10 +28,12 @@ CALM = {
     "quiet": 1,
     "blocking": 0,
     "gather": 0,
+    "slow": 0,
     "long_stalls": 0,
     "reset_at": 0,
     "same_cycle": 0,
     "withdraw": 0,
+    "skew": 0,
 }
 _DEFAULTS = {"serial": 0, "in_order": 0, "early": 1, "reuse": 1, "denied": 1, "corrupt": 1, "patient": 1, "quiet": 0}
 _NEEDS = {
@@ -45,10 +47,12 @@ _NEEDS = {
     "quiet": "fields that are not 0 while valid is 0",
     "blocking": "a side that accepts nothing while it has work on a channel of higher priority",
     "gather": "many requests outstanding before the first response",
+    "slow": "responses that come hundreds of cycles after their request",
     "long_stalls": "stalls of hundreds of cycles",
     "reset_at": "a reset while messages are under way",
     "same_cycle": "responses in the cycle of their request",
     "withdraw": "a valid that falls before ready",
+    "skew": "bits that cross to another clock and arrive one edge late",
 }
 # The options of a user whose design need not hold one of these.
 _OPTIONS = {
@@ -58,6 +62,7 @@ _OPTIONS = {
     "denied": "--no-denied",
     "reset_at": "--no-reset",
     "blocking": "--no-blocking",
+    "skew": "--no-skew",
 }
 
 
@@ -77,6 +82,11 @@ class Shrinker:
         self.kin, self.time = kin(problem.kind), problem.time
         self.runs = 0
         self.begin = 0
+        self.faster: Optional[
+            Callable[[], Optional[Simulation]]
+        ] = None  # another simulation of the design, once it is compiled
+        self.best: Tuple[Script, Settings] = ([], {})  # the last run that failed
+        self.is_cut = False  # time was over before all was tried
 
     @property
     def ended_early(self) -> bool:
@@ -87,11 +97,9 @@ class Shrinker:
         starts = sorted(message.at for message in script if message.at) or [0]
         gaps = [after - before for before, after in zip(starts, starts[1:])]
         gap = max(gaps + [starts[0] - settings.get("client_offset", 0)])
-        idle = (
-            settings.get("idle", 2000) // (1 if settings.get("long_stalls") else 3)
-            + gap
-            + 2 * settings.get("gather", 0)
-        )
+        slower = max(1, settings.get("manager_half", 1) // settings.get("client_half", 1))
+        idle = settings.get("idle", 2000) // (1 if settings.get("long_stalls") else 3)
+        idle += gap + 2 * (settings.get("gather", 0) + settings.get("slow", 0)) * slower
         idle = max(idle, settings.get("reset_at", 0) - settings.get("client_offset", 0))
         end = max(settings.get("end", 200) // 3, gap if settings.get("reset_at") else 0)
         settings = {**settings, "end": end, "idle": idle, "stop": int(self.kin != "hang")}
@@ -104,14 +112,26 @@ class Shrinker:
 
     def fails(self, script: Script, settings: Settings, seeds: int = 1) -> Optional[Settings]:
         """Returns the settings with which it fails as it did, perhaps with another seed; or None."""
+        self.hurry()
         first = settings["seed"]
         for seed in range(first, first + (seeds if len(script) <= 12 else 1)):
             if self.ended_early:
                 return None
             found = self.problem_of(script, {**settings, "seed": seed})
             if found and kin(found.kind) == self.kin:
-                return {**settings, "seed": seed}
+                self.best = script, {**settings, "seed": seed}
+                return self.best[1]
         return None
+
+    def hurry(self) -> None:
+        """Goes on with a faster simulation once it is compiled, if the last run that failed also fails there."""
+        faster = self.faster() if self.faster and self.best[0] else None
+        if faster:
+            self.faster = None
+            slower, self.simulation = self.simulation, faster
+            found = self.problem_of(*self.best)
+            if not found or kin(found.kind) != self.kin:
+                self.simulation = slower
 
     def shrink(self, script: Script, settings: Settings, folder: Path) -> Tuple[Script, Settings]:
         """Returns the smallest run that was found. `folder` is that of the run that failed."""
@@ -131,7 +151,8 @@ class Shrinker:
             settings = self.calmer(script, settings)
             script, settings = self.simpler(script, settings)
             script, settings = self.fewer(script, settings)
-            if (script, settings) == before or self.ended_early:
+            self.is_cut = self.ended_early
+            if (script, settings) == before or self.is_cut:
                 return script, settings
 
     def pinned(self, script: Script, folder: Path) -> Script:

@@ -6,18 +6,19 @@ import random
 from dataclasses import dataclass, replace
 from typing import Dict, List, Optional, Sequence, Tuple
 
+from ..protocol import CARRIES_DATA
+from ..traffic import Draws
 from .design import Design, DesignError
 
-# The kinds of messages that a script may have, with the opcode and the number of params on A.
+# The kinds of messages that a script may have, with the opcode on A.
 OPCODES = {"put": 0, "partial": 1, "arithmetic": 2, "logical": 3, "get": 4, "intent": 5, "acquire": 6, "acquireperm": 7}
-_PARAMS = {0: 1, 1: 1, 2: 5, 3: 4, 4: 1, 5: 2, 6: 3, 7: 3}
 KINDS: Dict[str, Tuple[str, ...]] = {
     "UL": ("get", "put", "partial"),
     "UH": ("get", "put", "partial", "arithmetic", "logical", "intent"),
     "C": (*OPCODES, "release", "probe"),
 }
 MOST_MESSAGES = 8000  # of a script
-_PLAIN_LARGEST = 64  # bytes: larger messages come after the others
+PLAIN_LARGEST = 64  # bytes: larger messages come after the others
 _MOST_BYTES = 4096
 
 
@@ -52,6 +53,11 @@ class Limits:
     kinds: Tuple[str, ...]
     largest: int  # bytes
     window: Optional[Tuple[int, int]] = None  # first address and bytes, or None for all addresses
+    held: int = 0  # bytes at the beginning of the window that a device does not deny, or 0 if that is unknown
+    atomic: int = _MOST_BYTES  # bytes of the largest atomic
+
+    def largest_of(self, kind: str) -> int:
+        return min(self.largest, self.atomic) if kind in ("arithmetic", "logical") else self.largest
 
 
 def limits_of(
@@ -114,47 +120,63 @@ class Traffic:
         self.wide = max(link.width for link in links)
         self.narrow = min(link.width for link in links)
         self.address_bits = min(link.bits("address", 64) for link in links)
+        self.draws = Draws(self.random, address_bits=self.address_bits)
         self.sources = 1 << min(link.bits("source", 1) for link in links)
         self.has_corrupt = {channel: design.has(channel, "corrupt") for channel in "ABC"}
         self.kinds = limits.kinds
         self.tag = 0
+        self.share_held = 0.85  # of the addresses are those that a device does not deny
 
     @property
     def largest_size(self) -> int:
-        return min(self.limits.largest, _PLAIN_LARGEST).bit_length() - 1
+        return min(self.limits.largest, PLAIN_LARGEST).bit_length() - 1
 
     def message(self, kind: str, size: int, source: int, address: Optional[int] = None) -> Message:
         """Returns a message of 2^size bytes, with a random address if none is given."""
         draw = self.random
         self.tag = (self.tag + 1) % 256
-        if kind in ("arithmetic", "logical") and self.is_memory:
-            size = min(size, self.narrow.bit_length() - 1, 3)
+        size = min(size, self.limits.largest_of(kind).bit_length() - 1)
         if address is None:
-            address = draw.choice([draw.getrandbits(64), draw.getrandbits(8), (1 << 64) - 1 - draw.getrandbits(6)])
+            address = self.draws.address(size)
+            if self.limits.window:
+                address = self.offset()
         address = address % (1 << self.address_bits) >> size << size
         if self.limits.window:
             base, span = self.limits.window
             address = base + (address % span >> size << size)
         if kind == "release":
             channel, opcode, param = "C", 6 + draw.randrange(2), 1
-            param = draw.choice((1, 0)) if opcode == 7 else draw.choice((2, 1, 5))
+            param = draw.choice((0, 1, 3)) if opcode == 7 else draw.randrange(6)
         elif kind == "probe":
-            channel, opcode, param = "B", 6 + draw.randrange(2), draw.randrange(3)
+            channel, opcode = "B", 6 + draw.randrange(2)
+            param = self.draws.param(channel, opcode)
         else:
             channel, opcode = "A", OPCODES[kind]
-            param = draw.randrange(_PARAMS[opcode])
-        carries = bool(opcode & 1) if channel == "C" else opcode < 4
+            param = self.draws.param(channel, opcode)
+        carries = opcode in CARRIES_DATA[channel]
         masked = kind == "partial" and draw.random() < 0.8
         spoilt = carries and self.has_corrupt[channel] and draw.random() < 0.15
         seeds = [draw.getrandbits(16) | 1 if wanted else 0 for wanted in (masked, spoilt)]
         return Message(channel, opcode, param, size, source, address, self.tag, *seeds)
+
+    def offset(self) -> int:
+        """An offset in the window: mostly near its beginning, so that reads meet writes, or one bit away from there."""
+        draw = self.random
+        assert self.limits.window
+        span = self.limits.window[1]
+        if self.limits.held and draw.random() < self.share_held:
+            span = self.limits.held
+        offset = draw.getrandbits(draw.choice((5, 8, 8))) % span
+        if span > 256 and draw.random() < 0.35:
+            offset ^= 1 << draw.randrange(8, (span - 1).bit_length())
+        return offset
 
     def directed(self) -> List[Message]:
         """Each kind with each size at each lane offset of the wider link."""
         script: List[Message] = []
         draw = self.random
         for kind in self.kinds:
-            for size in range(self.largest_size + 1):
+            for size in range(min(self.largest_size + 1, self.limits.largest_of(kind).bit_length())):
                 step = 1 << size
                 offsets: Sequence[int] = range(0, max(self.wide, step), step)
                 if len(self.kinds) * self.wide >= 1500:
@@ -199,7 +221,7 @@ class Traffic:
         settings = dict(
             seed=draw.getrandbits(30),
             in_order=int(draw.random() < 0.3),
-            early=int(draw.random() < 0.4 and not self.is_memory),
+            early=int(draw.random() < 0.4),
             reuse=int(draw.random() < 0.6),
             denied=int(draw.random() < 0.8),
             corrupt=int(draw.random() < 0.8),
@@ -231,13 +253,13 @@ class Traffic:
         styles."""
         if number < 2:
             return self.directed()[:MOST_MESSAGES], self.settings(0x3FF if number == 0 else 0)
-        name = STYLES[(number - 2) % len(STYLES)]
-        script, settings = self.styled(name, length)
+        script, settings = self.styled(style_of(number), length)
         return script[:MOST_MESSAGES], settings
 
     def styled(self, name: str, length: int) -> Tuple[List[Message], Dict[str, int]]:
         """A round of one style."""
         all_sources = self.sources
+        self.share_held = self.random.choice((0.95, 0.85, 0.85, 0.3))
         settings = self.settings()
         scale = settings.get("idle", 2000) // 2000
         if name == "any":
@@ -246,21 +268,28 @@ class Traffic:
         if name == "again":  # a source is used again while its response is under way
             settings.update(reuse=1, calm=self.random.choice((0x3FF, 0x55, 0x2AA, 0)))
             return (self.drawn(length, self.random.choice((1, 1, 2)), "mixed", 0.8), settings)
-        if name == "full":  # no stalls at all
+        if name == "full":  # no stalls at all, and long, so that counters run over
             settings.update(calm=0x3FF, in_order=self.random.randrange(2))
-            return self.drawn(length, all_sources, "width", 0), settings
+            return self.drawn(3 * length, all_sources, "width", 0), settings
         if name == "all sources":  # as many outstanding as there are sources
-            settings.update(gather=self.random.choice((40, 40, 300)) * scale, calm=0x3FF & ~0x2A0, in_order=0)
-            settings["idle"] = settings.get("idle", 2000) + 2 * settings["gather"]
+            # in cycles of the manager, while `idle` is in those of the client
+            slower = settings.get("client_half", 1) // settings.get("manager_half", 1)
+            settings.update(gather=self.random.choice((40, 40, 300)) * max(1, slower), calm=0x3FF & ~0x2A0, in_order=0)
+            settings["idle"] = settings.get("idle", 2000) + 2 * settings["gather"] * scale
             script = [message for _ in range(1 + length // all_sources) for message in self.each_source()]
             return script[: max(length, min(all_sources, 2 * length))], settings
+        if name == "slow":  # a response comes long after its request, while another request waits
+            slower = settings.get("client_half", 1) // settings.get("manager_half", 1)
+            settings.update(slow=self.random.choice((140, 300, 600)) * max(1, slower), in_order=0)
+            settings["idle"] = settings.get("idle", 2000) + 2 * settings["slow"] * scale
+            return self.drawn(max(16, length // 10), self.random.choice((2, 3, all_sources)), "small"), settings
         if name == "blocking":  # ready waits for channels of higher priority
             settings.update(blocking=1, calm=self.random.choice((0x3FF, 0x3FF, 0)))
             return self.drawn(length, all_sources), settings
         if name == "long stalls":
             settings.update(long_stalls=1, idle=3 * settings.get("idle", 2000))
             return self.drawn(length, all_sources), settings
-        if name == "large" and self.limits.largest > _PLAIN_LARGEST:
+        if name == "large" and self.limits.largest > PLAIN_LARGEST:
             count = max(10, min(length, 60 * length // self.limits.largest))
             return self.drawn(count, all_sources, "large"), settings
         if name == "reset" and all(link.reset for link in self.design.links.values()):
@@ -276,4 +305,14 @@ class Traffic:
         return [self.message(self.random.choice(self.kinds), self.size("small"), source) for source in sources]
 
 
-STYLES = ("all sources", "any", "again", "blocking", "reset", "any", "full", "long stalls", "reset", "large", "any")
+# Each style once before any is repeated.
+STYLES = (
+    *("all sources", "any", "again", "blocking", "reset", "slow", "long stalls", "full", "large"),
+    *("any", "reset", "any"),
+)
+HOST_STYLES = ("any", "full", "reset", "blocking", "all sources", "long stalls", "slow")
+
+
+def style_of(number: int) -> str:
+    """The style of a round of a client, or `directed`."""
+    return "directed" if number < 2 else STYLES[(number - 2) % len(STYLES)]
