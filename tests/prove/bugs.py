@@ -36,4 +36,45 @@ NARROW = (
     Bug(14, "a request loses the high bit of its source", ("a.Head", "d.SourceA"), 4),
     Bug(15, "the second half of a corrupt beat is not corrupt", ("a.Corrupt",), 5),
     Bug(16, "lanes without a byte are not 0", ("a.Zeros",), 3, ("--zero-lanes",)),
+    Bug(17, "PutPartialData is sent with all its lanes in the mask", ("a.Mask",), 4),
+    Bug(18, "a beat leaves only when the next one is offered", ("a.Late",), 6, ("--within", "3")),
+    Bug(19, "no response is accepted after the first one", ("d.Ready",), 8, ("--within", "3")),
+    Bug(20, "the mask of a Get has no high lane", ("a.Lanes",), 4),
+)
+
+
+class WatchMutant(NamedTuple):
+    """A change of sv/tl_bridge_watch.sv after which the watch does not see a bug of narrow.sv. `text` is replaced by
+    `by`.
+    """
+
+    name: str
+    text: str
+    by: str
+    bug: int
+
+
+def dropped(assertion: str, holds: str, bug: int) -> WatchMutant:
+    return WatchMutant(f"no {assertion}", f'`TL_WATCH_ASSERT({assertion}, "{assertion}", {holds})', "", bug)
+
+
+HEAD = "far_head == head && far_size == size && far_has_data == has_data && (USER_BITS == 0 || far_user == user)"
+WATCH_MUTANTS = (
+    dropped("Head", f"!is_watched || ({HEAD})", 9),
+    WatchMutant("Head without the size", "far_size == size && ", "", 9),
+    WatchMutant("Head without the other fields", "far_head == head && ", "", 13),
+    dropped("Corrupt", "!is_watched || (has_data ? !here || far_corrupt == bad : !far_corrupt)", 15),
+    WatchMutant("Corrupt only forbids a corrupt beat", "far_corrupt == bad :", "(!far_corrupt || bad) :", 15),
+    WatchMutant(
+        "Data of the first far beat only",
+        "far_count == number >> far_power;",
+        "far_count == 0 && number >> far_power == 0;",
+        3,
+    ),
+    dropped("Mask", "!here || far_mask[far_place] == masked_in", 17),
+    dropped("Lanes", "!is_watched || (partial ? (far_mask & ~active) == 0 : far_mask == active)", 5),
+    WatchMutant("Lanes only forbids lanes", "far_mask == active)", "(far_mask & ~active) == 0)", 20),
+    dropped("Zeros", "!is_watched || idle_lanes_are_zero", 16),
+    dropped("Late", "!is_late", 18),
+    dropped("Ready", "!is_refused", 19),
 )

@@ -1,11 +1,12 @@
 """tlbridge-prove: correct designs are proved, planted bugs fail the assertion that is about them, and nothing is
 claimed after an error.
 
-The quick tests take about a minute of processor time, in four models. `-m long` plants every bug.
+test_adapters.py has more designs.
 """
 
 import os
 import re
+import shutil
 import stat
 import subprocess
 import sys
@@ -13,13 +14,11 @@ from pathlib import Path
 from typing import Any, Dict, List, Optional
 
 import pytest
-from bugs import NARROW, Bug
 from project import EXAMPLES, ROOT, needs_tools
 
 pytestmark = pytest.mark.simulator
 PROVE = ROOT / "tlbridge-prove"
 START = EXAMPLES / "start" / "adapter.sv"
-NARROW_FILE = Path(__file__).parent / "designs" / "narrow.sv"
 SECONDS = 7200  # of wall-clock time, on a busy machine
 
 
@@ -144,11 +143,21 @@ def test_model_without_assertions_claims_nothing(cache: Path, tmp_path: Path) ->
     assert "There are a.Corrupt, a.Data0" in run.err
 
 
+@pytest.mark.long
 def test_assumption_that_excludes_everything_claims_nothing(tmp_path: Path) -> None:
     needs_tools("yosys", "yosys-abc", "verilator")
     run = prove(tmp_path / "cache", tmp_path, *start("--unbounded", "--assume", "!client_a_valid"))
     assert run.status == 2 and run.claims_nothing(), run.out + run.err
     assert re.search(r"nothing is proved: no beat of channel [AD] can arrive", run.err)
+
+
+@pytest.mark.long
+def test_assumption_that_ends_time_claims_nothing(cache: Path, tmp_path: Path) -> None:
+    """Beats arrive in the first cycles, and after the tenth one no run is left: all would hold from there on."""
+    needs_tools("yosys", "yosys-abc", "verilator")
+    run = prove(tmp_path / "cache", tmp_path, *start("--unbounded", "--assume", "cycles < 10"))
+    assert run.status == 2 and run.claims_nothing(), run.out + run.err
+    assert "nothing is proved: the assumptions exclude every run of 16 cycles" in run.err
 
 
 def test_planted_bug_fails_and_is_replayed(tmp_path: Path) -> None:
@@ -228,16 +237,28 @@ def test_missing_tool(tmp_path: Path) -> None:
     assert "yosys was not found in PATH: install it" in done.stderr
 
 
-def test_sby_project(tmp_path: Path) -> None:
-    needs_tools("verilator")
-    run = prove(tmp_path / "cache", tmp_path, *start("--sby", "project", "--cycles", "7"))
+def test_projects(tmp_path: Path) -> None:
+    """The project of SymbiYosys and the Tcl were not run, and say so. yosys runs the script of the project."""
+    needs_tools("verilator", "yosys")
+    run = prove(tmp_path / "cache", tmp_path, *start("--sby", "sby", "--tcl", "tcl", "--cycles", "7"))
     assert run.status == 0, run.out + run.err
-    text = (tmp_path / "project" / "prove.sby").read_text()
+    text = (tmp_path / "sby" / "prove.sby").read_text()
     assert "did NOT run it" in text and "bmc: depth 8" in text
-    assert {"proof.sv", "tl_checker.sv", "tl_bridge_watch.sv"} <= {
-        path.name for path in (tmp_path / "project").iterdir()
-    }
+    proof_files = {"proof.sv", "tl_checker.sv", "tl_bridge_watch.sv"}
+    assert proof_files <= {path.name for path in (tmp_path / "sby").iterdir()}
+    assert proof_files <= {path.name for path in (tmp_path / "tcl").iterdir()}
     assert run.claims_nothing()
+    tcl = (tmp_path / "tcl" / "prove.tcl").read_text()
+    assert "NEVER run" in tcl and str(START) in tcl and "set_max_trace_length 8" in tcl
+    shutil.copy(START, tmp_path / "sby")
+    script = text[text.index("\n[script]\n") + 10 : text.index("\n[files]\n")]
+    (tmp_path / "sby" / "script.ys").write_text(script + "\nselect -write assertions t:$assert\n")
+    done = subprocess.run(
+        ["yosys", "-q", "-s", "script.ys"], cwd=tmp_path / "sby", capture_output=True, text=True, check=False
+    )
+    assert done.returncode == 0, done.stdout + done.stderr
+    assertions = (tmp_path / "sby" / "assertions").read_text().split()
+    assert len(assertions) == 32 and "tlbridge_proof/watch.d.watch.Data0" in assertions
 
 
 def test_clocks_of_another_kind_are_refused(tmp_path: Path) -> None:
@@ -248,51 +269,3 @@ def test_clocks_of_another_kind_are_refused(tmp_path: Path) -> None:
     run = prove(tmp_path / "cache", tmp_path, "falling.sv", "--top", "adapter")
     assert run.status == 3 and run.claims_nothing(), run.out + run.err
     assert "is clocked by a falling edge" in run.err
-
-
-# ---- long: each planted bug, and the correct design
-
-
-@pytest.mark.long
-@pytest.mark.parametrize("bug", NARROW, ids=[one.name for one in NARROW])
-def test_each_planted_bug(bug: Bug, tmp_path: Path) -> None:
-    needs_tools("yosys", "yosys-abc", "verilator", "iverilog")
-    words = [
-        NARROW_FILE,
-        "--top",
-        "narrow",
-        "--param",
-        f"BUG={bug.number}",
-        "--level",
-        "uh",
-        "--cycles",
-        "10",
-        *bug.options,
-    ]
-    run = prove(tmp_path / "cache", tmp_path, *words)
-    assert run.status == 1, run.out + run.err
-    fails = run.fails()
-    first = min(fails.values())
-    assert first <= bug.cycle, fails
-    assert any(name in bug.expected for name, cycle in fails.items() if cycle == first), fails
-
-
-@pytest.mark.long
-def test_correct_converter_holds(tmp_path: Path) -> None:
-    """No assertion fails in 12 cycles, in which each bug above is found; those without data are proved."""
-    needs_tools("yosys", "yosys-abc", "verilator")
-    words = [NARROW_FILE, "--top", "narrow", "--level", "uh", "--zero-lanes", "--within", "3"]
-    run = prove(tmp_path / "cache", tmp_path, *words, "--cycles", "12", "--seconds", "600")
-    assert run.status == 0, run.out + run.err
-    assert set(run.verdicts.values()) == {"no counterexample in 12 cycles"}, run.out
-    run = prove(
-        tmp_path / "cache",
-        tmp_path,
-        *words,
-        "--cycles",
-        "2",
-        "--unbounded",
-        "--only",
-        "Invented|Early|Source|a.Corrupt",
-    )
-    assert run.status == 0 and set(run.verdicts.values()) == {"proved"}, run.out + run.err

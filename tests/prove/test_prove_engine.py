@@ -4,16 +4,17 @@ import argparse
 import json
 import stat
 from pathlib import Path
-from typing import Any, Dict, List
+from typing import Any, Dict, List, Tuple
 
 import pytest
 
-from tlbridge.prove import command, engine, model
-from tlbridge.prove.clocks import settle_clocks
+from tlbridge.prove import command, engine, model, user_bits
+from tlbridge.prove.clocks import line_of, settle_clocks
 from tlbridge.prove.engine import BOUNDED, FAILS, OPEN, PROVED, Verdict
 from tlbridge.prove.errors import ProveError
-from tlbridge.prove.harness import Options, spread
+from tlbridge.prove.harness import Harness, Options, spread, write_harness
 from tlbridge.prove.model import Model, short_name
+from tlbridge.verify.design import Design, Port, Signal, Source, find_links
 
 VERIFIED = "Verification of invariant with 42 clauses was successful.  Time = 0.01 sec\n"
 LABELS = ("watch.a.watch.Data0", "watch.a.watch.SeesBeat", "watch.a.watch.SeesByte")
@@ -105,7 +106,7 @@ def test_simplification_that_dies_leaves_no_model(fake_abc: Path, tmp_path: Path
     for end in ("echo simplified; kill -9 $$", "echo simplified; echo 'i/o = 1/ 2'", "echo 'i/o = 1/ 3'", ""):
         fake_abc.write_text(f"#!/bin/sh\n{end}\n")
         with pytest.raises(ProveError, match="nothing is proved") as error:
-            model._simplify(tmp_path, 3)
+            model.simplify(tmp_path, 3)
         assert error.value.status == 4
 
 
@@ -118,6 +119,7 @@ def a_proof(verdicts: Dict[str, str], monkeypatch: pytest.MonkeyPatch, folder: P
     proof.words = argparse.Namespace(reset_cycles=1, jobs=1, only="", cycles=20)
     proof.options = Options()
     proof.frames = 21
+    proof.began = 0.0
     proof.model = a_model(folder)
     kinds = {number: verdicts[label.rpartition(".")[2]] for number, label in enumerate(LABELS)}
     monkeypatch.setattr(engine, "bounded", lambda _, index, *more: Verdict(kinds[index], 3, 0.1))
@@ -137,7 +139,18 @@ def test_kinds_that_do_not_arrive_are_named(
     a_proof({"Data0": BOUNDED, "SeesBeat": FAILS, "SeesByte": BOUNDED}, monkeypatch, tmp_path).reach()
     said = capsys.readouterr().out
     assert "1 of 2 kinds of beats arrive" in said
-    assert "not seen on A in 16 cycles, so nothing is said of it: a byte of data" in said
+    assert "not seen on A in up to 16 cycles, so nothing is said of it: a byte of data" in said
+
+
+def test_assumptions_that_end_time(tmp_path: Path, monkeypatch: pytest.MonkeyPatch) -> None:
+    """Beats arrive, but no run goes on to the last cycle: then everything would hold."""
+    proof = a_proof({"Data0": BOUNDED, "SeesBeat": FAILS, "SeesByte": FAILS}, monkeypatch, tmp_path)
+    proof.model = Model(tmp_path, (*LABELS, "SeesTime"))
+    kinds = {0: BOUNDED, 1: FAILS, 2: FAILS, 3: BOUNDED}
+    monkeypatch.setattr(engine, "bounded", lambda _, index, *more: Verdict(kinds[index], 3, 0.1))
+    with pytest.raises(ProveError, match="the assumptions exclude every run of 16 cycles") as error:
+        proof.reach()
+    assert error.value.status == 2
 
 
 def test_no_assertion_of_that_name(tmp_path: Path, monkeypatch: pytest.MonkeyPatch) -> None:
@@ -161,6 +174,126 @@ def test_words(found: Verdict, words: str, tmp_path: Path, monkeypatch: pytest.M
     assert (
         a_proof(dict.fromkeys(("Data0", "SeesBeat", "SeesByte"), FAILS), monkeypatch, tmp_path).words_of(found) == words
     )
+
+
+# ---- the steps of --unbounded
+
+
+def a_search(monkeypatch: pytest.MonkeyPatch, folder: Path, small: Verdict, whole: Verdict) -> List[Tuple[str, str]]:
+    """The questions about one assertion, in which model and of which kind; and its verdict as the last one."""
+    proof = a_proof(dict.fromkeys(("Data0", "SeesBeat", "SeesByte"), BOUNDED), monkeypatch, folder)
+    proof.words = argparse.Namespace(
+        reset_cycles=1, jobs=1, only="", cycles=20, unbounded=True, seconds=9, keep_going=False
+    )
+    proof.verdicts = {}
+    proof.harness = Harness("", "A", {}, {}, (), ())
+    asked: List[Tuple[str, str]] = []
+    models = {"whole": proof.model, "small": Model(folder / "small", LABELS)}
+
+    def ask(kind: str, found: Dict[str, Verdict]) -> Any:
+        def answer(model: Model, index: int, *more: int) -> Verdict:
+            name = next(name for name, one in models.items() if one is model)
+            asked.append((name, f"{kind} {more[0]}"))
+            return found[name]
+
+        return answer
+
+    monkeypatch.setattr(proof, "build", lambda harness, what: models["small"])
+    monkeypatch.setattr(command, "write_harness", lambda design, options, cover: proof.harness)
+    proof.design = None  # type: ignore[assignment]
+    monkeypatch.setattr(engine, "bounded", ask("bounded", {"whole": Verdict(BOUNDED, 9, 0.1)}))
+    monkeypatch.setattr(engine, "unbounded", ask("unbounded", {"small": small, "whole": whole}))
+    proof.search([0])
+    return [*asked, ("verdict", proof.verdicts[0].kind)]
+
+
+@pytest.mark.parametrize(
+    "small, whole, asked",
+    [
+        (PROVED, OPEN, [("small", "unbounded 9"), ("verdict", PROVED)]),
+        (FAILS, PROVED, [("small", "unbounded 9"), ("whole", "unbounded 9"), ("verdict", PROVED)]),
+        (FAILS, FAILS, [("small", "unbounded 9"), ("whole", "unbounded 9"), ("verdict", FAILS)]),
+        (OPEN, PROVED, [("small", "unbounded 9"), ("whole", "bounded 21"), ("verdict", BOUNDED)]),
+        (
+            FAILS,
+            OPEN,
+            [("small", "unbounded 9"), ("whole", "unbounded 9"), ("whole", "bounded 21"), ("verdict", BOUNDED)],
+        ),
+    ],
+)
+def test_a_failure_in_the_smaller_model_is_none(
+    small: str, whole: str, asked: List[Tuple[str, str]], tmp_path: Path, monkeypatch: pytest.MonkeyPatch
+) -> None:
+    """The smaller model assumes less, so a proof in it counts, and a counterexample in it does not."""
+    found = a_search(monkeypatch, tmp_path, Verdict(small, 4, 0.1), Verdict(whole, 5, 0.1))
+    assert found == [("whole", "bounded 9"), *asked]
+
+
+# ---- user bits, later resets, memories
+
+
+def a_design(**names: Tuple[int, str]) -> Tuple[Design, List[Tuple[str, Signal]]]:
+    """A design with two links of 4 bytes, and further signals: name, bits, direction."""
+    fields = {"opcode": 3, "size": 2, "source": 2, "address": 8, "mask": 4, "data": 32, "valid": 1, "ready": 1}
+    signals: List[Tuple[str, Signal]] = []
+    for stem, to in (("in_", "input"), ("out_", "output")):
+        for letter in "ad":
+            for word, bits in fields.items():
+                there = to if (letter == "a") != (word == "ready") else {"input": "output", "output": "input"}[to]
+                name = f"{stem}{letter}_{word}"
+                signals.append((name, Signal(name, 0, bits, there)))
+    signals += [(name, Signal(name, 0, bits, there)) for name, (bits, there) in names.items()]
+    links = find_links(signals)
+    ports = {name: Port(signal.direction, signal.bits) for name, signal in signals}
+    links["in_"].clock = links["out_"].clock = "clock"
+    return Design(Source("adapter", ("adapter.sv",)), ports, links["in_"], links["out_"]), signals
+
+
+def test_user_bits_are_found(monkeypatch: pytest.MonkeyPatch) -> None:
+    """Those that both links have are compared; one that only one link has, or of another size, is named."""
+    design, signals = a_design(
+        in_a_user=(3, "input"),
+        out_a_user=(3, "output"),
+        in_d_bits_echo_id=(2, "output"),
+        out_d_bits_echo_id=(2, "input"),
+        out_a_echo=(1, "output"),
+        in_d_user=(2, "output"),
+        out_d_user=(4, "input"),
+    )
+    monkeypatch.setattr(user_bits, "read_ports", lambda source, structs: (design.ports, signals))
+    found = user_bits.find_user_bits(design)
+    assert {letter: found.bits(letter) for letter in "ACD"} == {"A": 3, "C": 0, "D": 2}
+    assert sorted(found.others) == ["in_d_user", "out_a_echo", "out_d_user"]
+    text = write_harness(design, Options(level="ul", largest=4, user_bits=found)).text
+    assert ".REQUEST_USER_BITS(3), .RESPONSE_USER_BITS(2)" in text
+    assert ".in_a_user({client_a_user[2:0]})" in text
+    assert "wire [2:0] manager_a_user = {port_out_a_user[2:0]};" in text
+    assert ".out_d_user(4'd0)" in text
+
+
+def test_channel_without_valid_is_named() -> None:
+    design, _ = a_design()
+    del design.ports["out_a_valid"]
+    design.manager = None
+    with pytest.raises(ProveError, match="has one link.* The ports out_a_.. have no valid: name the port so"):
+        write_harness(design, Options())
+
+
+def test_later_resets_are_an_input() -> None:
+    design, _ = a_design()
+    for later in (False, True):
+        harness = write_harness(design, Options(level="ul", largest=4, later_resets=later))
+        assert (("reset_again", 1) in harness.inputs) == ("if (reset_again" in harness.text) == later
+
+
+def test_memory_that_does_not_fit() -> None:
+    model.check_memories('  attribute \\src "ram.sv:3.5-3.9"\n  memory width 8 size 64 \\words\n')
+    assert line_of("/tmp/a-proof/proof.sv:7.1-7.9|/home/a-b/ram.sv:3.5-3.9") == "/home/a-b/ram.sv:3.5"
+    with pytest.raises(
+        ProveError, match=r"^ram.sv:3.5: the memory words has 2097152 bits.* smaller by a parameter"
+    ) as error:
+        model.check_memories('  attribute \\src "ram.sv:3.5-3.9"\n  memory width 32 size 65536 \\words\n')
+    assert error.value.status == 3
 
 
 # ---- clocks

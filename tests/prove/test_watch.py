@@ -2,11 +2,13 @@
 
 import re
 import subprocess
+import tempfile
+from functools import lru_cache
 from pathlib import Path
 from typing import Set, Tuple
 
 import pytest
-from bugs import NARROW, Bug
+from bugs import NARROW, WATCH_MUTANTS, Bug, WatchMutant
 from project import ROOT, SV, needs_tools
 
 pytestmark = pytest.mark.simulator
@@ -19,8 +21,8 @@ FILES = (
 )
 
 
-def reports(bug: int, folder: Path, seed: int = 1) -> Tuple[Set[str], int]:
-    """The assertions that the watch reports in 4,000 cycles, and the number of messages that it watched on A."""
+def reports(bug: int, folder: Path, seed: int = 1, watch: Path = FILES[0]) -> Tuple[Set[str], int]:
+    """The assertions that a watch reports in 4,000 cycles, and the number of messages that it watched on A."""
     needs_tools("iverilog", "vvp")
     words = [
         "iverilog",
@@ -32,7 +34,7 @@ def reports(bug: int, folder: Path, seed: int = 1) -> Tuple[Set[str], int]:
         "-o",
         str(folder / "bench"),
     ]
-    done = subprocess.run([*words, *map(str, FILES)], capture_output=True, text=True, check=False)
+    done = subprocess.run([*words, str(watch), *map(str, FILES[1:])], capture_output=True, text=True, check=False)
     assert done.returncode == 0, done.stdout + done.stderr
     said = subprocess.run(["vvp", "-n", str(folder / "bench")], capture_output=True, text=True, check=False).stdout
     last = re.search(r"^done: \d+ beats, (\d+) messages watched$", said, re.M)
@@ -46,12 +48,30 @@ def test_correct_converter(tmp_path: Path) -> None:
     assert not found and messages >= 200
 
 
+@lru_cache(maxsize=None)
+def first_seed(bug: Bug) -> int:
+    """The first of four seeds with which the watch reports a bug by an expected assertion, or 0.
+
+    A bug that stops the converter is reported only if the message that waits is the watched one.
+    """
+    with tempfile.TemporaryDirectory() as folder:
+        for seed in (1, 2, 3, 4):
+            if reports(bug.number, Path(folder), seed)[0] & set(bug.expected):
+                return seed
+    return 0
+
+
 @pytest.mark.parametrize("bug", NARROW, ids=[one.name for one in NARROW])
-def test_planted_bug_is_reported(bug: Bug, tmp_path: Path) -> None:
-    """A bug that stops the converter is reported if the message that waits is the watched one: so up to four runs."""
-    found: Set[str] = set()
-    for seed in (1, 2, 3, 4):
-        found |= reports(bug.number, tmp_path, seed)[0]
-        if found & set(bug.expected):
-            return
-    pytest.fail(f"reported: {sorted(found)}")
+def test_planted_bug_is_reported(bug: Bug) -> None:
+    assert first_seed(bug)
+
+
+@pytest.mark.parametrize("mutant", WATCH_MUTANTS, ids=[one.name for one in WATCH_MUTANTS])
+def test_weaker_watch_misses_a_bug(mutant: WatchMutant, tmp_path: Path) -> None:
+    """So each of these assertions, and each of these parts of one, is needed: without it the bug has no report."""
+    text = FILES[0].read_text()
+    assert text.count(mutant.text) == 1
+    (tmp_path / "weaker.sv").write_text(text.replace(mutant.text, mutant.by))
+    seed = first_seed(next(bug for bug in NARROW if bug.number == mutant.bug))
+    found, messages = reports(mutant.bug, tmp_path, seed, tmp_path / "weaker.sv")
+    assert not found and messages

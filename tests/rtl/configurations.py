@@ -10,8 +10,8 @@ def of(client=8, manager=4, **more):
     return dict(CLIENT_BYTES=client, MANAGER_BYTES=manager, **more)
 
 
-# name, seed, length of the trace in parts of BEATS, options of lawful.TraceOptions, words for the simulation
-REUSE: Dict[str, Any] = dict(sources=3, largest=8, mix=(8, 8, 1, 1, 1, 1))
+# name, seed, length of the trace in parts of BEATS, options of tlbridge.traffic, words for the simulation
+REUSE: Dict[str, Any] = dict(sources=3, largest=8, mix={"A": 8, "B": 1, "C": 1, "D": 1, "E": 1}, continuing=8)
 APART: Dict[str, Any] = dict(sources=40, largest=7)
 SCENARIOS: List[Tuple[str, int, float, Dict[str, Any], List[str]]] = [
     ("wandering clocks", 1, 1, {}, ["client=1000", "manager=1370"]),

@@ -20,8 +20,9 @@ from typing import Any, Callable, Dict, List, Mapping, Optional, Sequence, Tuple
 
 from commands import Word, run, said
 from configurations import SCENARIOS, WIDTHS
-from lawful import TraceMaker, TraceOptions
 from project import MODEL, ROOT, RTL, SV
+from tlbridge import traffic as maker
+from tlbridge.traffic import Conversation, Options
 
 HERE = Path(__file__).resolve().parent
 CHECKER = SV / "tl_checker.sv"
@@ -41,6 +42,10 @@ DEFAULTS = dict(
     HAS_B_C_E=1,
     MAX_OUTSTANDING=0,
     ALLOW_SAME_CYCLE_RESPONSE=1,
+)
+# Any messages of all channels, with any ids.
+TRAFFIC: Dict[str, Any] = dict(
+    mix={"A": 5, "B": 2, "C": 2, "D": 1, "E": 1}, continuing=5, sources=256, denied=0.5, corrupt=0.3, noise=1.0
 )
 PAIRS = [dict(CLIENT_BYTES=client, MANAGER_BYTES=manager) for client in WIDTHS for manager in WIDTHS]
 Config = Mapping[str, int]
@@ -83,18 +88,21 @@ class Room:
         return path
 
     def trace(self, config: Config, seed: int, beats: int, **options: Any) -> Tuple[Path, Path]:
-        """The trace of some traffic, by the options of lawful.TraceOptions, and its answer."""
+        """The trace of some traffic, by the options of tlbridge.traffic, and its answer."""
         full = {**DEFAULTS, **config}
-        given = dict(options)
-        given["largest"] = min(given.get("largest", 12), 12, (1 << full["SIZE_BITS"]) - 1)
+        given = {**TRAFFIC, **options}
+        most = min(given.pop("largest", 12), 12, (1 << full["SIZE_BITS"]) - 1)
+        given.setdefault("sizes", [min(size, most) for top in (3, 5, 8, 12) for size in range(top + 1)])
         if full["MAX_OUTSTANDING"]:
             given["outstanding"] = full["MAX_OUTSTANDING"]
         if not full["HAS_B_C_E"]:
-            given["mix"] = (5, 5, 0, 0, 0, 0)
+            given.update(mix={"A": 1}, continuing=1)
         given.update({f"{name}_bits": full[f"{name.upper()}_BITS"] for name in ("source", "sink", "address")})
-        made = TraceOptions(full["CLIENT_BYTES"], full["MANAGER_BYTES"], beats, seed, **given)
-        name = digest((LIB / "lawful.py").read_text(), made)
-        trace = self.once(self.path / f"{name}.trace", lambda path: path.write_text(TraceMaker(made).text()))
+        made = Options(full["CLIENT_BYTES"], full["MANAGER_BYTES"], seed, beats=beats, **given)
+        name = digest(Path(maker.__file__).read_text(), made)
+        trace = self.once(
+            self.path / f"{name}.trace", lambda path: path.write_text("".join(Conversation(made).texts()))
+        )
         return trace, self.answer(trace)
 
     def answer(self, trace: Path) -> Path:

@@ -91,7 +91,7 @@ def test_resets_at_random(config: Config, room: Room) -> None:
     program = room.build(config, synchronizer="one edge")
     resets = far = 0
     for number, words in enumerate(words_of_resets(config) * 2):
-        trace, answer = room.trace(config, 50 + number % 2, 4 * BEATS, unique=True)
+        trace, answer = room.trace(config, 50 + number % 2, 4 * BEATS, unique=True, sources=4096)
         more = [] if config.get("FIFO_DEPTH", 8) else ["through", "steady"]
         ran = room.play(program, trace, answer, [*words, *more, f"seed={number + 1}", f"resets={answer}"])
         assert not ran.wrong, f"{ran.wrong} ({trace} {' '.join(words)} seed={number + 1})"
@@ -162,8 +162,8 @@ def test_cycles_for_each_far_beat(pair: Tuple[int, int], depth: int, clocks: str
     """
     needs_tools("verilator", "g++")
     config = dict(CLIENT_BYTES=pair[0], MANAGER_BYTES=pair[1], FIFO_DEPTH=depth, SOURCE_BITS=12)
-    options = dict(unique=True, kind=0, size=6, mix=(4, 0, 4, 0, 0, 0))
-    trace, answer = room.trace(config, 1, 3000, **options)
+    puts = dict(sizes=(6,), mix={"A": 1, "B": 1}, continuing=0, opcodes={"A": (0,), "B": (0,), "D": (0,)})
+    trace, answer = room.trace(config, 1, 3000, unique=True, sources=4096, **puts)
     program = room.build(config, synchronizer="plain")
     ran = room.play(program, trace, answer, [clocks, "client=1000", "drift=0", "stalls=0"])
     assert not ran.wrong

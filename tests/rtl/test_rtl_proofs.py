@@ -1,9 +1,11 @@
 """tools/prove-rtl: the bridge against the layout of messages, and a planted bug for each assertion of the watch.
 
-The quick tests prove channel E and find two bugs, in less than a minute of processor time. `-m long` plants a bug for
-each assertion. The rows of docs/RTL_PROOFS.md are made by `tools/prove-rtl`, which takes about an hour.
+The quick tests prove channel E and the contract of the FIFO in one clock, and find two bugs, in less than a minute of
+processor time. `-m long` plants a bug for each assertion, and prints its frame and seconds. The rows of
+docs/RTL_PROOFS.md are made by `tools/prove-rtl`.
 """
 
+import dataclasses
 import re
 import shutil
 import sys
@@ -14,11 +16,12 @@ import pytest
 from project import ROOT, RTL, needs_tools
 
 sys.path.insert(0, str(ROOT / "tools"))
-from rtl_proofs.rows import NOT_TRIED, ROWS, Step  # noqa: E402
-from rtl_proofs.run import Outcome, line_of, prove, recipe_of  # noqa: E402
+from rtl_proofs.given import step_model  # noqa: E402
+from rtl_proofs.rows import NOT_TRIED, ROWS, Refinement, Stage  # noqa: E402
+from rtl_proofs.run import Outcome, line_of, name_of, prove, recipe_of  # noqa: E402
 
 from tlbridge.prove import engine  # noqa: E402
-from tlbridge.prove.model import build, short_name  # noqa: E402
+from tlbridge.prove.model import build  # noqa: E402
 
 pytestmark = pytest.mark.simulator
 PAGE = ROOT / "docs" / "RTL_PROOFS.md"
@@ -36,6 +39,7 @@ class Bug(NamedTuple):
 
 
 FIFO, WIDEN, NARROW, CHANNEL, TABLE = "tl_fifo.sv", "tl_widen.sv", "tl_narrow.sv", "tl_channel.sv", "tl_outstanding.sv"
+ASYNC_FIFO, RESET = "tl_async_fifo.sv", "tl_reset.sv"
 BUGS = (
     Bug("e.Invented", "E-2-2", FIFO, "assign r_valid = w_count != r_count;", "assign r_valid = 1'b1;"),
     Bug("e.Head", "E-2-2", FIFO, "words[w_count[LOG-1:0]] <= w_data;", "words[0] <= w_data;"),
@@ -61,64 +65,125 @@ BUGS = (
         "if (a_valid && a_ready) lanes",
         "if (a_valid && a_ready && lanes[a_source] == 0) lanes",
     ),
+    Bug(
+        "lane_lemmas.Lane",
+        "D-2-4-two-clocks",
+        TABLE,
+        "if (a_valid && a_ready) lanes",
+        "if (a_valid && a_ready && lanes[a_source] == 0) lanes",
+    ),
+    Bug("d.Data0", "D-2-4-two-clocks", NARROW, "begun ? next_slot : first_slot", "begun ? next_slot : '0"),
+    Bug(
+        "e.Late",
+        "E-2-2-within-2",
+        FIFO,
+        "assign r_valid = w_count != r_count;",
+        "assign r_valid = w_count != r_count && w_count[0];",
+    ),
+    Bug(
+        "e.Ready",
+        "E-2-2-within-2",
+        FIFO,
+        "assign w_ready = w_count != (r_count ^ {1'b1, {LOG{1'b0}}});",
+        "assign w_ready = !w_count[LOG];",
+    ),
+    Bug("Ready", "FIFO-2-two-clocks", ASYNC_FIFO, "(r_gray_seen ^ LAP)", "(r_gray_seen ^ LAP ^ 1'b1)"),
+    Bug(
+        "Valid",
+        "FIFO-2-two-clocks",
+        ASYNC_FIFO,
+        "wire loads = r_gray != w_gray_seen && (!r_valid || r_ready);",
+        "wire loads = !r_valid || r_ready;",
+    ),
+    Bug(
+        "bits[0].same.Data",
+        "FIFO-2-two-clocks",
+        ASYNC_FIFO,
+        "wire loads = r_gray != w_gray_seen && (!r_valid || r_ready);",
+        "wire loads = r_gray != w_gray_seen;",
+    ),
+    Bug(
+        "Run",
+        "FIFO-2-two-clocks",
+        RESET,
+        "asks ? reset || !(agreed && clear) : (reset || waits) && !agreed;",
+        "asks ? reset || !(agreed && clear) : (reset || waits || run) && !agreed;",
+    ),
+    Bug("Clear", "FIFO-2-two-clocks", RESET, "assign run = idle && !clear && !reset;", "assign run = idle && !reset;"),
     Bug("c.Head", "C-4-2", CHANNEL, "MASKED ? !far_opcode[2] : far_opcode[0]", "!far_opcode[2]"),
 )
 QUICK = ("e.Invented", "e.Head")
-FRAMES = 14
+FRAMES, FRAMES_OF_REFINEMENT = 14, 40  # its reset takes 12
 
 
-def found(bug: Bug, tmp_path: Path, seconds: int = 600) -> int:
-    """The frame in which the assertion fails in the model with the bug."""
+def found(bug: Bug, tmp_path: Path, seconds: int = 600) -> engine.Verdict:
+    """The failure of the assertion in the model with the bug. Of the lemmas those about sources are assumed."""
     rtl = tmp_path / "rtl"
     shutil.copytree(RTL, rtl)
     text = (rtl / bug.file).read_text()
     assert text.count(bug.old) == 1, f"the text of the bug is not once in {bug.file}"
     (rtl / bug.file).write_text(text.replace(bug.old, bug.new))
-    name = bug.assertion.partition(".")[2]
     row = ROW[bug.row]
-    given = "" if name.startswith("Source") else row.steps[-1].given
-    model, _ = build(recipe_of(row, Step(rf"(^|\.){name}$", given), rtl, tmp_path), None)
-    index = [short_name(label) for label in model.labels].index(bug.assertion)
-    verdict = engine.bounded(model, index, FRAMES, seconds)
+    refines = isinstance(row, Refinement)
+    stage = Stage() if isinstance(row, Refinement) else next(one for one in row.stages if not one.cuts)
+    model, _ = build(recipe_of(row, stage, rtl, tmp_path), None)
+    names = [name_of(label) for label in model.labels]
+    lemmas = [number for number, name in enumerate(names) if "Source" in name and "Source" not in bug.assertion]
+    part = step_model(model, [names.index(bug.assertion)], lemmas, tmp_path / "step")
+    verdict = engine.bounded(part, 0, FRAMES_OF_REFINEMENT if refines else FRAMES, seconds)
     shutil.rmtree(model.folder)
-    assert verdict.kind == engine.FAILS, f"{bug.assertion} does not fail in {FRAMES} frames: {verdict}"
-    return verdict.frames
+    assert verdict.kind == engine.FAILS, f"{bug.assertion} does not fail: {verdict}"
+    print(f"{bug.assertion} {bug.row}: frame {verdict.frames}, {verdict.seconds:.1f} s")
+    return verdict
 
 
 def test_channel_e_is_proved(tmp_path: Path) -> None:
     needs_tools("yosys", "yosys-abc", "verilator")
     outcome = prove(ROW["E-2-2"], RTL, 2, 300, tmp_path)
     assert outcome.is_complete, outcome.verdicts
-    assert line_of(outcome).startswith("| E | 2:2 | all 5: Corrupt, Early, Head, Invented, Room |")
+    assert line_of(outcome).startswith("| E | 2:2 | 1 | 2 | all 5: Corrupt, Early, Head, Invented, Room |")
     assert sorted(outcome.proved) == ["e.Corrupt", "e.Early", "e.Head", "e.Invented", "e.Room"]
     assert outcome.reached == outcome.covers >= 3, outcome.not_reached
+
+
+def test_fifo_keeps_its_contract(tmp_path: Path) -> None:
+    """In one clock; with two it takes half a minute."""
+    needs_tools("yosys", "yosys-abc")
+    outcome = prove(ROW["FIFO-2"], RTL, 2, 300, tmp_path)
+    assert outcome.is_complete, outcome.verdicts
+    assert sorted(outcome.proved) == ["Ready", "Valid", "bits[0].same.Data"]
+    assert outcome.reached == outcome.covers == 2, outcome.not_reached
 
 
 @pytest.mark.parametrize("bug", [bug for bug in BUGS if bug.assertion in QUICK], ids=QUICK)
 def test_planted_bug_fails_quickly(bug: Bug, tmp_path: Path) -> None:
     needs_tools("yosys", "yosys-abc", "verilator")
-    assert found(bug, tmp_path) <= 6
+    assert found(bug, tmp_path).frames <= 6
 
 
 @pytest.mark.long
-@pytest.mark.parametrize("bug", BUGS, ids=[one.assertion for one in BUGS])
+@pytest.mark.parametrize("bug", BUGS, ids=[f"{one.assertion}-{one.row}" for one in BUGS])
 def test_planted_bug_fails(bug: Bug, tmp_path: Path) -> None:
     needs_tools("yosys", "yosys-abc", "verilator")
     found(bug, tmp_path)
 
 
 @pytest.mark.long
-def test_lemmas_and_data_of_d(tmp_path: Path) -> None:
-    """D at 4:2: a lemma that is not proved ends the row, and one bit of the data is proved with the lemmas."""
+def test_beats_come_on_e(tmp_path: Path) -> None:
+    """`Late` and `Ready` are proved, and the line says which of them fails with a smaller bound."""
     needs_tools("yosys", "yosys-abc", "verilator")
-    outcome = prove(ROW["D-4-2"], RTL, 2, 900, tmp_path, "Source|Data0")
-    assert sorted(outcome.proved) == [
-        "d.Data0",
-        "d.SourceA",
-        "d.SourceD",
-        "d.SourceOne",
-        "d.SourceRoom",
-    ], outcome.verdicts
+    outcome = prove(ROW["E-2-2-within-2"], RTL, 2, 300, tmp_path)
+    assert outcome.is_complete and sorted(outcome.proved) == ["e.Late", "e.Ready"], outcome.verdicts
+    assert "| all 2: Late, Ready within 2; within 1 not Ready |" in line_of(outcome)
+
+
+@pytest.mark.long
+def test_lemmas_and_data_of_d(tmp_path: Path) -> None:
+    """D at 4:2: the lemmas about the inside, and then the watch."""
+    needs_tools("yosys", "yosys-abc", "verilator")
+    outcome = prove(ROW["D-4-2"], RTL, 2, 900, tmp_path)
+    assert outcome.is_complete, outcome.verdicts
+    assert {"d.Data0", "d.SourceA", "d.SourceD", "d.SourceOne", "d.SourceRoom"} <= set(outcome.proved)
 
 
 # ---- what a line says, without a tool
@@ -126,15 +191,20 @@ def test_lemmas_and_data_of_d(tmp_path: Path) -> None:
 
 def outcome_of(kinds: Sequence[str], row: str = "A-4-2", tried_all: bool = True) -> Outcome:
     verdicts = {f"a.Data{number}": engine.Verdict(kind, 0, 1.0) for number, kind in enumerate(kinds)}
-    return Outcome(ROW[row], verdicts, 2.0, ("a.Data0", 1.0), 3, 4, ["SeesShort"], tried_all)
+    claimed = dataclasses.replace(ROW[row], claimed=True)
+    return Outcome(claimed, verdicts, 2.0, ("a.Data0", 1.0), 3, 4, ["SeesShort"], tried_all)
 
 
 def test_line_claims_no_more_than_was_proved() -> None:
     proved = [engine.PROVED] * 8
-    assert line_of(outcome_of(proved)) == "| A | 4:2 | all 8: Data0 to Data7 | 3 of 4, not SeesShort | 2 | Data0 1 |"
+    assert line_of(outcome_of(proved)) == (
+        "| A | 4:2 | 1 | 2 | all 8: Data0 to Data7 | 3 of 4, not SeesShort | 2 | Data0 1 |"
+    )
     assert "| a part: Data0 to Data7 |" in line_of(outcome_of(proved, tried_all=False))
     assert "open: Data7" in line_of(outcome_of([*proved[1:], engine.BOUNDED]))
-    assert "**no claim**: Data0 to Data7" in line_of(outcome_of(proved, "D-2-4"))
+    no_claim = dataclasses.replace(ROW["A-4-2"], claimed=False)
+    part = dataclasses.replace(outcome_of(proved, tried_all=False), row=no_claim)
+    assert "| **no claim**: Data0 to Data7 |" in line_of(part)
     assert not outcome_of([]).is_complete and not outcome_of([engine.OPEN]).is_complete
 
 
@@ -147,7 +217,9 @@ def test_page_has_each_row() -> None:
     """
     text = PAGE.read_text()
     for row in ROWS:
-        in_table = re.search(rf"^\| {row.channel} \| {row.client}:{row.manager} \|", text, re.M)
+        start = line_of(Outcome(row)).split(" | a part")[0]
+        late = rf"[^|]*within {row.name[-1]}[ ;]" if "within" in row.name else r"(?![^|]*within)"
+        in_table = re.search(rf"^{re.escape(start)} \| {late}", text, re.M)
         assert in_table or f"`{row.name}`" in text, row.name
     for what, _ in NOT_TRIED:
         words = re.split(r"[ (,]", what)[0]

@@ -2,6 +2,7 @@
 from __future__ import annotations
 
 import json
+import re
 from pathlib import Path
 from typing import Any, Dict, Mapping
 
@@ -52,5 +53,12 @@ def settle_clocks(source: Path, target: Path, ticks: Mapping[str, str], step: st
 
 def place_of(name: str, cell: Mapping[str, Any]) -> str:
     """Returns the line of a cell's source, or its name."""
-    place = str(cell.get("attributes", {}).get("src", "")).split("|")[0]
-    return f"the register of {place.partition('-')[0]}" if place else f"the register {name}"
+    place = line_of(str(cell.get("attributes", {}).get("src", "")))
+    return f"the register of {place}" if place else f"the register {name}"
+
+
+def line_of(source: str) -> str:
+    """Returns the file and line of an attribute `src` of yosys, which lists places from the top to the design: the
+    last one, without its end.
+    """
+    return re.sub(r"-\d+\.\d+$", "", source.split("|")[-1])

@@ -18,6 +18,8 @@ import subprocess
 import sys
 import tempfile
 import time
+from dataclasses import replace
+from functools import partial
 from pathlib import Path
 from typing import Callable, Dict, List, Optional, Sequence, Tuple
 
@@ -29,9 +31,10 @@ from .errors import TOOL, ProveError
 from .engine import FAILS, PROVED, Verdict
 from .harness import DEFAULT_FREE, LEVELS, Harness, Options, default_largest, write_harness
 from .model import Model, Recipe, build, cache_folder, short_name
+from .projects import write_sby, write_tcl
 from .replay import replay
-from .sby import write_project
 from .tools import find_tool
+from .user_bits import NONE, find_user_bits
 
 PROGRAM = "tlbridge-prove"
 STATUSES = """
@@ -42,8 +45,15 @@ exit status:
   3  the design cannot be read
   4  a tool is missing or died; nothing is claimed
 """
+FIRST_CYCLES, FIRST_SECONDS = 8, 20  # of the search for counterexamples with which --unbounded begins
 COVER_FRAMES = 16
-COVER_SECONDS = 60
+# Denies that time goes on for that long. If it does not, an assumption excludes every run from some cycle on.
+TIME_COVER = f"""    logic [5:0] cycles = 0;
+    always @(posedge clock) if (!reset && cycles != {COVER_FRAMES - 1}) cycles <= cycles + 1'b1;
+    always @* if (!reset) SeesTime: assert (cycles != {COVER_FRAMES - 1});
+"""
+COVER_SECONDS = 10
+NEEDED_SECONDS = 120  # for the covers without which nothing is claimed
 # Kinds of beats, as covers name them. Without the first one of a channel, the proofs of the channel say nothing.
 COVERS = {
     "SeesBeat": "a beat",
@@ -63,7 +73,14 @@ def note(text: str) -> None:
 
 
 def say(text: str = "") -> None:
+    progress("")
     print(text, flush=True)
+
+
+def progress(text: str) -> None:
+    """Shows what is going on in the last line of a terminal, until the next line is printed."""
+    if sys.stderr.isatty():
+        print(f"\r\033[K{text}", end="", file=sys.stderr, flush=True)
 
 
 # ---- the command line
@@ -174,6 +191,14 @@ def command_line() -> argparse.ArgumentParser:
         help="the neighbours keep the rules also in beats that are offered and not accepted",
     )
     assumed.add_argument(
+        "--later-resets", action="store_true", help="both sides may be reset again together, at any time"
+    )
+    assumed.add_argument(
+        "--no-user-bits",
+        action="store_true",
+        help="do not compare the user and echo bits of A, C and D; those that the design reads are 0",
+    )
+    assumed.add_argument(
         "--watched-source-only",
         action="store_true",
         help=(
@@ -186,7 +211,7 @@ def command_line() -> argparse.ArgumentParser:
         metavar="N",
         type=_number(1, 200, "a number of cycles"),
         default=0,
-        help="also assert that a complete far beat comes within N cycles in which the receiver is ready",
+        help="also assert that no beat waits in N cycles in which the receiver is ready",
     )
     assumed.add_argument(
         "--assume",
@@ -220,6 +245,7 @@ def command_line() -> argparse.ArgumentParser:
     )
     run.add_argument("--out", metavar="FOLDER", help="the counterexample [default: tlbridge-prove.MODULE]")
     run.add_argument("--sby", metavar="FOLDER", help="write the harness as a project of SymbiYosys, and end")
+    run.add_argument("--tcl", metavar="FOLDER", help="write the harness and Tcl for JasperGold, and end")
     run.add_argument("--no-cache", action="store_true", help="do not keep the model for the next run")
     run.add_argument("--keep-going", action="store_true", help="prove the other assertions if one fails")
     return words
@@ -282,6 +308,9 @@ def options_of(words: argparse.Namespace, design: Design) -> Options:
         (("address", words.address_bits), ("source", words.source_bits), ("sink", words.sink_bits)),
         tuple(words.assume),
         two,
+        later_resets=words.later_resets,
+        user_bits=NONE if words.no_user_bits else find_user_bits(design),
+        extra_lines=TIME_COVER,
     )
 
 
@@ -296,7 +325,8 @@ def stated(options: Options, harness: Harness) -> List[str]:
         "         the manager may respond in the cycle in which it accepts the request"
         if options.same_cycle_response
         else "         the manager never responds in the cycle in which it accepts the request",
-        "         one reset at the beginning, of any register values, and none later",
+        "         one reset at the beginning, of any register values, "
+        + ("and later ones of both sides at any time" if options.later_resets else "and none later"),
     ]
     if options.two_clocks:
         lines.append(
@@ -313,6 +343,15 @@ def stated(options: Options, harness: Harness) -> List[str]:
     lines.append(
         "lanes without a byte: " + ("0 on the far link" if options.idle_lanes_zero else "any value on the far link")
     )
+    both = options.user_bits.both
+    if both:
+        counts = ", ".join(f"{options.user_bits.bits(letter)} on {letter}" for letter in sorted(both))
+        lines.append(f"user and echo bits: {counts}; a sender keeps them in each beat of a message")
+    if options.user_bits.others:
+        lines.append(
+            f"not compared, since only one link has these user and echo bits, which are 0 for the design: "
+            f"{' '.join(options.user_bits.others)}"
+        )
     if harness.unread:
         lines.append(f"0, since the design has no such port: {' '.join(harness.unread)}")
     return lines
@@ -346,11 +385,11 @@ class Proof:
             say(line)
         for line in stated(self.options, self.harness):
             say(line)
-        if self.words.sby:
-            return self.project()
+        if self.words.sby or self.words.tcl:
+            return self.projects()
         self.folder = Path(tempfile.mkdtemp(prefix="tlbridge-prove."))
         try:
-            self.model = self.build()
+            self.model = self.build(self.harness)
             indices = self.chosen()
             self.reach()
             self.search(indices)
@@ -358,21 +397,29 @@ class Proof:
         finally:
             shutil.rmtree(self.folder, ignore_errors=True)
 
-    def project(self) -> int:
-        folder = Path(self.words.sby)
-        folder.mkdir(parents=True, exist_ok=True)
-        (folder / "proof.sv").write_text(self.harness.text)
-        files = [*proof_files(), folder / "proof.sv"]
-        path = write_project(
-            folder, self.source, files, self.words.cycles, self.words.reset_cycles, self.options.two_clocks
-        )
-        say(f"wrote {path}, which was not run: `sby -f {path.name}` in that folder runs it")
+    def projects(self) -> int:
+        """Writes the harness for other tools, without covers."""
+        text = write_harness(self.design, replace(self.options, extra_lines=""), cover=False).text
+        for name, write, command in (
+            (self.words.sby, write_sby, "sby -f prove.sby"),
+            (self.words.tcl, write_tcl, "jg -batch prove.tcl"),
+        ):
+            if not name:
+                continue
+            folder = Path(name)
+            folder.mkdir(parents=True, exist_ok=True)
+            (folder / "proof.sv").write_text(text)
+            files = [*proof_files(), folder / "proof.sv"]
+            words = self.words
+            path = write(folder, self.source, files, words.cycles, words.reset_cycles, self.options.two_clocks)
+            say(f"wrote {path}, which was not run: `{command}` in that folder runs it")
         return 0
 
-    def build(self) -> Model:
+    def build(self, harness: Harness, what: str = "model") -> Model:
+        """Makes the model of a harness, or takes it from the cache."""
         for tool in ("yosys", "yosys-abc"):
             find_tool(tool)
-        (self.folder / "proof.sv").write_text(self.harness.text)
+        (self.folder / "proof.sv").write_text(harness.text)
         ticks = {f"{side}_clock": f"{side}_tick" for side in ("client", "manager")} if self.options.two_clocks else {}
         recipe = Recipe(
             "tlbridge_proof",
@@ -383,10 +430,35 @@ class Proof:
             ticks,
         )
         began = time.monotonic()
-        model, was_there = build(recipe, None if self.words.no_cache else cache_folder())
+        progress(f"{what}: yosys reads the design")
+        model, was_there = build(recipe, self.folder / "models" if self.words.no_cache else cache_folder())
         how = "from the cache" if was_there else f"in {time.monotonic() - began:.0f} s"
-        say(f"model of {len([label for label in model.labels if not is_cover(label)])} assertions, {how}")
+        say(f"{what} of {len([label for label in model.labels if not is_cover(label)])} assertions, {how}")
         return model
+
+    def prover(self, indices: Sequence[int]) -> Callable[[int], Verdict]:
+        """Returns how an assertion is proved.
+
+        First in a smaller model of its channel. It assumes the rules of this channel only, for D also those of A, and
+        the rules about outstanding requests of the watched source only. A proof with these assumptions is one with
+        all of them. If the assertion fails there, it is tried with all assumptions.
+        """
+        seconds = self.words.seconds
+        small: Dict[str, Tuple[Model, int]] = {}
+        wanted = {short_name(self.model.labels[index])[0].upper() for index in indices}
+        for letter in (one for one in self.harness.channels if one in wanted):
+            options = replace(self.options, all_sources=False, all_channels=False, watched=letter)
+            model = self.build(write_harness(self.design, options, cover=False), f"smaller model of {letter}")
+            small.update({label: (model, index) for index, label in enumerate(model.labels)})
+
+        def ask(index: int) -> Verdict:
+            found = engine.unbounded(*small[self.model.labels[index]], seconds)
+            if found.kind != FAILS:
+                return found
+            again = engine.unbounded(self.model, index, seconds)
+            return replace(again, seconds=found.seconds + again.seconds)
+
+        return ask
 
     def chosen(self) -> List[int]:
         """The numbers of the assertions to prove."""
@@ -410,71 +482,71 @@ class Proof:
         (2).
         """
         covers = [(index, label) for index, label in enumerate(self.model.labels) if is_cover(label)]
+        times = [label for _, label in covers if label == "SeesTime"]
         frames = max(COVER_FRAMES + self.words.reset_cycles, self.frames if self.options.two_clocks else 0)
+        needed = [index for index, label in covers if label.endswith(("SeesBeat", "SeesTime"))]
         questions = [
-            (index, lambda index=index: engine.bounded(self.model, index, frames, COVER_SECONDS)) for index, _ in covers
+            (index, partial(engine.bounded, self.model, index, frames, limit))
+            for index, _ in covers
+            for limit in [NEEDED_SECONDS if index in needed else COVER_SECONDS]
         ]
         missing: Dict[str, List[str]] = {}
         reached = 0
-        for index, found in engine.in_parallel(self.words.jobs, questions):
-            channel, _, name = short_name(self.model.labels[index]).partition(".")
+        for done, (index, found) in enumerate(engine.in_parallel(self.words.jobs, questions), 1):
+            self.progress("kinds of beats", done, len(questions))
+            channel, _, name = short_name(self.model.labels[index]).rpartition(".")
             if found.kind == FAILS:
                 reached += 1
             else:
                 missing.setdefault(channel.upper(), []).append(name)
+        within = f"{frames - self.words.reset_cycles} {self.unit}"
+        if "" in missing:  # SeesTime
+            raise ProveError(f"nothing is proved: the assumptions exclude every run of {within}. Check --assume")
         for channel, names in sorted(missing.items()):
             if "SeesBeat" in names:
                 raise ProveError(
-                    f"nothing is proved: no beat of channel {channel} can arrive at its receiver in "
-                    f"{frames - self.words.reset_cycles} {self.unit}. "
+                    f"nothing is proved: no beat of channel {channel} can arrive at its receiver in {within}. "
                     "The assumptions exclude every beat, or the design passes none on: check --assume, --tie and "
                     "the reset"
                 )
-        say(f"possible: {reached} of {len(covers)} kinds of beats arrive")
+        say(f"possible: {reached - len(times)} of {len(covers) - len(times)} kinds of beats arrive")
         for channel, names in sorted(missing.items()):
             listed = ", ".join(COVERS[name] for name in COVERS if name in names)
-            say(
-                f"  not seen on {channel} in {frames - self.words.reset_cycles} {self.unit}, so nothing is said of "
-                f"it: {listed}"
-            )
+            say(f"  not seen on {channel} in up to {within}, so nothing is said of it: {listed}")
 
     def search(self, indices: Sequence[int]) -> None:
-        """Looks for counterexamples, then for proofs."""
-        seconds = self.words.seconds
-        first = [(i, lambda i=i: engine.bounded(self.model, i, self.frames, seconds)) for i in indices]
-        total, done = len(first), 0
-        for index, found in engine.in_parallel(self.words.jobs, first):
-            done += 1
-            self.verdicts[index] = found
-            if found.kind == FAILS or not self.words.unbounded:
-                self.print_verdict(index)
-            self.progress("counterexamples", done, total)
+        """Looks for counterexamples, with --unbounded for proofs, then for counterexamples to what is still open."""
+        unbounded, seconds = self.words.unbounded, self.words.seconds
+        first = min(self.frames, FIRST_CYCLES + self.words.reset_cycles) if unbounded else self.frames
+
+        def look(what: str, left: Sequence[int], ask: Callable[[int], Verdict], is_last: bool) -> List[int]:
+            """Asks about some assertions, and returns those that are still open."""
+            questions = [(index, partial(ask, index)) for index in left]
+            for done, (index, found) in enumerate(engine.in_parallel(self.words.jobs, questions), 1):
+                before = self.verdicts.get(index)
+                if before is None or found.kind in (PROVED, FAILS) or found.frames > before.frames:
+                    self.verdicts[index] = found
+                if is_last or self.verdicts[index].kind in (PROVED, FAILS):
+                    self.print_verdict(index, found.seconds)
+                self.progress(what, done, len(left))
+            return [index for index in left if self.verdicts[index].kind not in (PROVED, FAILS)]
+
+        def bounded(frames: int, limit: int) -> Callable[[int], Verdict]:
+            return lambda index: engine.bounded(self.model, index, frames, limit)
+
+        is_last = not unbounded
+        left = look(
+            "counterexamples", indices, bounded(first, min(seconds, FIRST_SECONDS) if unbounded else seconds), is_last
+        )
         fails = any(found.kind == FAILS for found in self.verdicts.values())
-        if not self.words.unbounded:
-            return
-        left = [index for index in indices if self.verdicts[index].kind != FAILS]
-        if fails and not self.words.keep_going:
-            for index in left:
-                self.print_verdict(index)
-            return
-        second = [(i, lambda i=i: engine.unbounded(self.model, i, seconds)) for i in left]
-        total, done = len(second), 0
-        for index, found in engine.in_parallel(self.words.jobs, second):
-            done += 1
-            if found.kind in (PROVED, FAILS):
-                self.verdicts[index] = found
-            self.print_verdict(index, found.seconds)
-            self.progress("proofs", done, total)
+        if unbounded and (not fails or self.words.keep_going):
+            is_last = first == self.frames
+            left = look("proofs", left, self.prover(left), is_last)
+        if not is_last:
+            look("counterexamples", left, bounded(self.frames, seconds), True)
 
     def progress(self, what: str, done: int, total: int) -> None:
-        if sys.stderr.isatty():
-            end = "\n" if done == total else ""
-            print(
-                f"\r{what}: {done} of {total}, {time.monotonic() - self.began:.0f} s ",
-                end=end,
-                file=sys.stderr,
-                flush=True,
-            )
+        progress(f"{what}: {done} of {total}, {time.monotonic() - self.began:.0f} s" if done < total else "")
 
     def words_of(self, found: Verdict) -> str:
         if found.kind == PROVED:

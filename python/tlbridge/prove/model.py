@@ -10,12 +10,13 @@ from dataclasses import dataclass, field
 from pathlib import Path
 from typing import Dict, Iterator, List, Mapping, Optional, Sequence, Tuple
 
-from .clocks import settle_clocks
+from .clocks import line_of, settle_clocks
 from .errors import TOOL, UNREADABLE, ProveError
 from .tools import run_tool
 
 YOSYS_SECONDS = 4 * 3600.0
 KEPT_MODELS = 40  # in the cache
+MOST_MEMORY_BITS = 1 << 16  # of one memory of the design
 SAFE_PATH = re.compile(r"[A-Za-z0-9_./+,:@%=-]+")
 
 
@@ -27,7 +28,8 @@ class Recipe:
     assertions. `keep` and `assume` are regular expressions for labels: with `keep` other assertions are removed, and
     those that match `assume` become assumptions. `free_initial` names the instance whose registers begin with any
     value. `probes` maps a wire of the top to a wire inside the design. `zero_initial`: registers without an initial
-    value begin with 0.
+    value begin with 0. `forget` is a regular expression for names of assumptions, which are removed; `cuts` names wires
+    that become free inputs. Both only allow more.
     """
 
     top: str
@@ -43,6 +45,8 @@ class Recipe:
     probes: Mapping[str, str] = field(default_factory=dict)
     zero_initial: bool = False
     design_is_formal: bool = False
+    forget: str = ""
+    cuts: Tuple[str, ...] = ()
 
 
 @dataclass(frozen=True)
@@ -114,7 +118,8 @@ def key_of(recipe: Recipe) -> str:
             }
         ).encode()
     )
-    digest.update(Path(__file__).read_bytes())
+    for name in ("model.py", "clocks.py"):
+        digest.update((Path(__file__).parent / name).read_bytes())
     files = [*recipe.design_files, *recipe.proof_files]
     for path in [*map(Path, files), *included_files(files, recipe.includes)]:
         digest.update(hashlib.sha256(path.read_bytes()).digest())
@@ -145,7 +150,7 @@ def build(recipe: Recipe, cache: Optional[Path]) -> Tuple[Model, bool]:
         ) from error
     try:
         _made(recipe, folder)
-        for name in ("before.il", "clocked.json", "settled.json"):
+        for name in ("flat.il", "before.il", "clocked.json", "settled.json"):
             (folder / name).unlink(missing_ok=True)
         try:
             folder.rename(place)
@@ -178,12 +183,17 @@ def _made(recipe: Recipe, folder: Path) -> Model:
     steps = [f"read_verilog -sv -formal{flags} {' '.join(recipe.proof_files)}"]
     if recipe.design_files:
         steps.append(f"read_verilog -sv {as_design}{flags} {' '.join(recipe.design_files)}")
-    steps += [f"hierarchy -check -top {recipe.top}", "proc", "flatten", "memory_map -formal"]
+    steps += [f"hierarchy -check -top {recipe.top}", "proc", "flatten", "write_rtlil flat.il"]
+    _yosys(steps, folder)
+    check_memories((folder / "flat.il").read_text(errors="replace"))
+    steps = ["read_rtlil flat.il", "memory_map -formal"]
     if recipe.free_initial:
         steps.append(f"setattr -unset init w:{recipe.free_initial}.*")
     steps += ["async2sync", "chformal -assume -early", f"cd {recipe.top}"]
     steps += [f"connect -nounset -set {name} {inner}" for name, inner in recipe.probes.items()]
-    steps += ["cd ..", "opt_clean", "write_rtlil before.il", "select -write labels.all t:$assert"]
+    steps += [f"cutpoint w:{name}" for name in recipe.cuts]
+    steps += ["cd ..", "opt_clean", "write_rtlil before.il"]
+    steps += ["select -write labels.all t:$assert", "select -write assumed.all t:$assume"]
     _yosys(steps, folder)
     names = (folder / "labels.all").read_text().split()
     script: List[str] = []
@@ -193,11 +203,15 @@ def _made(recipe: Recipe, folder: Path) -> Model:
             script.append(f"chformal -assert -assert2assume {name}")
         elif (recipe.drop and re.search(recipe.drop, label)) or (recipe.keep and not re.search(recipe.keep, label)):
             script.append(f"chformal -assert -remove {name}")
+    if recipe.forget:
+        assumed = (folder / "assumed.all").read_text().split()
+        script += [f"chformal -assume -remove {name}" for name in assumed if re.search(recipe.forget, name)]
     (folder / "labels.ys").write_text("\n".join(script) + "\n")
     steps = ["read_rtlil before.il", "script labels.ys", "opt -full", "dffunmap", "opt_clean"]
     _yosys([*steps, "write_json clocked.json"], folder)
     settle_clocks(folder / "clocked.json", folder / "settled.json", recipe.ticks)
-    steps = ["read_json settled.json", "dffunmap", "setundef -anyseq"]
+    (folder / "numbers.il").write_text("autoidx 100000000\n")  # yosys' new names differ from those in the file
+    steps = ["read_rtlil numbers.il", "read_json settled.json", "dffunmap", "setundef -anyseq"]
     if recipe.zero_initial:
         steps.append("setundef -zero -init")
     steps += ["opt -fast", "techmap", "opt -fast", "dffunmap", "opt_clean", "abc -g AND -fast", "opt_clean"]
@@ -206,12 +220,27 @@ def _made(recipe: Recipe, folder: Path) -> Model:
     labels = (folder / "labels.last").read_text().split()
     if not labels:
         raise ProveError("the model has no assertion: nothing is proved", TOOL)
-    _simplify(folder, len(labels))
+    simplify(folder, len(labels))
     (folder / "labels").write_text("\n".join(labels) + "\n")
     return _read(folder)
 
 
-def _simplify(folder: Path, outputs: int) -> None:
+def check_memories(text: str) -> None:
+    """Refuses memories that are too large to become registers. `text` is a flat design in RTLIL. Errors: status 3."""
+    for found in re.finditer(
+        r'(?:attribute \\src "([^"]*)"\s+)?memory width (\d+) size (\d+)(?: offset \d+)? \\(\S+)', text
+    ):
+        bits = int(found[2]) * int(found[3])
+        if bits > MOST_MEMORY_BITS:
+            place = line_of(found[1] or found[4])
+            raise ProveError(
+                f"{place}: the memory {found[4]} has {bits} bits, which would become registers, and at most "
+                f"{MOST_MEMORY_BITS} have a model: make it smaller by a parameter (-P NAME=VALUE)",
+                UNREADABLE,
+            )
+
+
+def simplify(folder: Path, outputs: int) -> None:
     """Merges equivalent registers once for all assertions."""
     steps = ["read_aiger model.aig", "fold", "strash", *2 * ["scorr", "dc2"], "write_aiger small.aig"]
     done = run_tool(["yosys-abc", "-c", "; ".join([*steps, "print_stats", "echo simplified"])], YOSYS_SECONDS, folder)
