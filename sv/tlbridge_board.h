@@ -84,6 +84,7 @@ struct tl_scoreboard {
     struct tlbridge_sides *bridge; /* the proved bridge */
     void (*status_text)(uint8_t status, tl_text *text);
     unsigned widths[2]; /* of each link, in bytes */
+    unsigned powers[2]; /* and the power of two that it is */
     unsigned flags;
     board_queue near[TL_CHANNELS], far[TL_CHANNELS];
     board_expectations due[TL_CHANNELS];
@@ -98,7 +99,7 @@ struct tl_scoreboard {
     board_view views[2];
     board_suspect suspects[2]; /* of A on the client's link, of D on the manager's */
     uint64_t now;
-    bool is_left; /* whether the bridge holds beats in a stage or a ring, because an inbox is full */
+    bool is_left; /* whether the bridge may hold beats in a stage or a ring */
     bool ended, no_memory, is_dead;
     char *text; /* the messages that were not read yet: for each a time, then its characters and a zero */
     size_t text_bytes, text_read, text_room;
@@ -134,9 +135,25 @@ void tl_board_say_fault(board_line *line, const tl_scoreboard *board, uint8_t st
 
 /* ---- tlbridge_board_link.c */
 
-unsigned tl_board_width(const tl_scoreboard *board, int link);
-int tl_board_near_link(int channel);
-bool tl_board_carries(int channel, const tl_beat *beat);
+static inline unsigned tl_board_width(const tl_scoreboard *board, int link) {
+    return board->widths[link];
+}
+
+static inline int tl_board_near_link(int channel) {
+    return channel % 2 == 0 ? TL_CLIENT_LINK : TL_MANAGER_LINK;
+}
+
+/* Returns whether a beat carries data (TileLink: opcode tables). */
+static inline bool tl_board_carries(int channel, const tl_beat *beat) {
+    switch (channel) {
+    case TL_A:
+    case TL_B: return beat->opcode < 4;
+    case TL_C: return beat->opcode % 2 == 1;
+    case TL_D: return beat->opcode == 1 || beat->opcode == 5;
+    default: return false;
+    }
+}
+
 uint32_t tl_board_beats(int channel, const tl_beat *beat, unsigned width);
 bool tl_board_same_head(int channel, const tl_beat *one, const tl_beat *other);
 /* Returns whether two heads belong to one message, although one of them may be wrong. */

@@ -44,8 +44,8 @@ board_entry *tl_board_queue_add(board_queue *queue, uint64_t time, const tl_beat
     added->channel = 0;
     added->was_refused = false;
     added->number = queue->came++;
-    memset(added->lanes, 0, sizeof added->lanes);
-    if (lanes != NULL) memcpy(added->lanes, lanes, width);
+    if (lanes == NULL) memset(added->lanes, 0, width);
+    else memcpy(added->lanes, lanes, width);
     return added;
 }
 
@@ -74,7 +74,7 @@ void tl_board_differs(tl_scoreboard *board, int channel, uint64_t time, const ch
     if (board->differ[channel] <= MOST_LINES) tl_board_add_line(board, time, line);
     if (board->differ[channel] == MOST_LINES) {
         char more[64];
-        snprintf(more, sizeof more, "further differences on %c are only counted", 'A' + channel);
+        (void)snprintf(more, sizeof more, "further differences on %c are only counted", 'A' + channel);
         tl_board_add_line(board, time, more);
     }
 }

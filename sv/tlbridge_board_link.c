@@ -4,24 +4,6 @@
 
 /* ---- Heads */
 
-unsigned tl_board_width(const tl_scoreboard *board, int link) {
-    return board->widths[link];
-}
-
-int tl_board_near_link(int channel) {
-    return channel % 2 == 0 ? TL_CLIENT_LINK : TL_MANAGER_LINK;
-}
-
-bool tl_board_carries(int channel, const tl_beat *beat) {
-    switch (channel) {
-    case TL_A:
-    case TL_B: return beat->opcode < 4;
-    case TL_C: return beat->opcode % 2 == 1;
-    case TL_D: return beat->opcode == 1 || beat->opcode == 5;
-    default: return false;
-    }
-}
-
 uint32_t tl_board_beats(int channel, const tl_beat *beat, unsigned width) {
     uint32_t bytes = (uint32_t)1 << (beat->size & 15);
     return tl_board_carries(channel, beat) && bytes > width ? bytes / width : 1;
@@ -61,7 +43,8 @@ void tl_board_end_cycle(tl_scoreboard *board) {
         board_suspect *seen = &board->suspects[link];
         if (!seen->there) continue;
         seen->there = false;
-        int open = board->views[link].open[seen->source], channel = link == TL_CLIENT_LINK ? TL_A : TL_D;
+        int channel = link == TL_CLIENT_LINK ? TL_A : TL_D;
+        int8_t open = board->views[link].open[seen->source];
         if (channel == TL_A ? open <= 1 : open >= 0) continue;
         board_line line = {.length = 0};
         tl_board_say(&line, "near %c beat %" PRIu64 ": source %04x: ", 'A' + channel, seen->number, seen->source);

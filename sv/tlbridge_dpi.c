@@ -95,7 +95,7 @@ const char *tlbridge_status_name(uint8_t answer) {
 const char *tlbridge_status_text(uint8_t answer) {
     static char said[TL_NAME_BYTES + TL_SENTENCE_BYTES + 2];
     tl_text text = text_of(answer);
-    snprintf(said, sizeof said, "%s: %s", text.name, text.sentence);
+    (void)snprintf(said, sizeof said, "%s: %s", text.name, text.sentence);
     return said;
 }
 

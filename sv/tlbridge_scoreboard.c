@@ -38,9 +38,13 @@ static void say_lanes(board_line *line, const uint8_t *lanes, const bool *compar
     }
 }
 
+static bool is_masked(const tl_scoreboard *board, int channel, const tl_beat *due) {
+    return channel <= TL_B && due->opcode == PUT_PARTIAL_DATA && !(board->flags & TL_COMPARE_UNMASKED);
+}
+
 static void compared_lanes(const tl_scoreboard *board, int channel, const tl_beat *due, uint64_t home, bool *compared) {
     unsigned width = tl_board_width(board, !tl_board_near_link(channel));
-    bool masked = channel <= TL_B && due->opcode == PUT_PARTIAL_DATA && !(board->flags & TL_COMPARE_UNMASKED);
+    bool masked = is_masked(board, channel, due);
     for (unsigned lane = 0; lane < width; lane++)
         compared[lane] = tl_board_carries(channel, due) && tl_board_is_active(lane, home, due->size, width) && (!masked || tl_mask_has(due, lane));
 }
@@ -51,13 +55,35 @@ static uint64_t home_of(const tl_scoreboard *board, int channel, const tl_beat *
     return channel == TL_D ? board->homes[due->source] : due->address;
 }
 
+/* Returns whether the compared lanes of two far beats have the same bytes. */
+static bool has_same_data(const tl_scoreboard *board, int channel, const uint8_t *got_lanes, const tl_beat *due, const uint8_t *due_lanes) {
+    if (!tl_board_carries(channel, due)) return true;
+    unsigned width = tl_board_width(board, !tl_board_near_link(channel)), first = 0, count = width;
+    if (due->size <= MOST_SIZE && (1U << due->size) < width) {
+        count = 1U << due->size;
+        first = (unsigned)(home_of(board, channel, due) & (width - 1) & ~(uint64_t)(count - 1));
+    }
+    if (memcmp(got_lanes + first, due_lanes + first, count) == 0) return true;
+    if (!is_masked(board, channel, due)) return false;
+    for (unsigned lane = first; lane < first + count; lane++)
+        if (tl_mask_has(due, lane) && got_lanes[lane] != due_lanes[lane]) return false;
+    return true;
+}
+
+static bool has_same_fields(int channel, const tl_beat *got, const tl_beat *due) {
+    if (!tl_board_same_head(channel, got, due)) return false;
+    if (channel <= TL_B && (got->mask != due->mask || got->mask_high != due->mask_high)) return false;
+    return channel == TL_E || (got->corrupt != 0) == (due->corrupt != 0);
+}
+
+/* Compares a far beat with the expected one, and reports each field that differs. */
 static void compare(tl_scoreboard *board, int channel, const board_entry *came, const tl_beat *due, const uint8_t *due_lanes) {
-    unsigned width = tl_board_width(board, !tl_board_near_link(channel));
     const tl_beat *got = &came->beat;
-    bool compared[TL_WIDEST] = {false}, same = true;
+    bool is_same = has_same_data(board, channel, came->lanes, due, due_lanes);
+    if (is_same && has_same_fields(channel, got, due)) return;
+    unsigned width = tl_board_width(board, !tl_board_near_link(channel));
     board_line line = {.length = 0};
     tl_board_say(&line, "far %c beat %" PRIu64, 'A' + channel, came->number);
-    size_t without = line.length;
     if (channel != TL_E) {
         say_number(&line, "opcode", 1, got->opcode, due->opcode);
         say_number(&line, "param", 1, got->param, due->param);
@@ -69,18 +95,43 @@ static void compare(tl_scoreboard *board, int channel, const board_entry *came, 
     if (channel <= TL_B) say_mask(&line, got, due, width);
     if (channel == TL_D) say_number(&line, "denied", 1, got->denied != 0, due->denied != 0);
     if (channel != TL_E) say_number(&line, "corrupt", 1, got->corrupt != 0, due->corrupt != 0);
-    compared_lanes(board, channel, due, home_of(board, channel, due), compared);
-    for (unsigned lane = 0; lane < width; lane++) same &= !compared[lane] || came->lanes[lane] == due_lanes[lane];
-    if (!same) {
+    if (!is_same) {
+        bool compared[TL_WIDEST] = {false};
+        compared_lanes(board, channel, due, home_of(board, channel, due), compared);
         tl_board_say(&line, "; data got ");
         say_lanes(&line, came->lanes, compared, width);
         tl_board_say(&line, ", expected ");
         say_lanes(&line, due_lanes, compared, width);
     }
-    if (line.length != without) tl_board_differs(board, channel, came->time, line.text);
+    tl_board_differs(board, channel, came->time, line.text);
 }
 
 /* ---- How the beats go through the bridge */
+
+/* Pumps and fetches until nothing moves, and notes whether beats are left in a stage or a ring, because an inbox is full. */
+static void settle(tl_scoreboard *board) {
+    tl_standings all;
+    board->is_left = false;
+    if (board->bridge->calls->settle(&board->bridge->client, &board->bridge->manager, &all) != TL_OK) return;
+    const tl_counts counts[TL_CHANNELS] = {all.a, all.b, all.c, all.d, all.e};
+    for (int channel = 0; channel < TL_CHANNELS; channel++) board->is_left |= counts[channel].staged + counts[channel].in_ring > 0;
+}
+
+/* Returns whether the bridge takes a beat of a channel. It is settled only if it cannot otherwise, since that takes most of the time. */
+static bool is_ready(tl_scoreboard *board, int channel) {
+    if (tlbridge_ready_on(board->bridge, channel)) return true;
+    if (!board->is_left) return false;
+    settle(board);
+    return tlbridge_ready_on(board->bridge, channel);
+}
+
+/* Takes the next far beat of a channel, and settles the bridge if there is none yet. Returns whether there was one. */
+static bool take(tl_scoreboard *board, int channel, tl_beat *beat, uint8_t *lanes) {
+    if (tlbridge_take_on(board->bridge, channel, beat, lanes)) return true;
+    if (!board->is_left) return false;
+    settle(board);
+    return tlbridge_take_on(board->bridge, channel, beat, lanes);
+}
 
 static void expect(tl_scoreboard *board, int channel, board_expected more) {
     board_expectations *due = &board->due[channel];
@@ -109,10 +160,9 @@ static void drop_expected(tl_scoreboard *board, int channel) {
 
 /* Returns the number of far beats of a message that are expected after `beats` of its near beats. */
 static uint32_t due_after(const tl_scoreboard *board, int channel, const tl_beat *head, uint32_t beats) {
-    unsigned near = tl_board_width(board, tl_board_near_link(channel)), far = tl_board_width(board, !tl_board_near_link(channel));
-    uint32_t bytes = (uint32_t)1 << (head->size & 15);
     if (!tl_board_carries(channel, head)) return beats;
-    return beats * (bytes < near ? bytes : near) / (bytes < far ? bytes : far);
+    unsigned size = head->size & 15, near = board->powers[tl_board_near_link(channel)], far = board->powers[!tl_board_near_link(channel)];
+    return beats << (size < near ? size : near) >> (size < far ? size : far);
 }
 
 /* Notes the head of a message whose first beat the bridge accepted. */
@@ -133,6 +183,7 @@ static uint8_t offer_beat(tl_scoreboard *board, int channel, const tl_beat *beat
     board_message *message = &board->messages[channel];
     uint8_t answer = tlbridge_offer_on(board->bridge, channel, beat, lanes);
     if (answer != TL_OK) return answer;
+    board->is_left = true;
     if (message->came == 0) begin_message(board, channel, beat, refused);
     if (refused != NULL) {
         message->is_spoilt = true;
@@ -259,7 +310,7 @@ static void recover(tl_scoreboard *board, int channel, board_entry *near, uint8_
 static bool fill_up(tl_scoreboard *board, int channel) {
     board_message *message = &board->messages[channel];
     static const uint8_t no_lanes[TL_WIDEST];
-    if (message->fill == 0 || !tlbridge_ready_on(board->bridge, channel)) return false;
+    if (message->fill == 0 || !is_ready(board, channel)) return false;
     tl_beat filler = message->head, head = message->head;
     filler.mask = filler.mask_high = UINT64_MAX;
     if (channel <= TL_B) lawful_mask(board, channel, &head, &filler);
@@ -296,12 +347,12 @@ static uint8_t offer_front(tl_scoreboard *board, int channel, const board_entry 
 static bool offer(tl_scoreboard *board, int channel) {
     board_queue *near = &board->near[channel];
     bool moved = false;
-    while (!board->is_dead) {
+    while (!board->is_dead && (near->count > 0 || board->messages[channel].fill > 0)) {
         if (fill_up(board, channel) || skip(board, channel)) {
             moved = true;
             continue;
         }
-        if (near->count == 0 || board->messages[channel].fill > 0 || !tlbridge_ready_on(board->bridge, channel)) break;
+        if (near->count == 0 || board->messages[channel].fill > 0 || !is_ready(board, channel)) break;
         board_entry *front = tl_board_queue_front(near);
         uint8_t answer = offer_front(board, channel, front);
         if (answer == TL_SOURCE_BUSY || answer == TL_NO_REQUEST) break;
@@ -323,7 +374,7 @@ static bool is_passed_over(tl_scoreboard *board, int channel, board_expected *ne
     board_queue *far = &board->far[channel];
     tl_beat due;
     uint8_t lanes[TL_WIDEST];
-    if (next->is_due && !tlbridge_take_on(board->bridge, channel, &due, lanes)) return false;
+    if (next->is_due && !take(board, channel, &due, lanes)) return false;
     next->is_due = false;
     for (; next->most > 0 && far->count > 0; next->most--, tl_board_queue_drop(far)) {
         const tl_beat *came = &tl_board_queue_front(far)->beat;
@@ -343,7 +394,7 @@ static bool judge(tl_scoreboard *board, int channel) {
         if (!next->is_judged) {
             if (!is_passed_over(board, channel, next)) break;
         } else {
-            if (far->count == 0 || !tlbridge_take_on(board->bridge, channel, &due, lanes)) break;
+            if (far->count == 0 || !take(board, channel, &due, lanes)) break;
             compare(board, channel, tl_board_queue_front(far), &due, lanes);
             tl_board_queue_drop(far);
         }
@@ -352,25 +403,12 @@ static bool judge(tl_scoreboard *board, int channel) {
     return moved;
 }
 
-/* Pumps and fetches until nothing moves. Returns whether beats are left in a stage or a ring, because an inbox is full. */
-static bool settle(tl_scoreboard *board) {
-    tl_standings all;
-    if (board->bridge->calls->settle(&board->bridge->client, &board->bridge->manager, &all) != TL_OK) return false;
-    const tl_counts counts[TL_CHANNELS] = {all.a, all.b, all.c, all.d, all.e};
-    for (int channel = 0; channel < TL_CHANNELS; channel++)
-        if (counts[channel].staged + counts[channel].in_ring > 0) return true;
-    return false;
-}
-
-/* Takes the beats that came through the bridge as far as they go. The bridge moves only after an offer, or if beats were left in it. */
+/* Passes the waiting beats through the bridge as far as they go. */
 static void advance(tl_scoreboard *board) {
     for (bool moved = !board->is_dead; moved;) {
-        bool offered = false;
         moved = false;
-        for (int channel = 0; channel < TL_CHANNELS; channel++) offered |= offer(board, channel);
-        if (offered || board->is_left) board->is_left = settle(board);
+        for (int channel = 0; channel < TL_CHANNELS; channel++) moved |= offer(board, channel);
         for (int channel = 0; channel < TL_CHANNELS; channel++) moved |= judge(board, channel);
-        moved |= offered;
     }
 }
 
@@ -476,8 +514,7 @@ static void not_come(tl_scoreboard *board, int channel) {
     uint8_t lanes[TL_WIDEST];
     uint64_t count = 0;
     for (board_expected *next; (next = next_expected(board, channel)) != NULL; drop_expected(board, channel)) {
-        settle(board);
-        if (next->is_due && !tlbridge_take_on(board->bridge, channel, &due, lanes)) break;
+        if (next->is_due && !take(board, channel, &due, lanes)) break;
         if (next->is_judged && count++ == 0) first = due;
     }
     if (count == 0) return;
@@ -617,6 +654,8 @@ tl_scoreboard *tl_scoreboard_open(unsigned client, unsigned manager, unsigned fl
     board->bridge = calloc(1, sizeof *board->bridge);
     board->widths[TL_CLIENT_LINK] = client;
     board->widths[TL_MANAGER_LINK] = manager;
+    for (int link = 0; link < 2; link++)
+        while (1U << board->powers[link] < board->widths[link]) board->powers[link]++;
     board->status_text = calls->text;
     board->flags = flags;
     if (board->bridge != NULL) board->bridge->calls = calls;
@@ -628,7 +667,7 @@ tl_scoreboard *tl_scoreboard_open(unsigned client, unsigned manager, unsigned fl
 void tl_scoreboard_free(tl_scoreboard *board) {
     if (board == NULL) return;
     if (!board->ended && tl_scoreboard_beats(board) > 0)
-        fprintf(stderr, "tlbridge scoreboard: freed without tl_scoreboard_finish, so missing beats were not reported: %" PRIu64 " differences in %" PRIu64
+        (void)fprintf(stderr, "tlbridge scoreboard: freed without tl_scoreboard_finish, so missing beats were not reported: %" PRIu64 " differences in %" PRIu64
                 " beats so far\n", tl_scoreboard_differences(board), tl_scoreboard_beats(board));
     if (board->bridge != NULL) board->bridge->calls->free(&board->bridge->client, &board->bridge->manager);
     free(board->bridge);

@@ -147,3 +147,12 @@ def beat_count(channel: str, opcode: int, size: int, width: int) -> int:
     """Returns the number of beats of a message of 2^size bytes on a link of `width` bytes (TileLink: burst
     messages)."""
     return max((1 << size) // width, 1) if opcode in CARRIES_DATA[channel] else 1
+
+
+def active_lanes(size: int, address: int, width: int) -> int:
+    """Returns bit i for each lane that has a byte of a message of 2^size bytes at this address, on a link of `width`
+    bytes."""
+    if 1 << size >= width:
+        return (1 << width) - 1
+    first = address & width - 1 & ~((1 << size) - 1)
+    return ((1 << (1 << size)) - 1) << first

@@ -4,7 +4,8 @@ rules.
 import random
 from dataclasses import replace
 
-from checker_model import CHANNELS, NAMES, PARAMS, Beat, Checker, Settings, answers_a_request, has_data
+from checker_model import CHANNELS, NAMES, Beat, Checker, Settings, answers_a_request, has_data
+from tlbridge.traffic import Draws
 
 
 def judged(settings, cycles):
@@ -125,6 +126,7 @@ def in_flight(settings):
 class Cycles:
     def __init__(self, settings: Settings, seed):
         self.settings, self.random = settings, random.Random(f"{seed} {settings}")
+        self.draws = Draws(self.random, settings.SOURCE_BITS, settings.SINK_BITS, settings.ADDRESS_BITS)
         self.checker = Checker(settings)
         bits = settings.SOURCE_BITS
         self.sources = sorted(
@@ -138,12 +140,11 @@ class Cycles:
     def first(self, channel):
         choose, settings, link = self.random, self.settings, self.checker.link
         opcode = choose.choice([i for i, name in enumerate(NAMES[channel]) if name != "-"])
-        name = NAMES[channel][opcode]
         beat = (settings.DATA_BYTES - 1).bit_length()
         size = min(
             choose.randrange(13) if self.chance(4) else choose.randrange(beat + 3), 12, (1 << settings.SIZE_BITS) - 1
         )
-        made = Beat(opcode, choose.randrange(PARAMS.get(name, 1)), size, choose.choice(self.sources))
+        made = Beat(**self.draws.head(channel, opcode, size, source=choose.choice(self.sources)))
         if channel == "A" and self.chance(80):
             free = [source for source in self.sources if source not in link.in_flight]
             made = replace(made, source=choose.choice(free or self.sources))
@@ -155,10 +156,7 @@ class Cycles:
                 made = replace(made, source=request.source, size=request.size)
                 if has_data(channel, made) and made.size > 9 and self.chance(90):
                     made = replace(made, opcode=0, param=0)
-        if channel == "D":
-            return replace(made, sink=choose.getrandbits(settings.SINK_BITS), denied=choose.randrange(2))
-        address = choose.getrandbits(settings.ADDRESS_BITS) >> made.size << made.size
-        return replace(made, address=address & ((1 << settings.ADDRESS_BITS) - 1))
+        return made
 
     def beat(self, channel):
         link = self.checker.link

@@ -13,6 +13,7 @@ from pathlib import Path
 from typing import Dict, List, Optional, Tuple
 
 import pytest
+from once import made_once
 from project import ROOT, SV, needs_tools
 from tlbridge import levels
 from tlbridge.protocol import CARRIES_DATA, CHANNELS, OPCODES, RESPONSES
@@ -110,25 +111,24 @@ class Bench:
 
     system: str
     room: Path
-    compiled: Dict[Tuple[int, int, int], List[str]] = field(default_factory=dict)
+    factory: pytest.TempPathFactory
 
     def command(self, width: int, resync: int, reports: int) -> List[str]:
-        key = (width, resync, reports)
-        if key not in self.compiled:
-            made = self.room / "_".join(map(str, key))
-            values = {"DATA_BYTES": width, "RESYNC_AFTER_FAULT": resync, "MAX_REPORTS": reports}
+        values = {"DATA_BYTES": width, "RESYNC_AFTER_FAULT": resync, "MAX_REPORTS": reports}
+
+        def make(folder: Path) -> None:
             if self.system == "icarus":
-                words = ["iverilog", "-g2012", "-s", "levels", "-o", str(made)]
+                words = ["iverilog", "-g2012", "-s", "levels", "-o", str(folder / "bench")]
                 words += [f"-Plevels.{name}={value}" for name, value in values.items()]
-                self.compiled[key] = ["vvp", "-n", str(made)]
             else:
                 words = ["verilator", "--binary", "--timing", "--assert", "-j", "2", "-Wno-fatal", "-Wno-lint"]
-                words += ["--top-module", "levels", "--Mdir", str(made), "-o", "bench"]
+                words += ["--top-module", "levels", "--Mdir", str(folder), "-o", "bench"]
                 words += [f"-G{name}={value}" for name, value in values.items()]
-                self.compiled[key] = [str(made / "bench"), "+verilator+error+limit+100000"]
             done = subprocess.run([*words, str(CHECKER), str(BENCH)], capture_output=True, text=True, timeout=LIMIT)
             assert done.returncode == 0, done.stderr
-        return self.compiled[key]
+
+        bench = made_once(self.factory, f"levels_{self.system}_{width}_{resync}_{reports}", make) / "bench"
+        return ["vvp", "-n", str(bench)] if self.system == "icarus" else [str(bench), "+verilator+error+limit+100000"]
 
     def run(self, cycles: List[Optional[Cycle]], width: int = 8, resync: int = 1, reports: int = 0) -> "Ran":
         path = self.room / "cycles"
@@ -159,7 +159,7 @@ class Ran:
 @pytest.fixture(scope="module", params=SYSTEMS)
 def bench(request: pytest.FixtureRequest, tmp_path_factory: pytest.TempPathFactory) -> Bench:
     needs_tools(*(("iverilog", "vvp") if request.param == "icarus" else ("verilator", "g++", "make")))
-    return Bench(request.param, tmp_path_factory.mktemp("levels"))
+    return Bench(request.param, tmp_path_factory.mktemp("levels"), tmp_path_factory)
 
 
 def every_message(width: int) -> List[Cycle]:

@@ -1,18 +1,19 @@
-"""The maker of lawful traffic, by a seed: of two links at once with its times, and as a trace.
+"""Lawful traffic of two links at once with its times, drawn by tlbridge.traffic, and mistakes in it.
 
 An event is a beat that a link accepts at a time, or a change of a link's reset. `exchange` makes lawful traffic of all
 five channels, with the
 far beats that tlbridge-model gives; `flipped` and others plant a mistake in it, and `reported` says in which words a
 scoreboard has to report the
-difference, by nothing but the rules of docs/SCOREBOARD.md. `TraceMaker` makes a trace, whose beats have no time.
+difference, by nothing but the rules of docs/SCOREBOARD.md.
 """
 import random
 from dataclasses import dataclass, field, replace
 from functools import lru_cache
-from typing import Dict, List, Optional, Tuple
+from typing import Dict, List, Tuple
 
 from project import MODEL, script
-from tables import FIELDS, FROM_CLIENT, MASKED, NUMBERS, OPCODES, RELEASE_ACK, near_width
+from tables import FIELDS, FROM_CLIENT, NUMBERS, OPCODES
+from tlbridge.traffic import Draws
 
 model = script(MODEL)
 
@@ -70,8 +71,8 @@ class Exchange:
 
     def __init__(self, client, manager, seed=1, step=10, id_bits=16):
         self.widths = {CLIENT: client, MANAGER: manager}
-        self.random = random.Random(f"{client} {manager} {seed}")
-        self.step, self.time, self.id_bits = step, 10, id_bits
+        self.draws = Draws(random.Random(f"{client} {manager} {seed}"), id_bits, id_bits)
+        self.step, self.time = step, 10
         self.numbers = {(link, channel): 0 for link in NAMES for channel in "ABCDE"}
         self.events: List[Event] = []
 
@@ -79,32 +80,15 @@ class Exchange:
         self.time += max(self.step, least)
 
     def head(self, channel, opcode, size, **more):
-        choose = self.random
-        if channel == "E":
-            return {"sink": choose.getrandbits(self.id_bits), **more}
-        kind = OPCODES[channel][opcode]
-        head = {
-            "opcode": opcode,
-            "param": choose.randrange(kind.params),
-            "size": size,
-            "source": choose.getrandbits(self.id_bits),
-        }
-        if channel == "D":
-            head.update(sink=choose.getrandbits(self.id_bits), denied=choose.randrange(2))
-        else:
-            head["address"] = choose.getrandbits(64) >> size << size
-        return {**head, **more}
+        return self.draws.head(channel, opcode, size, **more)
 
     def message(self, channel, head, home=None):
         """A lawful message with bytes, mask and corrupt bits at random, on all lanes."""
         width = self.widths[near_link(channel)]
         made = model.Message(channel, head, home=head.get("address", 0) if home is None else home)
-        for at in range(made.beat_count(width)):
-            mask = made.active_lanes(at, width) if channel in "AB" else 0
-            if is_partial(made):
-                mask &= self.random.getrandbits(width)
-            corrupt = int(made.has_data and self.random.random() < 0.3)
-            made.beats.append(model.Beat(head, mask, self.random.randbytes(width) if channel != "E" else b"", corrupt))
+        for beat in self.draws.beats(channel, head, width, made.home, corrupt=0.6):
+            lanes = beat.data.to_bytes(width, "little") if channel != "E" else b""
+            made.beats.append(model.Beat(head, beat.mask, lanes, beat.corrupt))
         return made
 
     def add(self, link, channel, beat, at, message, count, time=None):
@@ -357,170 +341,3 @@ def packed(events):
         seen.add((event.link, event.channel))
         made.append(replace(event, time=time))
     return made
-
-
-# ---- Traces
-
-
-@dataclass(frozen=True)
-class TraceOptions:
-    """Near beats until there are `beats` of them, or three times as many far ones."""
-
-    client: int  # the width of each link, in bytes
-    manager: int
-    beats: int
-    seed: int
-    sources: int = 0  # draw from only so many: they are used again at once, often amid the rest of the last response
-    unique: bool = False  # use each source for one request on A only
-    outstanding: int = 1 << 16  # the most requests without a response at a time
-    largest: int = 12  # size
-    mix: Tuple[int, ...] = (5, 5, 2, 2, 1, 1)  # shares of A, D, B, C, E, ReleaseAck
-    kind: Optional[int] = None  # only this opcode on A and B, AccessAckData on D
-    size: Optional[int] = None  # only this one
-    source_bits: int = 8
-    sink_bits: int = 8
-    address_bits: int = 64
-
-
-class TraceMaker:
-    """Random lawful traffic as a trace, whose beats have no time.
-
-    Lanes without a byte hold anything; masks of PutPartialData, corrupt, denied, params and ids are random. Every
-    request is answered, at some
-    later place and in any order.
-    """
-
-    def __init__(self, options: TraceOptions) -> None:
-        o = self.options = options
-        self.random = random.Random(f"{o.client} {o.manager} {o.seed}")
-        self.version = 2 if max(o.client, o.manager) == 128 or max(o.source_bits, o.sink_bits) > 8 else 1
-        self.digits = 2 * self.version
-        self.near = {k: near_width(k, o.client, o.manager) for k in "ABCDE"}
-        self.far = {k: near_width(k, o.manager, o.client) for k in "ABCDE"}
-        self.sources = 1 << min(4 * self.digits, o.source_bits)
-        self.sinks = 1 << min(4 * self.digits, o.sink_bits)
-        self.pool = [self.random.randrange(self.sources) for _ in range(o.sources)]
-        self.unused = self.random.sample(range(self.sources), min(self.sources, 4096)) if o.unique else []
-        self.lines: List[str] = []
-        self.near_beats = self.far_beats = 0
-        self.outstanding: Dict[int, int] = {}  # the size of each request, by its source
-
-    def source(self) -> int:
-        r = self.random
-        return (
-            r.choice(self.pool)
-            if self.pool
-            else r.choice([r.randrange(self.sources), 7, self.sources - 1, r.randrange(4)]) % self.sources
-        )
-
-    def size(self, k: str, data: bool) -> int:
-        r, o = self.random, self.options
-        if o.size is not None:
-            return o.size
-        size = min(r.randint(0, r.choice([3, 5, 8, 12])), o.largest)
-        while data and size and (1 << size) // self.near[k] > max(1, o.beats - self.near_beats):
-            size -= 1
-        return size
-
-    def address(self, size: int) -> int:
-        r = self.random
-        some = r.choice([r.randrange(0x4000), r.getrandbits(64), (1 << 64) - 1 - r.randrange(0x3000)])
-        return some % (1 << self.options.address_bits) >> size << size
-
-    def message(
-        self,
-        k: str,
-        opcode: int,
-        param: int,
-        size: int,
-        source: int,
-        address: int = 0,
-        sink: int = 0,
-        denied: int = 0,
-        data: bool = False,
-    ) -> None:
-        """Adds the lines of a message."""
-        r, width = self.random, self.near[k]
-        per_beat = min(width, 1 << size)
-        active = sum(1 << (address + i) % width for i in range(per_beat)) if k in MASKED else 0
-        head = f"{k} {opcode:x} {param:x} {size:x} {source:0{self.digits}x} "
-        head += f"{sink:0{self.digits}x} {denied}" if k == "D" else f"{address:016x}"
-        often_corrupt = r.random() < 0.25
-        count = (1 << size) // per_beat if data else 1
-        for _ in range(count):
-            corrupt = int(data and r.random() < (0.5 if often_corrupt else 0.03))
-            mask = ""
-            if k in "AB":
-                partial = k in "AB" and opcode == 1
-                bits = active & r.choice([r.getrandbits(width), r.getrandbits(width), 0, active]) if partial else active
-                mask = f" {bits:0{(width + 3) // 4}x}"
-            self.lines.append(f"{head}{mask} {r.getrandbits(8 * width):0{2 * width}x} {corrupt}")
-        self.near_beats += count
-        self.far_beats += max(1, (1 << size) // self.far[k]) if data else 1
-
-    def pick(self, k: str) -> Tuple[int, int, bool]:
-        """An opcode and a param of a channel, and whether the message carries data."""
-        kind = self.options.kind
-        opcode = self.random.choice(self.kinds(k)) if kind is None else 1 if k == "D" else kind if k in "AB" else 7
-        of = OPCODES[k][opcode]
-        return opcode, self.random.randrange(of.params), of.has_data
-
-    def request(self) -> bool:
-        """A request on A; False if there is no room for one, or its source is busy."""
-        source = self.unused[-1] if self.unused else self.source()
-        if (
-            source in self.outstanding
-            or len(self.outstanding) >= self.options.outstanding
-            or (self.options.unique and not self.unused)
-        ):
-            return False
-        if self.unused:
-            self.unused.pop()
-        opcode, param, data = self.pick("A")
-        size = self.size("A", data)
-        self.outstanding[source] = size
-        self.message("A", opcode, param, size, source, self.address(size), data=data)
-        return True
-
-    def response(self) -> None:
-        """A response on D to one of the requests."""
-        source = self.random.choice(list(self.outstanding))
-        opcode, param, data = self.pick("D")
-        size = self.outstanding.pop(source)
-        self.message(
-            "D", opcode, param, size, source, 0, self.random.randrange(self.sinks), self.random.randrange(2), data=data
-        )
-
-    def step(self) -> None:
-        """A message, of the channel that is drawn."""
-        r, o = self.random, self.options
-        what = r.choices("ADBCEr", o.mix)[0]
-        if what == "A" and not self.request():
-            what = "D"
-        if what == "D" and self.outstanding:
-            self.response()
-        elif what == "r":
-            self.message(
-                "D", RELEASE_ACK, 0, r.randint(0, o.largest), self.source(), 0, r.randrange(self.sinks), r.randrange(2)
-            )
-        elif what == "E":
-            self.lines.append(f"E {r.randrange(self.sinks):0{self.digits}x}")
-        elif what in "BC":
-            opcode, param, data = self.pick(what)
-            size = self.size(what, data)
-            self.message(what, opcode, param, size, self.source(), self.address(size), data=data)
-
-    @staticmethod
-    def kinds(k: str) -> List[int]:
-        """The opcodes of a channel; on D those of responses to requests on A."""
-        return [opcode for opcode in OPCODES[k] if (k, opcode) != ("D", RELEASE_ACK)]
-
-    def text(self) -> str:
-        """The trace."""
-        o = self.options
-        while self.near_beats < o.beats and self.far_beats < 3 * o.beats and not (o.unique and not self.unused):
-            self.step()
-        for source, size in self.outstanding.items():
-            self.message("D", 0, 0, size, source)
-        head = f"tilelink-trace {self.version} client {o.client} manager {o.manager}"
-        return "\n".join([head, *self.lines]) + "\n"

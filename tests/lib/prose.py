@@ -255,7 +255,7 @@ def forms_in(sentence: Sentence) -> List[str]:
 # ---- Four habits, on the pages that are read first
 
 HABIT_PAGES = (
-    *(page for page in SHORT_PAGES if page != "docs/CHECKER.md"),
+    *SHORT_PAGES,
     *(f"docs/{name}.md" for name in ("RTL", "FORMAL", "UVM", "ROCKET_CHIP", "RATTLE")),
 )
 # Each habit, with a sentence that has it and one that does not.
@@ -271,7 +271,8 @@ HABITS = {
         "It moves all beats that fit.",
     ),
     "a private word": (
-        r"\bquiet moments?\b|\b[Tt]he way of (a|the)\b|\b(an?|the|its|whole|same) answers? (is|to|of|and|says)\b",
+        r"\bquiet (moment|point)s?\b|\b[Tt]he way of (a|the)\b|"
+        r"\b(an?|the|its|whole|same) answers? (is|to|of|and|says)\b",
         "It prints the answer to the trace.",
         "It prints the output for the trace.",
     ),

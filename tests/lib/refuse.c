@@ -38,7 +38,7 @@ static int (*start_of_libc)(pthread_t *, const pthread_attr_t *, void *(*)(void 
 static void number(const char *name, long *to) {
     const char *text = getenv(name);
     if (text)
-        *to = atol(text);
+        *to = strtol(text, NULL, 10);
 }
 
 __attribute__((constructor)) static void begin(void) {
@@ -56,7 +56,9 @@ __attribute__((constructor)) static void begin(void) {
 
 static void tell(char letter, int is_refused) {
     if (log_to >= 0) {
-        char said = is_refused ? letter - 'a' + 'A' : letter;
+        char said = letter;
+        if (is_refused)
+            said = (char)((unsigned)letter & ~0x20U); /* a capital */
         syscall(SYS_write, log_to, &said, 1);
     }
 }

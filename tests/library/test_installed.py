@@ -22,6 +22,7 @@ import sys
 import tarfile
 import tempfile
 import time
+import venv
 import zipfile
 from pathlib import Path
 from typing import List, NamedTuple
@@ -48,7 +49,6 @@ VERSIONS = {
     "tlbridge-model": r'^VERSION = "(.*)"$',
     "include/tlbridge.h": r'^#define TLBRIDGE_VERSION "(.*)"$',
     "python/pyproject.toml": r'^version = "(.*)"$',
-    "python/backend.py": r'^NAME, VERSION = "tlbridge", "(.*)"$',
     "crates/tl_words/src/lib.rt": r'^const VERSION: &str = "(.*)";$',
     "crates/tlexplain/src/words.rt": r'^const VERSION: &str = "(.*)";$',
 }
@@ -215,7 +215,7 @@ def expected_files(parts, pairs):
         "share/tlbridge/README.md": 0o644,
         "share/tlbridge/VERSION": 0o644,
     }
-    commands = ["tlbridge-compare", *(path.name for path in ROOT.glob("tlbridge-*"))]
+    commands = ["tlbridge-compare", *(path.name for path in ROOT.glob("tl*-*") if path.is_file())]
     files.update({f"bin/{name}": 0o755 for name in commands})
     for name in {*commands, *PROGRAMS}:
         files.update({f"share/man/man1/{name}.1": 0o644, f"share/bash-completion/completions/{name}": 0o644})
@@ -796,14 +796,67 @@ def test_the_library_of_a_wheel(installed: Installed, tmp_path: Path) -> None:
             ],
             f"a wheel with {what} has the lines {lines}",
         )
-        lines = files[f"{info}/METADATA"].decode().splitlines()
-        tests.test(
-            lines == ["Metadata-Version: 2.1", "Name: tlbridge", f"Version: {VERSION}", "Requires-Python: >=3.9"],
-            f"a wheel's data are {lines}",
-        )
     name, _, error = wheel_of(place, room, TLBRIDGE_LIBRARY=str(room / "nowhere.so"))
     tests.test(name == "" and "nowhere.so" in error, f"a wheel with a library that is not there: {name} {error}")
     tests.verdict()
+
+
+def built(build: str, folder: Path, room: Path) -> str:
+    """What python/backend.py returns for `build`, in an isolated Python."""
+    words = "import sys; sys.path.insert(0, sys.argv[1]); sys.dont_write_bytecode = True; import backend"
+    done = subprocess.run(
+        [sys.executable, "-c", f"{words}; print({build})", str(folder), str(room)], capture_output=True, text=True
+    )
+    assert done.returncode == 0, done.stderr
+    return done.stdout
+
+
+def test_the_data_of_the_package() -> None:
+    """They are those of pyproject.toml as a reader of TOML has them, and claim no proof of Python."""
+    tomllib = pytest.importorskip("tomllib")
+    project = tomllib.loads((ROOT / "python" / "pyproject.toml").read_text())["project"]
+    lines = built("backend.METADATA", ROOT / "python", ROOT).splitlines()
+    assert lines[:4] == [
+        "Metadata-Version: 2.1",
+        "Name: tlbridge",
+        f"Version: {VERSION}",
+        f"Summary: {project['description']}",
+    ]
+    assert project["description"].endswith("The Python code is tested, not proved.")
+    assert lines[4:6] == [
+        f"Requires-Python: {project['requires-python']}",
+        f"Keywords: {','.join(project['keywords'])}",
+    ]
+    assert lines[6:-1] == [f"Classifier: {classifier}" for classifier in project["classifiers"]]
+    scripts = built("backend.SCRIPTS", ROOT / "python", ROOT).split("\n")[1:-2]
+    assert scripts == [f"{name} = {entry}" for name, entry in project["scripts"].items()]
+
+
+def test_the_source_archive(tmp_path: Path) -> None:
+    """It has each file of the package and no library, and the wheel that its backend builds is that of the repository.
+    pip installs it in a fresh environment, without an index.
+    """
+    name = built("backend.build_sdist(sys.argv[2])", ROOT / "python", tmp_path).strip()
+    assert name == f"tlbridge-{VERSION}.tar.gz"
+    with tarfile.open(tmp_path / name) as archive:
+        archive.extractall(tmp_path / "source")
+    place = tmp_path / "source" / f"tlbridge-{VERSION}"
+    files = {path.relative_to(place).as_posix() for path in place.rglob("*") if path.is_file()}
+    package = {
+        path.relative_to(ROOT / "python").as_posix()
+        for path in (ROOT / "python" / "tlbridge").rglob("*")
+        if path.suffix in (".py", ".typed")
+    }
+    assert files == {"PKG-INFO", "pyproject.toml", "backend.py", *package}
+    wheel, made, error = wheel_of(place, tmp_path)
+    assert (wheel, error) == (f"tlbridge-{VERSION}-py3-none-any.whl", "")
+    assert {path for path in made if ".dist-info/" not in path} == package
+    venv.create(tmp_path / "venv", with_pip=True)
+    pip = [tmp_path / "venv" / "bin" / "pip", "install", "--no-index", "--quiet", tmp_path / name]
+    done = subprocess.run([*map(str, pip)], capture_output=True, text=True)
+    assert done.returncode == 0, done.stderr
+    command = [str(tmp_path / "venv" / "bin" / "tlbridge-compare"), "--help"]
+    assert "client_beats" in subprocess.run(command, capture_output=True, text=True).stdout
 
 
 def test_a_project_elsewhere_finds_the_library(installed: Installed, tmp_path: Path) -> None:
@@ -924,7 +977,7 @@ def with_everything(folder, pairs):
         "tools/cut-links",
         "README.md",
         "CHANGELOG.md",
-        *(path.name for path in ROOT.glob("tlbridge-*")),
+        *(path.name for path in ROOT.glob("tl*-*") if path.is_file()),
     ):
         (folder / name).parent.mkdir(exist_ok=True)
         (shutil.copytree if (ROOT / name).is_dir() else shutil.copy2)(ROOT / name, folder / name)

@@ -15,7 +15,7 @@ static void say(void) {
 
 void *__wrap_tlbridge_scoreboard_open(uint32_t client, uint32_t manager, uint8_t flags) {
     if (getenv("NO_BOARD") != NULL) return NULL;
-    if (opened++ == 0) atexit(say);
+    if (opened++ == 0 && atexit(say) != 0) abort();
     return __real_tlbridge_scoreboard_open(client, manager, flags);
 }
 

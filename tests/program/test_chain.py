@@ -1,6 +1,6 @@
 """Connects a second bridge after the first one, and checks that it refuses nothing.
 
-The traffic is every readable trace of examples/, traces of tools/make-trace, and as many random cases of
+The traffic is every readable trace of examples/, lawful traces of tlbridge.traffic, and as many random cases of
 tests/lib/random_traces.py, which also have denied responses, corrupt beats and faults. From each answer the test takes
 the beats that were accepted on each channel and those that arrived, and asks the program three more questions:
 
@@ -16,11 +16,10 @@ None may refuse a beat or keep one waiting, and far beats that are offered again
 """
 
 import subprocess
-import sys
 
 import pytest
 from project import EXAMPLES, ROOT, needs_program
-from random_traces import Maker
+from random_traces import Maker, lawful_trace
 
 TO_MANAGER, TO_CLIENT = "ACE", "BD"
 SECOND_WIDTHS = (1, 4, 32)
@@ -154,24 +153,7 @@ def fails(program, text):
 
 def random_trace(number):
     client, manager = PAIRS[number % len(PAIRS)]
-    words = [
-        "--client",
-        client,
-        "--manager",
-        manager,
-        "--lines",
-        150,
-        "--seed",
-        number,
-        "--sources",
-        (1, 3, 8)[number % 3],
-        "--largest",
-        256,
-    ]
-    made = subprocess.run(
-        [sys.executable, ROOT / "tools" / "make-trace", *map(str, words)], capture_output=True, text=True, check=True
-    )
-    return made.stdout
+    return lawful_trace(client, manager, 150, number, sources=(1, 3, 8)[number % 3], sizes=range(9)).decode()
 
 
 def soaked(number):

@@ -194,7 +194,7 @@ class Calls(unittest.TestCase):
         return refused.exception.status.name
 
 
-@pytest.mark.usefixtures("library")
+@pytest.mark.usefixtures("proved")
 class Traces(unittest.TestCase):
     TRACE = (
         "tilelink-trace 1 client 8 manager 4\nA 4 0 2 07 0000000000001004 f0 1122334455667788 0\nD 1 0 2 07 00 0"

@@ -7,54 +7,39 @@ from dataclasses import replace
 
 import pytest
 from tlbridge import Beat, Bridge, RefusedError, Scoreboard
-from tlbridge.protocol import CARRIES_DATA, FROM_CLIENT
+from tlbridge.protocol import CARRIES_DATA, FROM_CLIENT, OPCODES, RELEASE_ACK
+from tlbridge.traffic import Draws
 
 WIDTHS = {"client": 8, "manager": 4}
 FOR_NOW = ("NotReady", "SourceBusy", "NoRequest")
 
 
-def active(address, size, width):
-    return sum(1 << lane for lane in range(width) if ((lane ^ address) % width) >> size == 0)
-
-
 class Traffic:
-    """The near beats of each channel, at random, and the beats of each link in the order in which it accepts them."""
+    """The near beats of each channel, as drawn, and the beats of each link in the order in which it accepts them."""
 
     def __init__(self, seed):
         self.random = random.Random(seed)
+        self.draws = Draws(self.random)
         self.left = {channel: [] for channel in "ABCDE"}
         self.asked = []
         self.links = {"client": [], "manager": []}
 
     def message(self, channel):
         """The near beats of a message."""
-        choose, width = self.random, WIDTHS["client" if channel in FROM_CLIENT else "manager"]
-        if channel == "E":
-            return [Beat(sink=choose.randrange(1 << 16))]
-        size = choose.randrange(7)
-        address = choose.randrange(1 << 20) >> size << size
-        opcode = choose.choice({"A": range(8), "B": range(8), "C": (0, 1, 2, 4, 5, 6, 7)}.get(channel, (6,)))
-        head = dict(opcode=opcode, size=size, source=choose.randrange(4))
+        choose, draws, width = self.random, self.draws, WIDTHS["client" if channel in FROM_CLIENT else "manager"]
+        opcode, size, given = RELEASE_ACK, choose.randrange(7), {"source": choose.randrange(4)}
         if channel == "D" and self.asked:
-            source, size = self.asked.pop(choose.randrange(len(self.asked)))
-            head = dict(opcode=choose.choice((0, 1, 2, 4, 5)), size=size, source=source)
-        if channel == "D":
-            head.update(sink=choose.randrange(9), denied=choose.random() < 0.2)
-        else:
-            head.update(address=address)
-        carries = head["opcode"] in CARRIES_DATA[channel]
+            given["source"], size = self.asked.pop(choose.randrange(len(self.asked)))
+            opcode = choose.choice((0, 1, 2, 4, 5))
+        elif channel in "ABC":
+            opcode = choose.choice([*OPCODES[channel]])
+        head = draws.head(channel, opcode, size, **given)
+        if channel == "E":
+            return [Beat(**head)]
         return [
-            self.beat(channel, head, address, width, carries)
-            for _ in range(max(1, (1 << head["size"]) // width) if carries else 1)
+            Beat(**head, data=beat.data.to_bytes(width, "little"), corrupt=beat.corrupt, mask=beat.mask)
+            for beat in draws.beats(channel, head, width)
         ]
-
-    def beat(self, channel, head, address, width, carries):
-        own = {"data": self.random.randbytes(width), "corrupt": carries and self.random.random() < 0.2}
-        if channel in "AB":
-            own["mask"] = active(address, head["size"], width)
-            if head["opcode"] == 1:
-                own["mask"] &= self.random.getrandbits(width)
-        return Beat(**head, **own)
 
     def run(self, steps):
         """Offers and takes at random, and lists the beats of each link."""
@@ -116,7 +101,7 @@ def judged(links, seed):
     return [line for line in board.lines if ": outstanding: " not in line]
 
 
-@pytest.mark.usefixtures("library")
+@pytest.mark.usefixtures("proved")
 class Random(unittest.TestCase):
     def test_right(self):
         for seed in range(8):

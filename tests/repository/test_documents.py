@@ -147,7 +147,7 @@ class Desk:
         for name, program in programs.items():
             (self.prefix / "bin" / name).symlink_to(program)
         shutil.copy(ROOT / "sv" / "compare", self.prefix / "bin" / "tlbridge-compare")
-        for script in ROOT.glob("tlbridge-*"):
+        for script in filter(Path.is_file, ROOT.glob("tl*-*")):
             shutil.copy(script, self.prefix / "bin")
         for name in ("sv", "rtl", "examples", "python"):
             (self.prefix / "share" / "tlbridge" / name).symlink_to(ROOT / name)

@@ -29,7 +29,7 @@ BEATS = (
     b"A 4 0 2 07 0000000000001004 f 00000000 0\nD 1 0 2 07 00 0 ddccbbaa 0\n",
 )
 # Their messages have a fault, and not the name of a file.
-NAMELESS = ("tlbridge", "tlbridge-model", "tlexplain")
+NAMELESS = ("tlbridge", "tlbridge-model", "tlexplain", "tlexplain-model")
 # root may read each file unless it gives up that right
 WITHOUT_RIGHTS = (
     ["setpriv", *(f"--{kind}=-dac_override,-dac_read_search" for kind in ("bounding-set", "inh-caps")), "--"]
@@ -150,6 +150,13 @@ def commands(room):
             bad_words=() if words else (("--nothing",), ("x", "y"), ("--to", "many", "x")),
             explains=True,
         )
+    yield Command(
+        "tlexplain-model",
+        lambda path: [str(ROOT / "tlexplain-model"), path],
+        TRACE,
+        bad_words=(("--nothing",), ("x", "y"), ("--to", "many", "x")),
+        explains=True,
+    )
     device = (ROOT / "tests" / "monitor" / "device.sv").read_bytes()
     others = [str(ROOT / "sv" / name) for name in ("tl_checker.sv", "tl_checker_ad.sv")]
     wrong = (
@@ -357,7 +364,13 @@ def of_outputs(command, room):
 
 def of_standard_input(command, room):
     """The dump or the trace on standard input, which is closed, or has nothing."""
-    words = {"tlbridge-trace": ["-"], "tlbridge-model": ["run"], "tlbridge": ["run"], "tlexplain": []}.get(command.name)
+    words = {
+        "tlbridge-trace": ["-"],
+        "tlbridge-model": ["run"],
+        "tlbridge": ["run"],
+        "tlexplain": [],
+        "tlexplain-model": [],
+    }.get(command.name)
     if words is None or not command.bad_words:
         return
     program = command.words("x")[0]

@@ -43,8 +43,8 @@ OF_TLBRIDGE = ["left lib yes", "low lib yes", "tlbridge run yes"]
 BUILDS = "{}: not built yet, or a source is newer. It is proved and built first, which takes a while.\n"
 MODEL = "tlbridge: to get the same answer now, use the unverified model:\n    {}/tlbridge-model"
 PAGES = (
-    "tlexplain: until then no program explains a trace. The unverified model gives the verdict of each channel now:\n  "
-    "  {}/tlbridge-model check FILE\n"
+    "tlexplain: to get the sentences now, without --html and --json, use the unverified model:\n"
+    "    {}/tlexplain-model FILE\n"
 )
 REFUSED = "tlbridge: the program could not be built\n"
 # Words that a shell changes unless they are quoted.
@@ -190,6 +190,21 @@ def names(folder):
     yield "the model is not named for them", "tlbridge-model" in error, False
 
 
+def explained(folder):
+    """Without the program, the unverified model explains a trace, and says so. A page needs the program."""
+    for name in ("tlbridge-model", "tlexplain-model"):
+        shutil.copy2(ROOT / name, folder.top / name)
+    trace = "tilelink-trace 1 client 4 manager 4\nE 00\n"
+    for words in ([], ["--no-remarks"], ["--lanes"]):
+        said, error, status, calls = folder.run("tlexplain", words, trace)
+        yield f"sentence, {words}", said.splitlines()[0], "line 2: E GrantAck, sink 00: accepted, far beat 0"
+        yield f"end, {words}", (error.count("\n"), status, calls), (1, 0, [])
+        yield f"what it says, {words}", error.startswith("tlexplain: not verified: "), True
+    said, error, status, calls = folder.run("tlexplain", ["--html"], trace)
+    yield "a page", (said, status, calls), ("<--html>" + trace, 7, ["low lib yes", "tlexplain run yes"])
+    yield "the program is used once it is built", folder.run("tlexplain", ["a"], trace)[0], "<a>" + trace
+
+
 def refusals(folder):
     """If a crate is refused, nothing above it is built, nothing runs, and the status is 70."""
     for crate in ("low", "tlbridge"):
@@ -292,6 +307,11 @@ def test_the_name_is_that_of_the_program(differences, folder):
     """The name by which it is called is that of the program, and a link from elsewhere leads to the same folder."""
     folder.run("tlbridge", [])
     compare(differences, names(folder))
+
+
+def test_an_explanation_without_the_program(differences, folder):
+    """The unverified model explains a trace until the program is built."""
+    compare(differences, explained(folder))
 
 
 def test_a_crate_that_is_refused(differences, built_folder):

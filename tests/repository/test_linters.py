@@ -1,12 +1,12 @@
-"""The linters of each language: black, flake8 and mypy for Python, shellcheck for scripts of the shell. A missing one
-is a skip."""
+"""The linters of each language: black, flake8 and mypy for Python, clang-tidy and the compiler's warnings for C,
+shellcheck for scripts of the shell. A missing one is a skip."""
 
 import os
 import re
 import subprocess
 
 import pytest
-from project import ROOT, needs_tools
+from project import ROOT, compiler, needs_tools
 
 FIRST_LINE = re.compile(rb"#!.*\b(python3|sh|bash)\b")
 # What mypy checks strictly, and files there that have no types yet.
@@ -17,8 +17,16 @@ UNTYPED = tuple(
 )
 
 
+# For the C of all folders: a pair of widths, and the numbers that tests give to glue.c.
+C_FLAGS = (
+    *("-std=gnu11", "-Iinclude", "-Isv", "-Ipackaging/dpi", "-Itests/library/c"),
+    *("-DTLBRIDGE_8_4", "-DTLBRIDGE_4_8", "-DCLIENT=8", "-DMANAGER=4"),
+    *("-DOTHER_PAIR=200", "-DNOT_OPEN=201", "-DNOT_READY=202"),
+)
+
+
 def files_of(kind):
-    """The files of the repository in Python or in the language of the shell: by their ending, or by their first
+    """The files of the repository in Python, in C or in the language of the shell: by their ending, or by their first
     line."""
     listed = subprocess.run(["git", "ls-files", "-z"], cwd=ROOT, capture_output=True, timeout=60, check=False)
     names = [name for name in listed.stdout.decode().split("\0") if name]
@@ -31,7 +39,7 @@ def kind_of(path):
     if path.is_symlink() or not path.is_file():
         return ""
     if path.suffix:
-        return {".py": "python", ".sh": "shell"}.get(path.suffix, "")
+        return {".py": "python", ".sh": "shell", ".c": "c"}.get(path.suffix, "")
     with open(path, "rb") as file:
         found = FIRST_LINE.match(file.readline(200))
     return {b"python3": "python", b"sh": "shell", b"bash": "shell"}[found[1]] if found else ""
@@ -77,3 +85,32 @@ def test_mypy(folder):
 def test_shellcheck(name):
     """A script may read another one, as tlexplain does."""
     passes("shellcheck", "--external-sources", name)
+
+
+@pytest.mark.parametrize("name", files_of("c"))
+def test_compiler_warnings(name):
+    """C of products, examples, tests and benches compiles without a warning."""
+    passes(compiler(), "-fsyntax-only", "-Wall", "-Wextra", "-Wshadow", "-Wconversion", "-Werror", *C_FLAGS, name)
+
+
+@pytest.mark.parametrize("name", files_of("c"))
+def test_clang_tidy(name):
+    """The checks are those of .clang-tidy, which has the reason for each that is left out."""
+    passes("clang-tidy", "--quiet", name, "--", *C_FLAGS)
+
+
+# The widest line of SystemVerilog (docs/STYLE.md). A line with a text to print may be longer.
+COLUMNS = 150
+NOT_YET = ("sv/tl_agent.sv", "sv/tl_bridge_watch.sv")
+
+
+@pytest.mark.parametrize("folder", ("sv", "rtl"))
+def test_columns_of_systemverilog(folder):
+    """Lines above 150 columns are hard to read side by side. Two files still have some."""
+    wide = {}
+    for path in sorted((ROOT / folder).glob("*.sv")):
+        lines = path.read_text().splitlines()
+        found = [number for number, line in enumerate(lines, 1) if len(line) > COLUMNS and '"' not in line]
+        if found:
+            wide[str(path.relative_to(ROOT))] = found
+    assert set(wide) <= set(NOT_YET), wide

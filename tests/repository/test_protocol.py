@@ -69,6 +69,21 @@ def test_faults_are_those_of_the_library() -> None:
     assert found == protocol.FAULTS
 
 
+def test_both_tables_of_sentences_agree() -> None:
+    """`tlexplain --faults` has the names and sentences of the C library's proved table. It has its own sentences for
+    the two faults that only calls of the library can have.
+    """
+    text = (CRATES / "tl_c_beats" / "src" / "texts.rt").read_text()
+    body = text[text.index("fn status_sentence") : text.index("fn zero_ended")]
+    library = {int(number): sentence for number, sentence in re.findall(r'(\d+) =>\s*"([^"]*)"', body)}
+    table = (CRATES / "tl_explain" / "src" / "meanings.rt").read_text().split('"#')[0]
+    rows = re.findall(r"([ \d]\d) (\w+) +(\S.*)\n", table)
+    assert {int(number): name for number, name, _ in rows} == protocol.FAULTS
+    of_calls = {number for number, name in protocol.FAULTS.items() if name in ("MidBurst", "RingSize")}
+    printed = {int(number): sentence for number, _, sentence in rows if int(number) not in of_calls}
+    assert printed == {number: library[number] for number in protocol.FAULTS if number not in of_calls}
+
+
 def test_the_model_has_the_same_messages() -> None:
     """The unverified model's own table of opcodes, which is a copy on purpose, says the same."""
     model = script(MODEL)

@@ -25,10 +25,11 @@ TOOLS = {
     "flake8": "flake8",
     "mypy": "mypy",
     "shellcheck": "shellcheck",
+    "clang-tidy": "clang-tidy",
 }
 OF_LONG = {"z3": "z3", "cmake": "cmake", "pkg-config": "pkg-config", "chromium": "chromium"}
-# shellcheck prints its version in a form of its own
-VERSIONS = {"shellcheck": "version:"}
+# these print their versions in forms of their own
+VERSIONS = {"shellcheck": "version:", "clang-tidy": "LLVM version"}
 # An apt-get that notes its words, and installs a package by a tool with a version; it cannot get the packages that
 # REFUSED names.
 APT_GET = """#!/bin/sh
@@ -45,6 +46,7 @@ python3-*) tool=import.${word##*-} ;; *) tool=$word ;;
 esac
 said=$tool
 [ "$tool" != shellcheck ] || said=version:
+[ "$tool" != clang-tidy ] || said="LLVM version"
 printf '#!%s/sh\\necho %s 1.2\\n' "$HERE" "$said" > "$HERE/$tool"
 /bin/chmod 755 "$HERE/$tool"
 """

@@ -1,6 +1,7 @@
 /* Calls each function of sv/tlbridge_dpi.c as a simulator would: plain numbers, and vectors in words of 32 bits. It runs over the pairs of
  * widths that macros name, as -DTLBRIDGE_8_4. Expected beats follow from docs/SPECIFICATION.md: byte i of a message is on lane
  * (address + i) mod width of the beat that has it. The last line counts the checks. */
+#include <assert.h>
 #include <stdint.h>
 #include <stdio.h>
 #include <stdlib.h>
@@ -27,6 +28,7 @@ uint8_t tlbridge_take_b(void *, uint8_t *, uint8_t *, uint8_t *, uint16_t *, uin
 uint8_t tlbridge_take_c(void *, uint8_t *, uint8_t *, uint8_t *, uint16_t *, uint64_t *, uint32_t *, uint8_t *);
 uint8_t tlbridge_take_d(void *, uint8_t *, uint8_t *, uint8_t *, uint16_t *, uint16_t *, uint8_t *, uint32_t *, uint8_t *);
 uint8_t tlbridge_take_e(void *, uint16_t *);
+/* NOLINTNEXTLINE(bugprone-suspicious-include): the functions that it has only for itself are tested, too */
 #include "../../sv/tlbridge_dpi.c"
 
 /* Statuses of docs/FAULTS.md. Macros give those of sv/tlbridge_pkg.sv: OTHER_PAIR, NOT_OPEN and NOT_READY. */
@@ -122,18 +124,19 @@ static wires head_of(char x, uint8_t size, uint64_t address) {
 static wires beat_of(char x, const wires *head, uint64_t address, unsigned first, unsigned width) {
     wires w = *head;
     unsigned bytes = x == 'E' ? 0 : 1u << head->size;
-    for (unsigned i = first; i < bytes && i < first + width; i++) put_lane(&w, (unsigned)((address + i) % width), (uint8_t)(7 * i + address + 3));
+    for (unsigned i = first; i < bytes && i < first + width; i++) put_lane(&w, (unsigned)((address + i) % width), (uint8_t)(7 * (uint64_t)i + address + 3));
     if (x > 'B') memset(w.mask, 0, sizeof w.mask);
     return w;
 }
 
 /* A message of a channel crosses beat by beat: each is staged, is moved to the ring and to the inbox, and is taken. */
 static void crosses(void *bridge, char x, uint8_t size, uint64_t address, unsigned near, unsigned far) {
+    assert(near > 0 && far > 0);
     moves pump = is_of_client(x) ? tlbridge_pump_client : tlbridge_pump_manager;
     moves fetch = is_of_client(x) ? tlbridge_fetch_manager : tlbridge_fetch_client;
     wires head = head_of(x, size, address), got, none = {0};
     unsigned bytes = x == 'E' ? 1 : 1u << size, of_near = bytes < near ? bytes : near, of_far = bytes < far ? bytes : far, taken = 0;
-    snprintf(place, sizeof place, "%u to %u, channel %c, 2^%u bytes at %u", near, far, x, size, (unsigned)address);
+    (void)snprintf(place, sizeof place, "%u to %u, channel %c, 2^%u bytes at %u", near, far, x, size, (unsigned)address);
     for (unsigned sent = 0; sent < bytes; sent += of_near) {
         wires beat = beat_of(x, &head, address, sent, near);
         CHECK(ready_of[x - 'A'](bridge) == 1);
@@ -169,7 +172,8 @@ static void test_crossings(void *bridge, unsigned client, unsigned manager) {
     uint8_t whole = 0;
     while (1u << whole < widest) whole++;
     CHECK(tlbridge_open(bridge, (int)client, (int)manager, 200) == 0);
-    for (char x = 'A'; x <= 'E'; x++) {
+    for (int number = 0; number < 5; number++) {
+        char x = (char)('A' + number);
         unsigned near = is_of_client(x) ? client : manager, far = is_of_client(x) ? manager : client;
         for (uint64_t address = 0; address < widest; address++) {
             if (x == 'D') asks(bridge, 0, address, client);
@@ -182,9 +186,10 @@ static void test_crossings(void *bridge, unsigned client, unsigned manager) {
 
 /* Data past the lanes of a link is refused, on each lane, and nothing changes. */
 static void test_lanes(void *bridge, unsigned client, unsigned manager) {
-    for (char x = 'A'; x <= 'D'; x++) {
+    for (int number = 0; number < 4; number++) {
+        char x = (char)('A' + number);
         unsigned near = is_of_client(x) ? client : manager;
-        snprintf(place, sizeof place, "%u to %u, channel %c, data past the lanes", client, manager, x);
+        (void)snprintf(place, sizeof place, "%u to %u, channel %c, data past the lanes", client, manager, x);
         for (unsigned lane = near; lane < 128; lane++) {
             wires beat = head_of(x, 0, 0);
             beat.data[lane / 4] = (uint32_t)1 << (8 * (lane % 4));
@@ -199,11 +204,12 @@ static void test_lanes(void *bridge, unsigned client, unsigned manager) {
 static void test_without_a_bridge(void *bridge, const char *when) {
     uint64_t counts[3] = {9, 9, 9};
     wires beat, none = {0};
-    snprintf(place, sizeof place, "%s", when);
+    (void)snprintf(place, sizeof place, "%s", when);
     CHECK(tlbridge_settle(bridge) == NOT_OPEN && tlbridge_drained(bridge) == 0);
     CHECK(tlbridge_pump_client(bridge) == 0 && tlbridge_pump_manager(bridge) == 0 && tlbridge_fetch_client(bridge) == 0 && tlbridge_fetch_manager(bridge) == 0);
     CHECK(tlbridge_standing(bridge, 'A', &counts[0], &counts[1], &counts[2]) == 0 && counts[0] + counts[1] + counts[2] == 0);
-    for (char x = 'A'; x <= 'E'; x++) {
+    for (int number = 0; number < 5; number++) {
+        char x = (char)('A' + number);
         beat = head_of(x, 0, 0);
         CHECK(ready_of[x - 'A'](bridge) == 0 && close_of[x - 'A'](bridge) == NOT_OPEN && offer_wires(bridge, x, &beat) == NOT_OPEN);
         if (x != 'E') put_lane(&beat, 127, 1); /* it would not fit */
@@ -213,8 +219,9 @@ static void test_without_a_bridge(void *bridge, const char *when) {
 }
 
 static void test_closing(void *bridge, unsigned client, unsigned manager) {
-    for (char x = 'A'; x <= 'E'; x++) {
-        snprintf(place, sizeof place, "%u to %u, closing %c", client, manager, x);
+    for (int number = 0; number < 5; number++) {
+        char x = (char)('A' + number);
+        (void)snprintf(place, sizeof place, "%u to %u, closing %c", client, manager, x);
         CHECK(tlbridge_open(bridge, (int)client, (int)manager, 16) == 0);
         wires beat = x == 'E' ? head_of(x, 0, 0) : beat_of(x, &(wires){.opcode = x == 'C' ? 7 : 0, .size = 8}, 0, 0, is_of_client(x) ? client : manager);
         if (x != 'D' && x != 'E') {
@@ -222,13 +229,13 @@ static void test_closing(void *bridge, unsigned client, unsigned manager) {
             CHECK(tlbridge_open(bridge, (int)client, (int)manager, 16) == 0);
         }
         CHECK(close_of[x - 'A'](bridge) == 0 && ready_of[x - 'A'](bridge) == 0 && offer_wires(bridge, x, &beat) == NOT_READY);
-        for (char other = 'A'; other <= 'E'; other++) CHECK(ready_of[other - 'A'](bridge) == (other != x));
+        for (int other = 0; other < 5; other++) CHECK(ready_of[other](bridge) == (other != number));
     }
 }
 
 static void test_opening(void *bridge) {
     wires release = {.opcode = 6, .size = 2}, got;
-    snprintf(place, sizeof place, "opening");
+    (void)snprintf(place, sizeof place, "opening");
     CHECK(tlbridge_open(bridge, 8, 4, 1) == 0);
     for (int i = 0; i < 3; i++) CHECK(offer_wires(bridge, 'C', &release) == 0 && tlbridge_pump_client(bridge) == (i == 0) && (i > 0 || waits_at(bridge, 'C', 0, 1, 0)) &&
                                       (i == 0 || tlbridge_fetch_manager(bridge) == 1) && (i == 0 || tlbridge_pump_client(bridge) == 1));
@@ -247,7 +254,7 @@ static void test_opening(void *bridge) {
 }
 
 static void test_answers(void) {
-    snprintf(place, sizeof place, "answers");
+    (void)snprintf(place, sizeof place, "answers");
 #define SAYS(number, name, sentence) \
     CHECK(strcmp(tlbridge_status_name(number), name) == 0); \
     CHECK(strcmp(tlbridge_status_text(number), name ": " sentence) == 0);

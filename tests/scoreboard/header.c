@@ -6,7 +6,7 @@
 #define static_assert _Static_assert
 #endif
 
-#define AT(type, field, offset) static_assert(offsetof(type, field) == offset, #type "." #field)
+#define AT(type, field, offset) static_assert(offsetof(type, field) == (offset), #type "." #field)
 AT(tl_beat, address, 0);
 AT(tl_beat, mask, 8);
 AT(tl_beat, source, 16);

@@ -99,9 +99,9 @@ static bool gives_room_back(void) {
     unsigned lines = 0;
     largest = 0;
     for (unsigned i = 0; i < 200; i++) {
-        tl_scoreboard_beat(board, TL_CLIENT_LINK, 'E', 3 * i, &ack, NULL);
-        tl_scoreboard_reset(board, TL_CLIENT_LINK, true, 3 * i + 1);
-        tl_scoreboard_reset(board, TL_CLIENT_LINK, false, 3 * i + 2);
+        tl_scoreboard_beat(board, TL_CLIENT_LINK, 'E', 3 * (uint64_t)i, &ack, NULL);
+        tl_scoreboard_reset(board, TL_CLIENT_LINK, true, 3 * (uint64_t)i + 1);
+        tl_scoreboard_reset(board, TL_CLIENT_LINK, false, 3 * (uint64_t)i + 2);
         lines += read_lines(board);
     }
     tl_scoreboard_finish(board);
@@ -111,7 +111,7 @@ static bool gives_room_back(void) {
 
 /* Refuses each allocation of a run in turn. Returns the number of runs that were not as they have to be. */
 static unsigned refuse_each(bool is_lawful, unsigned *passed, unsigned *opened) {
-    uint64_t all, some;
+    uint64_t all = 0, some = 0;
     unsigned failed = 0;
     asked = held = refused_from = refused_to = 0;
     if (!run(&all, is_lawful) || held != 0 || is_said || is_lawful != (all == 0)) return printf("%ld blocks held without a refusal, %llu differences\n", held, (unsigned long long)all), 1;

@@ -5,6 +5,7 @@
  * It has whole messages: bytes are gathered by their number, and a far beat is laid out once its last byte has come (sections 3, 4 and 7).
  */
 #include "../../sv/tlbridge_calls.h"
+#include <assert.h>
 #include <pthread.h>
 #include <stdio.h>
 #include <stdlib.h>
@@ -23,7 +24,10 @@ static bool carries_data(int x, const tl_beat *beat) {
 }
 
 static uint64_t bytes_per_beat(const tl_beat *head, unsigned width) {
-    return (uint64_t)1 << head->size < width ? (uint64_t)1 << head->size : width;
+    uint64_t bytes = (uint64_t)1 << head->size;
+    bytes = bytes < width ? bytes : width;
+    assert(bytes > 0);
+    return bytes;
 }
 
 static uint64_t beats_of_message(int x, const tl_beat *head, unsigned width) {
@@ -302,7 +306,7 @@ static bridge *make(unsigned client, unsigned manager, size_t ring) {
 static bridge *held_by(void *impl, int which, unsigned client, unsigned manager) {
     const hold *held = impl;
     if (held->which == which && held->all->client == client && held->all->manager == manager) return held->all;
-    fprintf(stderr, "plain_bridge: a handle of another side, or of another pair, than %d of %u:%u\n", which, client, manager);
+    (void)fprintf(stderr, "plain_bridge: a handle of another side, or of another pair, than %d of %u:%u\n", which, client, manager);
     abort();
 }
 
@@ -331,8 +335,8 @@ static void status_text(uint8_t answer, tl_text *text) {
     memset(text, 0, sizeof *text);
     for (size_t i = 0; i < sizeof answers / sizeof *answers; i++)
         if (answers[i].number == answer) {
-            strcpy(text->name, answers[i].name);
-            strcpy(text->sentence, answers[i].sentence);
+            (void)snprintf(text->name, sizeof text->name, "%s", answers[i].name);
+            (void)snprintf(text->sentence, sizeof text->sentence, "%s", answers[i].sentence);
         }
 }
 
@@ -387,7 +391,7 @@ static void status_text(uint8_t answer, tl_text *text) {
         if (client->bridge != manager->bridge || client->opening != manager->opening) return TL_BRIDGE_MISMATCH; \
         bridge *all = held_by(client->impl, 0, cw, mw); \
         if (held_by(manager->impl, 1, cw, mw) != all) return TL_BRIDGE_MISMATCH; \
-        while (settles && pump(all, 0) + pump(all, 1) + fetch(all, 0) + fetch(all, 1) > 0) {} \
+        while ((settles) && pump(all, 0) + pump(all, 1) + fetch(all, 0) + fetch(all, 1) > 0) {} \
         *standings = standings_of(all); \
         return TL_OK; \
     }

@@ -521,7 +521,7 @@ static void random_calls(int count) {
             bool pumps = what % 2;
             moved = pumps ? CALL(pump_client)(&bridge->client) + CALL(pump_manager)(&bridge->manager)
                           : CALL(fetch_client)(&bridge->client) + CALL(fetch_manager)(&bridge->manager);
-            CHECK(moved <= 5 * TL_WIDEST);
+            CHECK(moved <= (size_t)5 * TL_WIDEST);
             if (standings(bridge, &after)) {
                 for (int y = A; y < CHANNELS; y++) {
                     tl_counts b = counts_of(&before, y), a = counts_of(&after, y);

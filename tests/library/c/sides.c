@@ -239,7 +239,7 @@ static void in_two_threads(size_t ring) {
 }
 
 int main(int count, char **words) {
-    int messages = count > 1 ? atoi(words[1]) : 20000;
+    int messages = count > 1 ? (int)strtol(words[1], NULL, 10) : 20000;
     a_side_goes();
     a_side_goes_in_its_thread();
     draw_lists(messages);

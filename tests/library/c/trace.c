@@ -100,7 +100,7 @@ static char *read_file(const char *name, size_t *length) {
     if (file == NULL) return NULL;
     char *text = calloc(1, MAX_BYTES);
     *length = text == NULL ? 0 : fread(text, 1, MAX_BYTES, file);
-    fclose(file);
+    (void)fclose(file);
     return text;
 }
 
@@ -122,7 +122,7 @@ static size_t without_far_beats(const char *answer, size_t length, char *out) {
 static void example(const char *name) {
     char answer_name[512];
     size_t length = 0, due_length = 0;
-    snprintf(answer_name, sizeof answer_name, "%.*s.answer", (int)(strlen(name) - strlen(".trace")), name);
+    (void)snprintf(answer_name, sizeof answer_name, "%.*s.answer", (int)(strlen(name) - strlen(".trace")), name);
     char *text = read_file(name, &length), *due = read_file(answer_name, &due_length);
     CHECK(text != NULL && due != NULL);
     if (text == NULL || due == NULL) return;
