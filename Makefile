@@ -87,7 +87,9 @@ ifeq ($(PROGRAMS),yes)
 endif
 
 fill = sed -e 's|@VERSION@|$(VERSION)|' -e 's|@INTERFACE@|$(INTERFACE)|' -e 's|@PAIRS@|$(PAIRS)|' -e 's|@MACROS@|$(underscored:%=-DTLBRIDGE_%)|' -e 's|^\(\.TH .*"tlbridge\)"|\1 $(VERSION)"|'
-commands := tlbridge tlexplain tlbridge-compare $(filter-out tlbridge-compare,$(wildcard tlbridge-*))
+# (tlbridge-verify and tlbridge-prove write folders whose names end with .out)
+scripts := $(filter-out %.out,$(wildcard tlbridge-* tlexplain-*))
+commands := tlbridge tlexplain tlbridge-compare $(filter-out tlbridge-compare,$(scripts))
 
 # share/tlbridge has the folders of this repository, so that the links of its pages lead to the same places.
 install-files:
@@ -96,7 +98,7 @@ install-files:
 	install -m 644 sv/*.sv sv/tlbridge_dpi.c sv/tlbridge_calls.h $(share)/sv
 	install -m 755 sv/prove $(share)/sv
 	install -m 755 sv/compare $(root)/bin/tlbridge-compare
-	install -m 755 $(wildcard tlbridge-*) $(root)/bin
+	install -m 755 $(scripts) $(root)/bin
 	install -m 644 python/pyproject.toml python/backend.py $(share)/python
 	rm -rf $(share)/python/tlbridge && cp -R python/tlbridge $(share)/python
 	find $(share)/python -name __pycache__ -prune -exec rm -rf {} +

@@ -1,8 +1,9 @@
-# Completion for tlbridge, tlbridge-model, tlexplain, tlbridge-compare, tlbridge-trace, tlbridge-verify and tlbridge-prove.
+# Completion for tlbridge, tlbridge-model, tlexplain, tlexplain-model, tlbridge-compare, tlbridge-trace, tlbridge-verify and tlbridge-prove.
 _tlbridge() {
     local word=${COMP_WORDS[COMP_CWORD]} before=${COMP_WORDS[COMP_CWORD - 1]} widths="1 2 4 8 16 32 64 128" words
     case $1 in
     *tlexplain) words="--lanes --html --json --times --in-order --only --from --to --source --channel --no-remarks --faults --help --version" ;;
+    *tlexplain-model) words="--lanes --times --in-order --only --from --to --source --channel --no-remarks --help --version" ;;
     *tlbridge-compare)
         words="--ignore-unmasked --split --largest --level --write-trace --program --help"
         [ "$COMP_CWORD" -gt 2 ] || words=$widths
@@ -15,7 +16,7 @@ _tlbridge() {
     *tlbridge-verify)
         words="--top --client --manager --device --host --client-clock --client-reset --manager-clock --manager-reset --one-clock --tie --struct
             --seed --seeds --jobs --messages --level --largest --only --window --in-order --no-early --no-reuse --no-denied --no-blocking
-            --no-reset --same-cycle --withdraw --skew --plusarg --rules-only --no-memory --may-withdraw --simulator --shrink-seconds
+            --no-reset --same-cycle --withdraw --skew --no-skew --plusarg --rules-only --no-memory --may-withdraw --simulator --seconds --shrink-seconds
             --no-waves --out --junit --help"
         [ "$COMP_CWORD" -gt 1 ] || words="merge $words"
         [ "${COMP_WORDS[1]}" != merge ] || words="--json --junit --help"
@@ -23,8 +24,8 @@ _tlbridge() {
     *tlbridge-prove)
         words="--top --file-list --param --define --include --client --client-clock --client-reset --manager --manager-clock --manager-reset --tie
             --clocks --reset-cycles --cycles --unbounded --seconds --only --level --largest --no-same-cycle-response --zero-lanes
-            --forwards-offered --offered-rules --watched-source-only --within --assume --address-bits --source-bits --sink-bits --count-bits
-            --jobs --out --sby --no-cache --keep-going --help"
+            --forwards-offered --offered-rules --watched-source-only --later-resets --no-user-bits --within --assume --address-bits --source-bits --sink-bits --count-bits
+            --jobs --out --sby --tcl --no-cache --keep-going --help"
         ;;
     *)
         words="run check --help --version"
@@ -45,9 +46,9 @@ _tlbridge() {
     --level) [[ $1 == *tlbridge-verify ]] && words="UL UH C" || words="ul uh c" ;;
     --clocks) words="1 2" ;;
     --simulator) words="auto icarus verilator" ;;
-    --top | --tie | --seed | --seeds | --jobs | --messages | --largest | --window | --plusarg | --shrink-seconds) words='' ;;
+    --top | --tie | --seed | --seeds | --jobs | --messages | --largest | --window | --plusarg | --seconds | --shrink-seconds) words='' ;;
     --param | --define | --reset-cycles | --cycles | --seconds | --within | --assume | --*-bits) words='' ;;
-    --file-list | --include | --sby) words='' ;;
+    --file-list | --include | --sby | --tcl) words='' ;;
     --out | --junit | --json) [[ $1 != *tlbridge-verify && $1 != *tlbridge-prove ]] || words='' ;;
     --channel) words="A B C D E" ;;
     --width | --*-width) words=$widths ;;
@@ -60,11 +61,11 @@ _tlbridge() {
     mapfile -t COMPREPLY < <(compgen -W "$words" -- "$word")
     case $before in
     --ring | --turns | --from | --to | --source | --only | --channel | --level | --simulator | --clocks) ;;
-    --top | --tie | --seed | --seeds | --jobs | --messages | --largest | --window | --plusarg | --shrink-seconds) ;;
+    --top | --tie | --seed | --seeds | --jobs | --messages | --largest | --window | --plusarg | --seconds | --shrink-seconds) ;;
     --param | --define | --reset-cycles | --cycles | --seconds | --within | --assume | --*-bits) ;;
     --link | --client | --manager | --*-pattern | --field | --struct | --clock | --reset | --*-clock | --*-reset) ;;
     --width | --*-width | --trace-version | --level | --largest) ;;
     *) [[ $word == -* ]] || mapfile -t -O "${#COMPREPLY[@]}" COMPREPLY < <(compgen -f -- "$word") ;;
     esac
 }
-complete -o filenames -F _tlbridge tlbridge tlbridge-model tlexplain tlbridge-compare tlbridge-trace tlbridge-verify tlbridge-prove
+complete -o filenames -F _tlbridge tlbridge tlbridge-model tlexplain tlexplain-model tlbridge-compare tlbridge-trace tlbridge-verify tlbridge-prove

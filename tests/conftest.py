@@ -2,6 +2,7 @@
 
 import faulthandler
 import os
+import resource
 import signal
 import zlib
 from collections import Counter
@@ -16,6 +17,7 @@ from differences import Differences
 # loop that no exception ends. A busy machine does not shorten this limit.
 LIMIT = 60
 LIMIT_OF_LONG = 1800
+BEGUN = pytest.StashKey[float]()
 
 
 def pytest_addoption(parser: pytest.Parser) -> None:
@@ -28,6 +30,14 @@ def pytest_addoption(parser: pytest.Parser) -> None:
         "--write",
         action="store_true",
         help="store what a test computes from the sources, such as the reading list, and do not compare it",
+    )
+
+    parser.addoption(
+        "--processor-seconds",
+        type=int,
+        metavar="N",
+        default=0,
+        help="print the N tests that take the most processor time, with that of their children, and the sum of all",
     )
 
 
@@ -47,17 +57,44 @@ def pytest_runtest_protocol(item: pytest.Item) -> Iterator[None]:
     signal.setitimer(signal.ITIMER_VIRTUAL, 0)
 
 
+def processor_seconds() -> float:
+    """Returns the processor time of this process and of its children that have ended."""
+    used = [resource.getrusage(who) for who in (resource.RUSAGE_SELF, resource.RUSAGE_CHILDREN)]
+    return sum(of.ru_utime + of.ru_stime for of in used)
+
+
+@pytest.hookimpl(hookwrapper=True)
+def pytest_runtest_setup(item: pytest.Item) -> Iterator[None]:
+    """Notes the processor time at which a test begins."""
+    item.stash[BEGUN] = processor_seconds()
+    yield
+
+
+@pytest.hookimpl(hookwrapper=True)
+def pytest_runtest_makereport(item: pytest.Item, call: "pytest.CallInfo[None]") -> Iterator[None]:
+    """Notes the processor time of a test, which the process of the summary reads, in its report."""
+    outcome: Any = yield
+    if call.when == "teardown":
+        outcome.get_result().user_properties.append(("processor seconds", processor_seconds() - item.stash[BEGUN]))
+
+
 # Files whose tests need nothing in common, and take so long that all processors should share them.
 SHARED = tuple(
     f"tests/{name}.py"
     for name in (
+        "checker/test_checker",
+        "checker/test_levels",
         "explain/test_explain",
         "explain/test_remarks",
+        "links/test_links",
         "program/test_chain",
         "program/test_hostile",
         "program/test_program",
         "program/test_refusals",
         "repository/test_inputs",
+        "repository/test_linters",
+        "rtl/test_rtl_proofs",
+        "rtl/test_rtl_resets",
     )
 )
 SHARES = 8
@@ -135,6 +172,23 @@ def stale_programs() -> List[Path]:
     return [path for path in programs if path.is_file() and path.stat().st_mtime < newest]
 
 
+def print_processor_seconds(terminalreporter: Any) -> None:
+    """Prints the tests that took the most processor time, with --processor-seconds."""
+    most = terminalreporter.config.getoption("--processor-seconds")
+    reports = [report for reports in terminalreporter.stats.values() for report in reports if hasattr(report, "when")]
+    used = sorted(
+        (value, report.nodeid)
+        for report in reports
+        if report.when == "teardown"
+        for name, value in report.user_properties
+        if name == "processor seconds"
+    )
+    for value, nodeid in reversed(used[-most:] if most else []):
+        terminalreporter.write_line(f"{value:8.1f} s {nodeid}")
+    if most:
+        terminalreporter.write_line(f"{sum(value for value, _ in used):8.1f} s of processor time in {len(used)} tests")
+
+
 @pytest.hookimpl(hookwrapper=True, tryfirst=True)
 def pytest_terminal_summary(terminalreporter: Any) -> Iterator[None]:
     """Prints why tests were left out, and in the last line `N passed, M failed, K left out`, for .ci/run."""
@@ -144,6 +198,7 @@ def pytest_terminal_summary(terminalreporter: Any) -> Iterator[None]:
         terminalreporter.write_line(f"left out: {count}: {reason.replace('Skipped: ', '', 1)}")
     for path in stale_programs():
         terminalreporter.write_line(f"{path.relative_to(project.ROOT)} is older than a source: it was tested as it is")
+    print_processor_seconds(terminalreporter)
     counts = {name: len(terminalreporter.stats.get(name, [])) for name in ("passed", "failed", "error", "skipped")}
     left_out = f", {counts['skipped']} left out" if counts["skipped"] else ""
     terminalreporter.write_line(f"{counts['passed']} passed, {counts['failed'] + counts['error']} failed{left_out}")

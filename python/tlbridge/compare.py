@@ -7,8 +7,8 @@ that its message begins with. The times of FILE.times are printed if these files
 
 exit status:
   0  each channel is done, and its far beats are as expected
-  1  a channel is not done, or a far beat differs, is missing or is unexpected. With times, a request or response does
-     not fit. With --level, the level does not have a message
+  1  a channel is not done, or a far beat differs, is missing or is unexpected. With times, a request or response of A
+     and D does not fit. With --level, the level does not have a message
   2  there is nothing to compare: no beat, no answer, or a wrong command line
   3  a file cannot be understood
   4  a file cannot be read or written
@@ -17,6 +17,7 @@ from __future__ import annotations
 
 import argparse
 import re
+from dataclasses import dataclass
 from pathlib import Path
 from typing import Iterator, List, Optional, Sequence, Tuple
 
@@ -177,30 +178,46 @@ def write_trace(path: str, part: Part, has_times: bool) -> None:
         raise FailureError(f"{error.filename or name}: {error.strerror}", 4) from error
 
 
-def compare(words: argparse.Namespace) -> int:
-    widths, paths = (words.client, words.manager), (words.client_beats, words.manager_beats)
-    if words.largest and not words.split or words.split and words.write_trace:
-        raise FailureError("--largest needs --split" if words.largest else "--write-trace is not for --split", 2)
+@dataclass(frozen=True)
+class Options:
+    """The command line, which `command_line` explains."""
+
+    client: int
+    manager: int
+    client_beats: str
+    manager_beats: str
+    ignore_unmasked: bool
+    split: bool
+    largest: Optional[int]
+    level: Optional[str]
+    write_trace: Optional[str]
+    program: Optional[str]
+
+
+def compare(options: Options) -> int:
+    widths, paths = (options.client, options.manager), (options.client_beats, options.manager_beats)
+    if options.largest and not options.split or options.split and options.write_trace:
+        raise FailureError("--largest needs --split" if options.largest else "--write-trace is not for --split", 2)
     files = [MonitorFile(path, width, near) for path, width, near in zip(paths, widths, (FROM_CLIENT, "BD"))]
     for file in files:
         file.check()
     version = 2 if max(widths) > 64 or max(file.digits for file in files) > 2 else 1
     has_times = all(file.has_times for file in files)
-    if words.split:
-        return compare_split(words, files, version, FilePlaces(paths))
-    judge = Judge(program_of(words.program, note), widths, FilePlaces(paths), note, words.ignore_unmasked)
+    if options.split:
+        return compare_split(options, files, version, FilePlaces(paths))
+    judge = Judge(program_of(options.program, note), widths, FilePlaces(paths), note, options.ignore_unmasked)
 
     def part_done(part: Part) -> None:
-        if words.write_trace:
-            write_trace(words.write_trace, part, has_times)
+        if options.write_trace:
+            write_trace(options.write_trace, part, has_times)
             if part.number > 1:
                 note(
                     f"part {part.number} of the run, from time {part.begin}, is the trace"
-                    f" {words.write_trace}.{part.number}"
+                    f" {options.write_trace}.{part.number}"
                 )
         judge.part(part)
 
-    run = Run(version, widths[0], widths[1], part_done, note, level=words.level)
+    run = Run(version, widths[0], widths[1], part_done, note, level=options.level)
     try:
         time = None
         for link, place, time, line in in_order(files):
@@ -228,13 +245,13 @@ def split_hint(judge: Judge, remedy: str = "--split judges one that splits them"
     return f"{seems}. It is compared with a bridge that keeps messages whole; {remedy}"
 
 
-def compare_split(words: argparse.Namespace, files: Sequence[MonitorFile], version: int, places: FilePlaces) -> int:
+def compare_split(options: Options, files: Sequence[MonitorFile], version: int, places: FilePlaces) -> int:
     """Judges an adapter that splits messages. Each link is also judged by itself. Returns the exit status."""
-    program = program_of(words.program, note)
-    links = [LinkJudge(program, file.width, version, note, places.time, words.level) for file in files]
+    program = program_of(options.program, note)
+    links = [LinkJudge(program, file.width, version, note, places.time, options.level) for file in files]
     widths = (files[0].width, files[1].width)
-    split = SplitJudge(widths, words.largest or min(widths), places, words.ignore_unmasked)
-    links[0].matcher.is_offered = split.is_offered
+    split = SplitJudge(widths, options.largest or min(widths), places, options.ignore_unmasked)
+    links[0].matcher.is_offered = lambda channel: channel == "A" and split.is_offered()
     time, beats = None, 0
     try:
         for at, place, time, line in in_order(list(files)):
@@ -345,4 +362,4 @@ def command_line() -> argparse.ArgumentParser:
 
 
 def main(arguments: Optional[List[str]] = None) -> int:
-    return status_of(lambda: compare(command_line().parse_args(arguments)), note)
+    return status_of(lambda: compare(Options(**vars(command_line().parse_args(arguments)))), note)

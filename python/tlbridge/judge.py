@@ -281,20 +281,26 @@ class Judge:
         findings: Sequence[Tuple[int, Finding]] = (),
         matchers: Sequence[LinkMatcher] = (),
     ) -> int:
-        """Prints the result of each channel. Before it come the findings of `Run.findings`, which have the first fault,
-        and after it those of the level of each link. Returns the exit status.
+        """Prints the first fault in time, from the findings of `Run.findings` or the differences, then the result of
+        each channel, and then the findings of the level of each link. If nothing else is wrong, requests and responses
+        on other channels than A and D are remarks, since the model accepts any of them. Returns the exit status.
         """
         if not self.beats:
             raise FailureError("no beat was accepted on either link, so there is nothing to compare", 2)
         findings = [(link, found) for link, found in findings if not self._is_known(found)]
-        self.is_right = self.is_right and not findings
-        leads = bool(findings) and self._leads(findings[0][1])
-        first = self._say_findings(say, findings) if leads else None
+        self.is_right = self.is_right and not any(found.pair == "A" for _, found in findings)
+        remarks, findings = (findings, []) if self.is_right else ([], findings)
+        first = None
+        if findings and self._leads(findings[0][1]):
+            first = self._say_findings(say, findings)
+        elif self._first:
+            say(f"first difference: channel {self._first[1]}, time {self._first[0]}")
         for channel in CHANNELS:
             for words in self.channels[channel].lines(first):
                 say(f"{channel}: {words}")
-        if self._first and not leads:
-            say(f"first difference: channel {self._first[1]}, time {self._first[0]}")
+        for link, found in remarks[:1]:
+            more = f" (the first of {len(remarks)} requests and responses that do not fit)" if len(remarks) > 1 else ""
+            say(f"remark: {self._words(link, found)}{more}")
         for link, matcher in enumerate(matchers):
             for name, found in matcher.level_findings.items():
                 self.is_right = False
@@ -308,11 +314,16 @@ class Judge:
 
     def _leads(self, found: Finding) -> bool:
         """Whether this fault comes before each difference. At the time of a difference, it does unless the difference
-        says more."""
+        says more. About responses on other pairs of channels than A and D, the verdicts say nothing."""
         if self._first is None:
             return True
         time, _, fault = self._first
-        says_more = found.kind == "doubled" or fault == {"lost": "SourceBusy"}.get(found.kind, "NoRequest")
+        says_more = (
+            found.kind == "doubled"
+            or fault == {"lost": "SourceBusy"}.get(found.kind, "NoRequest")
+            or found.pair != "A"
+            and found.kind != "lost"
+        )
         return found.seen < time or found.seen == time and says_more
 
     def _say_findings(self, say: Callable[[str], None], findings: Sequence[Tuple[int, Finding]]) -> int:

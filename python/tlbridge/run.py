@@ -6,12 +6,13 @@ memory does not grow with the run.
 """
 from __future__ import annotations
 
+import enum
 import io
 import os
 import shutil
 import sys
 import tempfile
-from typing import IO, Callable, Dict, Iterator, List, Optional, TextIO, Tuple, cast
+from typing import IO, Callable, Dict, Iterator, List, NamedTuple, Optional, TextIO, Tuple, cast
 
 from .flow import LinkFlow
 from .matching import Finding, LinkMatcher, Message
@@ -205,6 +206,29 @@ class Spool:
             yield row.rstrip("\n").split("\t")
 
 
+class Messages(enum.Enum):
+    """The messages of the current part. `_restart` chooses one of the first two. A beat of an older message changes
+    UNSURE to STRANGERS, and `_drop_strangers` changes it back."""
+
+    WHOLE = "each began in the part"
+    UNSURE = "messages from before the part may be under way"
+    STRANGERS = "a beat of such a message was seen"
+
+
+class Phase(enum.Enum):
+    """SEEKING lasts until `_look_for_begin` has found the idle point at which the run begins."""
+
+    SEEKING = "beats are kept only in case the run begins at the last idle point"
+    TAKING = "beats belong to a part"
+
+
+class IdlePoint(NamedTuple):
+    """The last time at which nothing was under way, or None, and the position of the spool then."""
+
+    position: Tuple[int, int, int]
+    time: Optional[int]
+
+
 START = (0, 0, 0)
 
 
@@ -234,7 +258,8 @@ class Run:
         # of each link; they follow requests and responses if the beats have times, and the level if there is one
         self.matchers = [LinkMatcher(flow.width, level) for flow in self._flows]
         if not self._is_one:
-            self.matchers[0].is_offered = self._has_sent_more_than_accepted
+            self.matchers[0].is_offered = lambda channel: channel in "AC" and self._is_ahead(channel, 1)
+            self.matchers[1].is_offered = lambda channel: channel in "BD" and self._is_ahead(channel, 0)
         self._covered: List[Tuple[int, Optional[int]]] = []  # the times of the parts, from and to
         self._folder = tempfile.TemporaryDirectory(prefix="tlbridge-")
         self._spool = Spool(self._folder.name)
@@ -243,11 +268,9 @@ class Run:
         self._lines = 1  # of the trace of the whole run: its header
         self._time: Optional[int] = None  # of the last beat
         self._begin: Optional[int] = None  # of the current part
-        self._quiet = (START, None)  # type: Tuple[Tuple[int, int, int], Optional[int]]
-        self._is_unsure = (
-            self._has_strangers
-        ) = False  # messages from before the part may be incomplete; a beat of one was seen
-        self._mark = START
+        self._idle = IdlePoint(START, None)
+        self._messages = Messages.WHOLE
+        self._phase = Phase.TAKING if first is None else Phase.SEEKING
         self._left_out = 0
         self._in_reset: List[int] = []
         self.beats = 0
@@ -258,7 +281,7 @@ class Run:
         """The record begins. If that is after time 0, messages may be under way."""
         self._begin = time
         if time:
-            self._is_unsure = True
+            self._messages = Messages.UNSURE
             for matcher in self.matchers:
                 matcher.restart(is_unsure=True)
 
@@ -270,8 +293,8 @@ class Run:
         self.beats += 1
         is_near = self._is_one or (line[0] in FROM_CLIENT) == (link == 0)
         flow = self._flows[link]
-        if flow.beat(line) and self._is_unsure:
-            self._has_strangers = True
+        if flow.beat(line):
+            self._see_stranger()
         if flow.began:
             self.matchers[link].message(Message(line[0], *flow.began, time, place, line))
         self._spool.add("near" if is_near else "far", place, line)
@@ -305,15 +328,14 @@ class Run:
         """The record ends at a time."""
         if self._spool.beats and time is not None:
             self._moment(time + 1)
-        if self._first is not None:
+        if self._phase is Phase.SEEKING:
             self._spool.back_to(START)
             self._note(f"--from {self._first}: no idle point nearby before the record ends")
-        if self._has_strangers:
-            self._drop_strangers()
+        self._drop_strangers()
         if self._is_busy() and self._spool.beats and is_told:
             self._note(
                 f"the record ends at time {time} while beats are under way: {self._outstanding()}"
-                + (f"; --to {self._quiet[1]} ends at the last idle point" if self._quiet[1] is not None else "")
+                + (f"; --to {self._idle.time} ends at the last idle point" if self._idle.time is not None else "")
             )
         self._tell_left_out()
         for matcher in self.matchers:
@@ -336,9 +358,9 @@ class Run:
     def _is_covered(self, time: int) -> bool:
         return any(begin <= time and (end is None or time <= end) for begin, end in self._covered)
 
-    def _has_sent_more_than_accepted(self) -> bool:
-        """Whether the design has sent a part of a request to the manager while the client still offers it."""
-        return self._flows[1].messages["A"] > self._flows[0].messages["A"]
+    def _is_ahead(self, channel: str, far: int) -> bool:
+        """Whether the design has sent a part of a message on its far link while the near link still offers it."""
+        return self._flows[far].messages[channel] > self._flows[1 - far].messages[channel]
 
     def close(self) -> None:
         self._spool.file.close()
@@ -350,7 +372,8 @@ class Run:
         for flow in self._flows:
             if not flow.is_quiet():
                 return True
-        return not self._has_strangers and not self._is_one and self._flows[0].messages != self._flows[1].messages
+        may_differ = self._messages is Messages.STRANGERS or self._is_one
+        return not may_differ and self._flows[0].messages != self._flows[1].messages
 
     def _outstanding(self) -> str:
         words = [
@@ -364,28 +387,27 @@ class Run:
         """Checks whether `time` is an idle point. Every beat before it has been added."""
         for matcher in self.matchers:
             matcher.flush()
-        if self._is_unsure and not self._is_one:
+        if self._messages is Messages.UNSURE and not self._is_one:
             client, manager = (flow.messages for flow in self._flows)
             if any(
                 (client if channel in "BD" else manager)[channel] > (manager if channel in "BD" else client)[channel]
                 for channel in CHANNELS
             ):
-                self._has_strangers = True
+                self._see_stranger()
         is_quiet = not self._is_busy()
-        if is_quiet and self._has_strangers:
+        if is_quiet:
             self._drop_strangers()
-        if self._first is not None:
+        if self._phase is Phase.SEEKING:
             self._look_for_begin(is_quiet, time)
         elif self._last is not None and time > self._last:
             self._look_for_end(is_quiet, time)
         if is_quiet:
-            self._mark = self._spool.position()
-            self._quiet = (self._mark, self._time)
-            if self._first is None and self._spool.trace_bytes >= PART_BYTES:
+            self._idle = IdlePoint(self._spool.position(), self._time)
+            if self._phase is Phase.TAKING and self._spool.trace_bytes >= PART_BYTES:
                 self._end_part(self._time, "", False)
-                self._restart(time, self._is_unsure)
-                self._quiet = (START, self._time)
-        elif self._first is None and self._spool.trace_bytes > MOST_BYTES - 4096:
+                self._restart(time, self._messages is not Messages.WHOLE)
+                self._idle = IdlePoint(START, self._time)
+        elif self._phase is Phase.TAKING and self._spool.trace_bytes > MOST_BYTES - 4096:
             self._too_long()
 
     def _look_for_begin(self, is_quiet: bool, time: int) -> None:
@@ -401,7 +423,7 @@ class Run:
                 return
         elif not is_quiet and (time <= first or time - first < first - begin):
             return
-        self._first = None
+        self._phase = Phase.TAKING
         if self._begin != first:
             self._note(
                 f"--from {first}: begins at time {self._begin or 0}, the nearest time at which nothing was under way"
@@ -411,7 +433,7 @@ class Run:
         """Ends at the idle point nearest to `last`."""
         last, now = self._last, self._time or 0
         assert last is not None
-        position, quiet = self._quiet
+        position, quiet = self._idle
         if is_quiet and (now <= last or quiet is None or now - last < last - quiet):
             end = max(now, last) if now <= last else now
         elif quiet is not None and time - last >= last - quiet:
@@ -432,10 +454,17 @@ class Run:
             f" it could be split: {self._outstanding()}. Later beats are not judged"
         )
 
+    def _see_stranger(self) -> None:
+        """Notes a beat of a message that began before the part."""
+        if self._messages is Messages.UNSURE:
+            self._messages = Messages.STRANGERS
+
     def _drop_strangers(self) -> None:
-        """Drops the beats since the last idle point: some belong to messages that began before the part."""
-        self._left_out += self._spool.back_to(self._mark)
-        self._has_strangers = False
+        """Drops the beats since the last idle point, if some belong to messages that began before the part."""
+        if self._messages is not Messages.STRANGERS:
+            return
+        self._left_out += self._spool.back_to(self._idle.position)
+        self._messages = Messages.UNSURE
         for flow in self._flows:
             flow.messages = dict.fromkeys(CHANNELS, 0)
 
@@ -452,16 +481,15 @@ class Run:
     def _restart(self, time: int, is_unsure: bool) -> None:
         for flow in self._flows:
             flow.restart()
-        self._begin, self._is_unsure, self._has_strangers = time, is_unsure, False
-        self._mark, self._quiet = START, (START, None)
+        self._begin, self._idle = time, IdlePoint(START, None)
+        self._messages = Messages.UNSURE if is_unsure else Messages.WHOLE
 
     def _end_part(self, time: Optional[int], why: str, is_cut: bool) -> None:
-        if self._first is not None:
+        if self._phase is Phase.SEEKING:
             self._spool.back_to(START)
-        if self._has_strangers:
-            self._drop_strangers()
+        self._drop_strangers()
         self._tell_left_out()
-        if why and self._first is None:
+        if why and self._phase is Phase.TAKING:
             self._note(
                 f"{why}: "
                 + (

@@ -28,26 +28,26 @@ FIELDS = {
     "E": ["sink"],
 }
 
-# A client of 8 lanes writes 8 bytes at 0x1000, of which a manager of 4 gets two beats, and reads 4 at 0x1004.
+# A client of 8 lanes writes 8 bytes at 0x1000, of which a manager of 4 gets two beats, and acquires 4 at 0x1004.
 CLIENT = """\
 A 1 0 3 01 0000000000001000 81 7766554433221100 0
-A 4 0 2 02 0000000000001004 f0 0000000000000000 0
-D 1 0 2 02 00 0 ddccbbaa00000000 0
+A 6 0 2 02 0000000000001004 f0 0000000000000000 0
+D 5 0 2 02 07 0 ddccbbaa00000000 0
 D 0 0 3 01 00 0 0000000000000000 0
 E 07
 """
 MANAGER = """\
 A 1 0 3 01 0000000000001000 1 33221100 0
 A 1 0 3 01 0000000000001000 8 77665544 0
-A 4 0 2 02 0000000000001004 f 00000000 0
-D 1 0 2 02 00 0 ddccbbaa 0
+A 6 0 2 02 0000000000001004 f 00000000 0
+D 5 0 2 02 07 0 ddccbbaa 0
 D 0 0 3 01 00 0 00000000 0
 E 07
 """
-PUT, GET, GET_DATA, PUT_ACK = (
+PUT, ACQUIRE, GRANT_DATA, PUT_ACK = (
     "A 1 0 3 01 0000000000001000 81 7766554433221100 0",
-    "A 4 0 2 02 0000000000001004 f0 0000000000000000 0",
-    "D 1 0 2 02 00 0 ddccbbaa 0",
+    "A 6 0 2 02 0000000000001004 f0 0000000000000000 0",
+    "D 5 0 2 02 07 0 ddccbbaa 0",
     "D 0 0 3 01 00 0 00000000 0",
 )
 RIGHT = """\
@@ -59,12 +59,12 @@ E: done: 1 near beats, 1 far beats expected
 """
 NOT_JUDGED = "later beats of the channel are not judged"
 
-# All five channels, with bursts: in addition to the above, 16 bytes are written, read and released, and a block is
+# All five channels, with bursts: in addition to the above, 16 bytes are written, acquired and released, and a block is
 # probed.
 LONG_CLIENT = """\
 A 0 0 4 03 0000000000002000 ff 0706050403020100 1
 A 0 0 4 03 0000000000002000 ff 0f0e0d0c0b0a0908 0
-A 4 0 4 04 0000000000003000 ff 0000000000000000 0
+A 6 0 4 04 0000000000003000 ff 0000000000000000 0
 A 1 0 1 05 0000000000004006 40 00aa000000000000 0
 B 6 1 3 06 0000000000005000 ff 0000000000000000 0
 B 1 0 2 07 0000000000005004 50 0033000000000000 0
@@ -72,8 +72,8 @@ C 7 1 4 08 0000000000006000 1716151413121110 0
 C 7 1 4 08 0000000000006000 1f1e1d1c1b1a1918 1
 C 4 2 3 06 0000000000005000 0000000000000000 0
 D 0 0 4 03 00 1 0000000000000000 0
-D 1 0 4 04 00 0 2726252423222120 1
-D 1 0 4 04 00 0 2f2e2d2c2b2a2928 0
+D 5 0 4 04 09 0 2726252423222120 1
+D 5 0 4 04 09 0 2f2e2d2c2b2a2928 0
 D 6 0 4 08 00 0 0000000000000000 0
 D 0 0 1 05 00 0 0000000000000000 0
 E 09
@@ -83,7 +83,7 @@ A 0 0 4 03 0000000000002000 f 03020100 1
 A 0 0 4 03 0000000000002000 f 07060504 1
 A 0 0 4 03 0000000000002000 f 0b0a0908 0
 A 0 0 4 03 0000000000002000 f 0f0e0d0c 0
-A 4 0 4 04 0000000000003000 f 00000000 0
+A 6 0 4 04 0000000000003000 f 00000000 0
 A 1 0 1 05 0000000000004006 4 00aa0000 0
 B 6 1 3 06 0000000000005000 f 00000000 0
 B 1 0 2 07 0000000000005004 5 00330000 0
@@ -93,10 +93,10 @@ C 7 1 4 08 0000000000006000 1b1a1918 1
 C 7 1 4 08 0000000000006000 1f1e1d1c 1
 C 4 2 3 06 0000000000005000 00000000 0
 D 0 0 4 03 00 1 00000000 0
-D 1 0 4 04 00 0 23222120 0
-D 1 0 4 04 00 0 27262524 1
-D 1 0 4 04 00 0 2b2a2928 0
-D 1 0 4 04 00 0 2f2e2d2c 0
+D 5 0 4 04 09 0 23222120 0
+D 5 0 4 04 09 0 27262524 1
+D 5 0 4 04 09 0 2b2a2928 0
+D 5 0 4 04 09 0 2f2e2d2c 0
 D 6 0 4 08 00 0 00000000 0
 D 0 0 1 05 00 0 00000000 0
 E 09
@@ -152,7 +152,7 @@ A_DONE, D_DONE, E_DONE = (
 BEGINS_1 = f"; its message begins at client.beats line 1: {PUT}"
 UNMASKED = changed(MANAGER, "1 33221100", "1 33221a00")
 UNMASKED_B = changed(LONG_CLIENT, "50 0033000000000000", "50 0033ab0000000000")
-GET_MISSING = changed(MANAGER, "A 4 0 2 02 0000000000001004 f 00000000 0\n", "")
+GET_MISSING = changed(MANAGER, "A 6 0 2 02 0000000000001004 f 00000000 0\n", "")
 CUT = "A 0 0 4 03 0000000000002000 ff 0706050403020100 0\n"
 CASES = (
     Case("all is as expected", answer=RIGHT),
@@ -162,7 +162,8 @@ CASES = (
         manager=changed(MANAGER, "8 77665544", "c 77665544"),
         with_times=True,
         status=1,
-        answer=said(
+        answer="first difference: channel A, time 20\n"
+        + said(
             (
                 "A",
                 A_DONE,
@@ -171,12 +172,11 @@ CASES = (
                     f"client.beats line 1, time 10: {PUT}"
                 ),
             )
-        )
-        + "first difference: channel A, time 20\n",
+        ),
     ),
     Case(
         "two fields, and no times",
-        client=changed(CLIENT, "D 1 0 2 02 00 0 ddccbbaa00000000 0", "D 1 0 2 02 00 1 00000000ddccbbaa 0"),
+        client=changed(CLIENT, "D 5 0 2 02 07 0 ddccbbaa00000000 0", "D 5 0 2 02 07 1 00000000ddccbbaa 0"),
         status=1,
         answer=said(
             (
@@ -184,7 +184,7 @@ CASES = (
                 D_DONE,
                 (
                     "far beat 0, client.beats line 3: denied is 1, expected 0; data is 00000000ddccbbaa, expected"
-                    f" ddccbbaa00000000; its message begins at manager.beats line 4: {GET_DATA}"
+                    f" ddccbbaa00000000; its message begins at manager.beats line 4: {GRANT_DATA}"
                 ),
             )
         ),
@@ -204,9 +204,9 @@ CASES = (
     Case(
         "two beats in the wrong order",
         client=changed(
-            changed(CLIENT, "D 1 0 2 02 00 0 ddccbbaa00000000 0\n", ""),
+            changed(CLIENT, "D 5 0 2 02 07 0 ddccbbaa00000000 0\n", ""),
             "E 07",
-            "D 1 0 2 02 00 0 ddccbbaa00000000 0\nE 07",
+            "D 5 0 2 02 07 0 ddccbbaa00000000 0\nE 07",
         ),
         status=1,
         answer=said(
@@ -214,9 +214,9 @@ CASES = (
                 "D",
                 D_DONE,
                 (
-                    "far beat 0, client.beats line 3: opcode is 0, expected 1; size is 3, expected 2; source is 01,"
-                    " expected 02; data is 0000000000000000, expected ddccbbaa00000000; its message begins at"
-                    f" manager.beats line 4: {GET_DATA} (2 beats differ)"
+                    "far beat 0, client.beats line 3: opcode is 0, expected 5; size is 3, expected 2; source is 01,"
+                    " expected 02; sink is 00, expected 07; data is 0000000000000000, expected ddccbbaa00000000; its"
+                    f" message begins at manager.beats line 4: {GRANT_DATA} (2 beats differ)"
                 ),
             )
         ),
@@ -272,8 +272,8 @@ CASES = (
                 "A",
                 A_DONE,
                 (
-                    "far beat 2 is expected but missing: A 4 0 2 02 0000000000001004 f 00000000 0; its message begins"
-                    f" at client.beats line 2: {GET}"
+                    "far beat 2 is expected but missing: A 6 0 2 02 0000000000001004 f 00000000 0; its message begins"
+                    f" at client.beats line 2: {ACQUIRE}"
                 ),
             )
         ),
@@ -298,8 +298,9 @@ CASES = (
         manager=MANAGER + "E 07\n",
         with_times=True,
         status=1,
-        answer=said(("E", E_DONE, "far beat 1, manager.beats line 7, time 70, is unexpected: E 07"))
-        + "first difference: channel E, time 70\n",
+        answer="first fault: channel E, manager.beats line 7, time 70: a second GrantAck to sink 07: its last Grant has"
+        " one, at manager.beats line 6, time 60: E 07\n"
+        + said(("E", E_DONE, "far beat 1, manager.beats line 7, time 70, is unexpected: E 07")),
     ),
     Case(
         "two far beats that are unexpected",
@@ -340,13 +341,14 @@ CASES = (
         manager=changed(MANAGER, "f 00000000 0\n", "f 00000000 1\n"),
         with_times=True,
         status=1,
-        answer=said(
+        answer="first difference: channel A, time 30\n"
+        + said(
             (
                 "A",
                 A_DONE,
                 (
                     "far beat 2, manager.beats line 3, time 30: corrupt is 1, expected 0; its message begins at"
-                    f" client.beats line 2, time 20: {GET}"
+                    f" client.beats line 2, time 20: {ACQUIRE}"
                 ),
             ),
             (
@@ -357,25 +359,24 @@ CASES = (
                     f" manager.beats line 5, time 50: {PUT_ACK}"
                 ),
             ),
-        )
-        + "first difference: channel A, time 30\n",
+        ),
     ),
     Case(
         "a near beat is refused",
-        client=changed(CLIENT, "A 4 0 2 02 0000000000001004", "A 4 0 2 02 0000000000001002"),
+        client=changed(CLIENT, "A 6 0 2 02 0000000000001004", "A 6 0 2 02 0000000000001002"),
         with_times=True,
         status=1,
-        answer=said(
+        answer="first difference: channel A, time 20\n"
+        + said(
             (
                 "A",
                 (
-                    f"refused: near beat 1, client.beats line 2, time 20: Unaligned: {GET.replace('1004', '1002')};"
+                    f"refused: near beat 1, client.beats line 2, time 20: Unaligned: {ACQUIRE.replace('1004', '1002')};"
                     f" {NOT_JUDGED}"
                 ),
             ),
-            ("D", f"waiting: near beat 0, manager.beats line 4, time 40: NoRequest: {GET_DATA}; {NOT_JUDGED}"),
-        )
-        + "first difference: channel A, time 20\n",
+            ("D", f"waiting: near beat 0, manager.beats line 4, time 40: NoRequest: {GRANT_DATA}; {NOT_JUDGED}"),
+        ),
     ),
     Case(
         "a response waits for its request",
@@ -508,7 +509,7 @@ CASES = (
     ),
     Case(
         "an unknown bit of a near beat of D",
-        manager=changed(MANAGER, "02 00 0 ddccbbaa", "02 00 x ddccbbaa"),
+        manager=changed(MANAGER, "02 07 0 ddccbbaa", "02 07 x ddccbbaa"),
         status=3,
         error="tlbridge-compare: manager.beats line 4: denied of a near beat has unknown bits: x\n",
     ),
@@ -588,7 +589,7 @@ CASES = (
             ),
         )
         for name, digits, line, old, new, of in (
-            ("opcode", 1, 3, "A 4 0", "A 04 0", "A 04 0 4 04 0000000000003000 ff 0000000000000000 0"),
+            ("opcode", 1, 3, "A 6 0", "A 06 0", "A 06 0 4 04 0000000000003000 ff 0000000000000000 0"),
             ("param", 1, 9, "C 4 2", "C 4 02", "C 4 02 3 06 0000000000005000 0000000000000000 0"),
             ("size", 1, 14, "D 0 0 1", "D 0 0 01", "D 0 0 01 05 00 0 0000000000000000 0"),
             (
@@ -625,34 +626,34 @@ CASES = (
     ),
     Case(
         "an id that is too long at the other link",
-        manager=changed(MANAGER, "A 4 0 2 02", "A 4 0 2 00002"),
+        manager=changed(MANAGER, "A 6 0 2 02", "A 6 0 2 00002"),
         status=3,
         error=(
-            "tlbridge-compare: manager.beats line 3: source has 5 digits, and not 2 or 4 as on a link of 4 bytes: A 4 0"
+            "tlbridge-compare: manager.beats line 3: source has 5 digits, and not 2 or 4 as on a link of 4 bytes: A 6 0"
             " 2 00002 0000000000001004 f 00000000 0\n"
         ),
     ),
     Case(
         "an id of three digits",
-        client=changed(CLIENT, "A 4 0 2 02", "A 4 0 2 002"),
+        client=changed(CLIENT, "A 6 0 2 02", "A 6 0 2 002"),
         status=3,
         error=(
             "tlbridge-compare: client.beats line 2: source has 3 digits, and not 2 or 4 as on a link of 8 bytes:"
-            f" {GET.replace('2 02', '2 002')}\n"
+            f" {ACQUIRE.replace('2 02', '2 002')}\n"
         ),
     ),
     Case(
         "an opcode that is none",
-        client=changed(CLIENT, "A 4 0 2", "A 9 0 2"),
+        client=changed(CLIENT, "A 6 0 2", "A 9 0 2"),
         status=3,
-        error=f"tlbridge-compare: client.beats line 2: 18 Range: {GET.replace('A 4', 'A 9')}\n",
+        error=f"tlbridge-compare: client.beats line 2: 18 Range: {ACQUIRE.replace('A 6', 'A 9')}\n",
     ),
     Case(
         "an opcode that is none, with times",
-        client=changed(CLIENT, "A 4 0 2", "A 9 0 2"),
+        client=changed(CLIENT, "A 6 0 2", "A 9 0 2"),
         status=3,
         with_times=True,
-        error=f"tlbridge-compare: client.beats line 2, time 20: 18 Range: {GET.replace('A 4', 'A 9')}\n",
+        error=f"tlbridge-compare: client.beats line 2, time 20: 18 Range: {ACQUIRE.replace('A 6', 'A 9')}\n",
     ),
     Case(
         "a trace that cannot be written",
@@ -763,18 +764,21 @@ def test_the_first_difference_is_the_earliest_of_all_channels(comparison, differ
     def put(width, data):
         return f"A 0 0 0 01 {0:016x} {1:0{(width + 3) // 4}x} {data:0{2 * width}x} 0\n"
 
-    for a_time, e_time, said in (
+    def release(width, data):
+        return f"C 7 1 0 01 {0:016x} {data:0{2 * width}x} 0\n"
+
+    for a_time, c_time, said in (
         (5, 6, "channel A, time 5"),
-        (6, 5, "channel E, time 5"),
+        (6, 5, "channel C, time 5"),
         (5, 5, "channel A, time 5"),
         (0, 0, "channel A, time 0"),
-        (3, 0, "channel E, time 0"),
+        (3, 0, "channel C, time 0"),
     ):
         (tmp_path / "client.beats.times").write_text("1\n1\n")
-        (tmp_path / "manager.beats.times").write_text(f"{a_time}\n{e_time}\n")
-        status, answer, _ = comparison.compare(tmp_path, put(8, 1) + "E 01\n", put(4, 2) + "E 02\n")
+        (tmp_path / "manager.beats.times").write_text(f"{a_time}\n{c_time}\n")
+        status, answer, _ = comparison.compare(tmp_path, put(8, 1) + release(8, 1), put(4, 2) + release(4, 2))
         differences.same(
-            f"differences at {a_time} and {e_time}", (status, answer.splitlines()[-1]), (1, f"first difference: {said}")
+            f"differences at {a_time} and {c_time}", (status, answer.splitlines()[0]), (1, f"first difference: {said}")
         )
     for times_of_link, words in (
         ("1\n\n", "client.beats.times line 2: not a time: "),
@@ -941,8 +945,8 @@ def test_a_run_of_several_parts_is_judged_as_one(comparison, differences, tmp_pa
             (
                 1,
                 [
-                    f"A: refused: near beat 7, client.beats line 15, time 710: Unaligned: {wrong[14]}; {NOT_JUDGED}",
                     "first difference: channel A, time 710",
+                    f"A: refused: near beat 7, client.beats line 15, time 710: Unaligned: {wrong[14]}; {NOT_JUDGED}",
                 ],
             ),
         )
@@ -1451,7 +1455,7 @@ def test_the_trace_is_written_in_order_of_time(comparison, differences, tmp_path
     differences.same(
         "client first",
         (tmp_path / "made").read_text(),
-        header + "\n".join((PUT, GET, "E 07", GET_DATA, PUT_ACK)) + "\n",
+        header + "\n".join((PUT, ACQUIRE, "E 07", GRANT_DATA, PUT_ACK)) + "\n",
     )
     differences.same("no times are written", (tmp_path / "made.times").exists(), False)
     (tmp_path / "client.beats.times").write_text("15\n25\n95\n95\n98\n")
@@ -1461,7 +1465,7 @@ def test_the_trace_is_written_in_order_of_time(comparison, differences, tmp_path
     differences.same(
         "client first",
         (tmp_path / "made").read_text(),
-        header + "\n".join((PUT, GET, "E 07", GET_DATA, PUT_ACK)) + "\n",
+        header + "\n".join((PUT, ACQUIRE, "E 07", GRANT_DATA, PUT_ACK)) + "\n",
     )
     differences.same("no times of one link are written", (tmp_path / "made.times").exists(), False)
     (tmp_path / "manager.beats.times").write_text("20\n30\n40\n50\n60\n99\n")
@@ -1469,7 +1473,7 @@ def test_the_trace_is_written_in_order_of_time(comparison, differences, tmp_path
     differences.same(
         "in order of time",
         (tmp_path / "made").read_text(),
-        header + "\n".join((PUT, GET, GET_DATA, PUT_ACK, "E 07")) + "\n",
+        header + "\n".join((PUT, ACQUIRE, GRANT_DATA, PUT_ACK, "E 07")) + "\n",
     )
     differences.same("the times are written", (tmp_path / "made.times").read_text(), "15\n25\n50\n60\n98\n")
     (tmp_path / "manager.beats.times").write_text("20\n21\n22\n25\n60\n99\n")
@@ -1477,7 +1481,7 @@ def test_the_trace_is_written_in_order_of_time(comparison, differences, tmp_path
     differences.same(
         "at one time the client's link comes first",
         (tmp_path / "made").read_text(),
-        header + "\n".join((PUT, GET, GET_DATA, PUT_ACK, "E 07")) + "\n",
+        header + "\n".join((PUT, ACQUIRE, GRANT_DATA, PUT_ACK, "E 07")) + "\n",
     )
 
 
@@ -1535,6 +1539,7 @@ def test_a_long_run_is_cut_into_parts(comparison, differences, tmp_path):
         (
             1,
             [
+                "first difference: channel D, time 3050",
                 "A: done: 40 near beats, 40 far beats expected",
                 "D: done: 40 near beats, 40 far beats expected",
                 (
@@ -1542,7 +1547,6 @@ def test_a_long_run_is_cut_into_parts(comparison, differences, tmp_path):
                     " 000000000000001e; its message begins at manager.beats line 62, time 3040: D 1 0 2 01 00 0"
                     " 0000001e 0"
                 ),
-                "first difference: channel D, time 3050",
             ],
         ),
     )
@@ -1562,7 +1566,7 @@ def script(path, text):
     return str(path)
 
 
-HEADER, A_LINE = "tilelink-far 1 client 8 manager 4", "A 4 0 2 02 0000000000001004 f 00000000 0"
+HEADER, A_LINE = "tilelink-far 1 client 8 manager 4", "A 6 0 2 02 0000000000001004 f 00000000 0"
 # Answers that are none: as printf has them, and the line that is wrong.
 WRONG_ANSWERS = (
     (r"tilelink-far 2 client 8 manager 4\n", 1, "tilelink-far 2 client 8 manager 4"),
@@ -1571,7 +1575,7 @@ WRONG_ANSWERS = (
     (rf"{HEADER}\n= A done 2 3\n= A done 2 3\n", 3, "= A done 2 3"),
     (rf"{HEADER}\n= A done 2 3\n{A_LINE}\n", 3, A_LINE),
     (rf"{HEADER}\nE 07\n{A_LINE}\n", 3, A_LINE),
-    (rf"{HEADER}\nA 4 0 2 02 0000000000001004 f\n", 2, "A 4 0 2 02 0000000000001004 f"),
+    (rf"{HEADER}\nA 6 0 2 02 0000000000001004 f\n", 2, "A 6 0 2 02 0000000000001004 f"),
     (rf"{HEADER}\nE 07 07\n", 2, "E 07 07"),
     (rf"{HEADER}\nF 07\n", 2, "F 07"),
     (rf"{HEADER}\nE xx\n", 2, "E xx"),

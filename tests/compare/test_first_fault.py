@@ -1,9 +1,9 @@
-"""With times, the first wrong request or response of a long run is the first thing that tlbridge-compare and
-tlbridge-trace report.
+"""With times, the first wrong request or response of a long run is the first thing that tlbridge-compare,
+tlbridge-trace and tlexplain report.
 
-A run of 10,000 messages crosses an adapter from 8 bytes to 4. In its first tenth one response is stray, lost, doubled
-or early, on the link of the manager or of the client. A trace without times pairs all later responses of that source
-wrongly, and names the last one.
+A run of 10,000 messages crosses an adapter from 8 bytes to 4: reads on A and D, or Releases on C and D. In its first
+tenth one response is stray, lost, doubled or early, on the link of the manager or of the client. A trace without times
+pairs all later responses of that source wrongly, and names the last one.
 """
 
 import random
@@ -15,11 +15,12 @@ from pathlib import Path
 from typing import Dict, List, Sequence, Tuple
 
 import pytest
-from project import MODEL, ROOT, SV
+from project import MODEL, ROOT, SV, needs_program
 
 MESSAGES, SOURCES, LIMIT = 10_000, 8, 600
 CLIENT, MANAGER = "client", "manager"
 KINDS = ("stray", "lost", "doubled", "early")
+READS, RELEASES = "A", "C"  # the channel of the requests; the responses are on D
 PERIOD = 10  # of the clock
 
 
@@ -42,9 +43,11 @@ class Recorded:
             (folder / f"{side}.beats.times").write_text("".join(f"{beat.time}\n" for beat in beats))
 
 
-def record(messages: int = MESSAGES, sources: int = SOURCES) -> Tuple[Recorded, List[Dict[str, Beat]]]:
-    """A right run: reads of 4 bytes, several at a time. Returns also the beats of each message: near and far request,
-    near and far response.
+def record(
+    channel: str = READS, messages: int = MESSAGES, sources: int = SOURCES
+) -> Tuple[Recorded, List[Dict[str, Beat]]]:
+    """A right run: reads or Releases of 4 bytes, several at a time. Returns also the beats of each message: near and
+    far request, near and far response.
     """
     chance, made, all_messages = random.Random(1), Recorded(), []
     free = {source: 0 for source in range(sources)}
@@ -53,17 +56,23 @@ def record(messages: int = MESSAGES, sources: int = SOURCES) -> Tuple[Recorded, 
         source = min(free, key=lambda name: free[name])
         time = max(time + PERIOD, free[source] + PERIOD)
         address = 0x1000 + 4 * (number % 1024)
-        upper = bool(address & 4)
-        data = f"{number:08x}"
         answer = max(time + 3 * PERIOD + PERIOD * chance.randrange(6), last_response + PERIOD)
         last_response = answer
-        near = f"A 4 0 2 {source:02x} {address:016x} {'f0' if upper else '0f'} {0:016x} 0"
-        wide = data + "00000000" if upper else "00000000" + data
+        if channel == READS:
+            upper, data = bool(address & 4), f"{number:08x}"
+            near = f"A 4 0 2 {source:02x} {address:016x} {'f0' if upper else '0f'} {0:016x} 0"
+            far = f"A 4 0 2 {source:02x} {address:016x} f 00000000 0"
+            wide = data + "00000000" if upper else "00000000" + data
+            responses = f"D 1 0 2 {source:02x} 00 0 {data} 0", f"D 1 0 2 {source:02x} 00 0 {wide} 0"
+        else:
+            near = f"C 6 1 2 {source:02x} {address:016x} {0:016x} 0"
+            far = f"C 6 1 2 {source:02x} {address:016x} 00000000 0"
+            responses = f"D 6 0 2 {source:02x} 00 0 00000000 0", f"D 6 0 2 {source:02x} 00 0 {0:016x} 0"
         beats = {
             "request": Beat(time, near),
-            "far request": Beat(time + PERIOD, f"A 4 0 2 {source:02x} {address:016x} f 00000000 0"),
-            "response": Beat(answer, f"D 1 0 2 {source:02x} 00 0 {data} 0"),
-            "far response": Beat(answer + PERIOD, f"D 1 0 2 {source:02x} 00 0 {wide} 0"),
+            "far request": Beat(time + PERIOD, far),
+            "response": Beat(answer, responses[0]),
+            "far response": Beat(answer + PERIOD, responses[1]),
         }
         made.beats[CLIENT] += [beats["request"], beats["far response"]]
         made.beats[MANAGER] += [beats["far request"], beats["response"]]
@@ -72,9 +81,9 @@ def record(messages: int = MESSAGES, sources: int = SOURCES) -> Tuple[Recorded, 
     return made, all_messages
 
 
-def planted(kind: str, side: str, at: int = 700) -> Tuple[Recorded, int]:
+def planted(kind: str, side: str, channel: str = READS, at: int = 700) -> Tuple[Recorded, int]:
     """A run with one fault on one link, and the time at which it has to be reported first."""
-    made, messages = record()
+    made, messages = record(channel)
     name = "response" if side == MANAGER else "far response"
     response = messages[at][name]
     source = response.line[8:10]
@@ -106,17 +115,18 @@ def times_of(line: str) -> List[int]:
 
 
 def is_first(lines: List[str], time: int) -> bool:
-    """Whether the first line of a report, or for a difference the last one, names this time before any other."""
+    """Whether the first line of a report names this time before any other."""
     if lines[0].startswith("first fault: "):
         return times_of(lines[0])[:1] == [time]
     # a lost response is seen at the next beat of its channel
-    return lines[-1].startswith("first difference: ") and time <= times_of(lines[-1])[0] <= time + 20 * PERIOD
+    return lines[0].startswith("first difference: ") and time <= times_of(lines[0])[0] <= time + 20 * PERIOD
 
 
+@pytest.mark.parametrize("channel", (READS, RELEASES))
 @pytest.mark.parametrize("side", (MANAGER, CLIENT))
 @pytest.mark.parametrize("kind", KINDS)
-def test_compare(tmp_path: Path, kind: str, side: str) -> None:
-    made, time = planted(kind, side)
+def test_compare(tmp_path: Path, kind: str, side: str, channel: str) -> None:
+    made, time = planted(kind, side, channel)
     made.write(tmp_path)
     status, lines, error = run(
         [sys.executable, SV / "compare", 8, 4, "client.beats", "manager.beats", "--program", MODEL], tmp_path
@@ -125,13 +135,40 @@ def test_compare(tmp_path: Path, kind: str, side: str) -> None:
     if lines[0].startswith("first fault: "):
         later = [line for line in lines[1:] if times_of(line) and not line.startswith("first")]
         assert all("after the first fault" in line for line in later if times_of(line)[0] > time), lines
-    words = {"stray": "which has no request", "lost": "", "doubled": "a second response", "early": "before its request"}
+    request, response = ("request", "response") if channel == READS else ("Release", "ReleaseAck")
+    words = {
+        "stray": f"which has no {request}",
+        "lost": "",
+        "doubled": f"a second {response}",
+        "early": f"before its {request}",
+    }
     assert side == CLIENT or words[kind] in lines[0], lines
 
 
-def test_right_run(tmp_path: Path) -> None:
+@pytest.mark.parametrize("is_verified", (False, True))
+@pytest.mark.parametrize("channel", (READS, RELEASES))
+@pytest.mark.parametrize("side", (MANAGER, CLIENT))
+@pytest.mark.parametrize("kind", KINDS)
+def test_explain(tmp_path: Path, kind: str, side: str, channel: str, is_verified: bool) -> None:
+    """tlexplain names the beat on the same link, whose lines are in the order of time. So does its model."""
+    program = [needs_program("tlexplain")] if is_verified else [sys.executable, ROOT / "tlexplain-model"]
+    made, time = planted(kind, side, channel)
+    if kind == "lost":  # the request is named
+        _, messages = record(channel)
+        time = messages[700]["far request" if side == MANAGER else "request"].time
+    made.write(tmp_path)
+    width = 4 if side == MANAGER else 8
+    header = f"tilelink-trace 1 client {width} manager {width}\n"
+    (tmp_path / "one.trace").write_text(header + (tmp_path / f"{side}.beats").read_text())
+    command = [*program, "--only", "problems", "--times", f"{side}.beats.times", "one.trace"]
+    _, lines, error = run(command, tmp_path)
+    assert times_of(lines[0])[:1] == [time], (time, lines[:3], error)
+
+
+@pytest.mark.parametrize("channel", (READS, RELEASES))
+def test_right_run(tmp_path: Path, channel: str) -> None:
     """The run itself is right, and nothing is said about it."""
-    made, _ = record(2000)
+    made, _ = record(channel, 2000)
     made.write(tmp_path)
     status, lines, error = run(
         [sys.executable, SV / "compare", 8, 4, "client.beats", "manager.beats", "--program", MODEL], tmp_path
@@ -148,17 +185,19 @@ def test_without_times(tmp_path: Path) -> None:
     status, lines, _ = run(
         [sys.executable, SV / "compare", 8, 4, "client.beats", "manager.beats", "--program", MODEL], tmp_path
     )
-    assert status == 1 and not lines[0].startswith("first fault")
+    assert status == 1 and not lines[0].startswith("first ")
 
 
 # ---- the same runs as waveforms
 
 SIGNALS = {
     "A": (("opcode", 3), ("size", 4), ("source", 8), ("address", 32), ("mask", 0), ("data", 0), ("corrupt", 1)),
+    "C": (("opcode", 3), ("param", 3), ("size", 4), ("source", 8), ("address", 32), ("data", 0), ("corrupt", 1)),
     "D": (("opcode", 3), ("size", 4), ("source", 8), ("sink", 1), ("denied", 1), ("data", 0), ("corrupt", 1)),
 }
 PLACES = {
     "opcode": 1,
+    "param": 2,
     "size": 3,
     "source": 4,
     "address": 5,
@@ -195,7 +234,7 @@ def write_vcd(made: Recorded, path: Path) -> None:
         for beat in beats:
             edges.setdefault((side, beat.time), []).append(beat.line)
     for side in (CLIENT, MANAGER):
-        for channel in "AD":
+        for channel in SIGNALS:
             steps[0].append("1" + codes[side, f"{side}_{channel.lower()}_ready"][0])
     for (side, time), lines in edges.items():
         rise, before = 2 * time, steps.setdefault(2 * time - 1, [])
@@ -217,10 +256,11 @@ def write_vcd(made: Recorded, path: Path) -> None:
             out.write(f"#{time}\n" + "".join(change + "\n" for change in steps[time]))
 
 
+@pytest.mark.parametrize("channel", (READS, RELEASES))
 @pytest.mark.parametrize("kind", KINDS)
-def test_trace(tmp_path: Path, kind: str) -> None:
+def test_trace(tmp_path: Path, kind: str, channel: str) -> None:
     """tlbridge-trace --compare and --all name the same beat of a waveform."""
-    made, time = planted(kind, MANAGER)
+    made, time = planted(kind, MANAGER, channel)
     made.write(tmp_path)
     write_vcd(made, tmp_path / "dump.vcd")
     command = [sys.executable, ROOT / "tlbridge-trace", "dump.vcd", "--program", MODEL, "--quiet"]
@@ -230,3 +270,19 @@ def test_trace(tmp_path: Path, kind: str) -> None:
     status, lines, error = run([*command, "--all"], tmp_path)
     row = next(line for line in lines if line.startswith("dut.manager "))
     assert status == 1 and f"time {2 * time}: " in row, (time, lines, error)
+
+
+def test_remark(tmp_path: Path) -> None:
+    """A ReleaseAck without a Release that crosses the adapter is a remark: the model accepts it, and the adapter is
+    right.
+    """
+    made, messages = record(RELEASES, 200)
+    for side, name in ((MANAGER, "response"), (CLIENT, "far response")):
+        beat = messages[150][name]
+        made.beats[side].append(Beat(beat.time + 1, beat.line))
+    made.write(tmp_path)
+    status, lines, error = run(
+        [sys.executable, SV / "compare", 8, 4, "client.beats", "manager.beats", "--program", MODEL], tmp_path
+    )
+    assert (status, len(lines), error) == (0, 6, ""), (lines, error)
+    assert lines[-1].startswith("remark: channel D, ") and "a second ReleaseAck" in lines[-1], lines

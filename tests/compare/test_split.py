@@ -294,3 +294,16 @@ def test_two_thousand_messages(tmp_path: Path) -> None:
     ended = judged(tmp_path, client, manager)
     assert ended.status == 1 and "manager.beats line 2002" not in ended.lines[0]
     assert any("client.beats line 1002: corrupt is 0, expected 1" in line for line in ended.lines), ended
+
+
+@pytest.mark.simulator
+@pytest.mark.parametrize("burst, status", ((1, 1), (0, 0)))
+def test_the_level_of_verify(tmp_path: Path, burst: int, status: int) -> None:
+    """tlbridge-verify --rules-only --level UL calls the bursting twin wrong, and the splitting adapter right."""
+    needs_tools("verilator", "iverilog")
+    source = BENCH.read_text().partition("module split_bench;")[0].replace("BURST = 0", f"BURST = {burst}")
+    (tmp_path / "adapter.sv").write_text(source)
+    words = ["adapter.sv", "--top", "splitter", "--rules-only", "--level", "UL", "--messages", "50", "--no-waves"]
+    command = [sys.executable, str(ROOT / "tlbridge-verify"), *words, "--shrink-seconds", "1", "--simulator", "icarus"]
+    done = subprocess.run(command, cwd=tmp_path, capture_output=True, text=True, timeout=LIMIT)
+    assert (done.returncode, "BurstNotInLevel" in done.stdout) == (status, status == 1), done.stdout + done.stderr

@@ -132,7 +132,7 @@ PLACES = (
     (
         ("tilelink-trace 2 client 8 manager 4", "E 2a"),
         (
-            "16 Length: the line has 4 characters and has to have 6, in the form below the mark;"
+            "16 Length: the line has 4 characters, expected 6, in the form below the mark;"
             " it has the form of version 1, in which an id has 2 digits"
         ),
         4,
@@ -141,7 +141,7 @@ PLACES = (
     (
         ("tilelink-trace 1 client 8 manager 4", "E 002a"),
         (
-            "16 Length: the line has 6 characters and has to have 4, in the form below the mark;"
+            "16 Length: the line has 6 characters, expected 4, in the form below the mark;"
             " it has the form of version 2, in which an id has 4 digits"
         ),
         4,
@@ -194,7 +194,7 @@ STOPPED_SENTENCES = {
     5: "line 5: A Get, source 02, 4 bytes at 0x1008: not offered, since line 3 was refused\n",
     6: (
         "line 6: D AccessAckData, source 02, 4 bytes: waiting, 9 NoRequest: no request of source 02"
-        " waits for a response: that in line 5 was not offered, since line 3 was refused\n"
+        " waits for a response: the request in line 5 was not offered, since line 3 was refused\n"
     ),
     (7, 8): "lines 7 to 8, 2 beats: not offered, A since line 3 was refused, D since line 6 waits\n",
     (5, 7): "lines 5 to 7, 2 beats: not offered, A since line 3 was refused\n",

@@ -25,6 +25,7 @@ import pytest
 import records
 from browser import WINDOW, Browser
 from project import EXAMPLES, ROOT, needs_program, needs_tools
+from random_traces import lawful_trace
 
 HERE = Path(__file__).resolve().parent
 pytestmark = [pytest.mark.long, pytest.mark.browser]
@@ -352,10 +353,7 @@ class Looks:
 
     def time(self, lines):
         """The page of a long trace: the program and the browser each take about a second at most."""
-        words = ["--client", "8", "--manager", "4", "--lines", str(lines), "--seed", "1"]
-        text = subprocess.run(
-            [sys.executable, str(ROOT / "tools" / "make-trace"), *words], capture_output=True, check=True
-        ).stdout
+        text = lawful_trace(8, 4, lines, 1)
         page, begun = self.folder / "page.html", time.perf_counter()
         page.write_bytes(self.said(self.tlexplain, "--html", text=text))
         made, opened = time.perf_counter() - begun, self.browser.open(page)
@@ -373,14 +371,6 @@ class Looks:
         self.see("a long trace: folded", 0 < messages < beats, messages)
         self.see("a long trace: all beats", beats == text.count(b"\n") - 1, beats)
         self.see("a long trace: in time", made < MOST_SECONDS and opened < 2 * MOST_SECONDS, (made, opened))
-
-
-def random_page(client, manager, seed):
-    """A trace of tools/make-trace."""
-    words = ["--client", str(client), "--manager", str(manager), "--lines", "60", "--seed", str(seed)]
-    return subprocess.run(
-        [sys.executable, str(ROOT / "tools" / "make-trace"), *words], capture_output=True, check=True
-    ).stdout
 
 
 @pytest.fixture(scope="module")
@@ -403,7 +393,7 @@ def test_the_page_of_an_example(looks, path):
 
 @pytest.mark.parametrize("seed, widths", enumerate(((8, 8), (1, 16), (64, 8), (4, 32), (128, 16))))
 def test_the_page_of_a_random_trace(looks, seed, widths):
-    looks.look_at(f"random, {widths}", random_page(*widths, seed))
+    looks.look_at(f"random, {widths}", lawful_trace(*widths, 60, seed))
 
 
 def test_the_page_of_markup_in_place_of_a_line(looks):

@@ -1,7 +1,7 @@
 """Compares the remarks of tlexplain with those of a plain model, on random traces with mistakes in them.
 
-Each trace is one of tools/make-trace. In most of them, some fields of some lines are then replaced, and some lines are
-left out or repeated. A trace without such mistakes may have remarks only on exchanges that are open at its end, and
+Each trace is drawn by tlbridge.traffic. In most of them, some fields of some lines are then replaced, and some lines
+are left out or repeated. A trace without such mistakes may have remarks only on exchanges that are open at its end, and
 there are none of these. The model shares nothing with the program. It takes the accepted messages from the unverified
 model, ./tlbridge-model, keeps a queue for each key, and has the tables of the SiFive TileLink Specification 1.8 by the
 names of messages and params.
@@ -19,7 +19,8 @@ import sys
 from collections import Counter, defaultdict, deque
 
 import pytest
-from project import MODEL, ROOT, needs_program, script
+from project import MODEL, needs_program, script
+from random_traces import lawful_trace
 
 model = script(MODEL)
 
@@ -97,7 +98,7 @@ class Model:
         a, b, c, d, e = (self.messages[channel] for channel in "ABCDE")
         for message in a:
             if name_of(message) == "AcquirePerm" and message.head["param"] == 0:
-                self.say(message.line, "it gives no data, and so it asks for NtoT or BtoT, and not for NtoB")
+                self.say(message.line, "an AcquirePerm has to ask for NtoT or BtoT, not for NtoB")
         for message in d:
             if name_of(message) == "ReleaseAck" and message.head["denied"]:
                 self.say(message.line, "a ReleaseAck cannot be denied")
@@ -148,7 +149,7 @@ class Model:
         if name == "GrantAck":
             return
         if name not in ANSWERS[asked]:
-            self.say(answer.line, f"it is no response to {asked}, in line {ask.line}")
+            self.say(answer.line, f"it is not a valid response to {asked}, in line {ask.line}")
         elif asked.startswith("Acquire") and not answer.head["denied"]:
             growth, cap = GROWTHS[ask.head["param"]], CAPS[answer.head["param"]]
             if RIGHTS.index(cap[-1]) < RIGHTS.index(growth[-1]):
@@ -222,15 +223,11 @@ def lawful_failure(program, number, lines):
     that it has."""
     widths = [(client, manager) for client in model.WIDTHS for manager in model.WIDTHS]
     client, manager = widths[number % len(widths)]
-    words = ["--client", str(client), "--manager", str(manager), "--lines", str(lines), "--seed", str(number)]
-    words += ["--sources", str(1 + number % 200), "--largest", str(1 << number % 13)]
-    made = subprocess.run(
-        [sys.executable, str(ROOT / "tools" / "make-trace"), *words], capture_output=True, check=True
-    ).stdout
+    made = lawful_trace(client, manager, lines, number, sources=1 + number % 200, sizes=range(1 + number % 13))
     ended = subprocess.run([program, "--only", "problems"], input=made, capture_output=True)
     said = ended.stdout.decode().splitlines()
     if ended.returncode or len(said) != 6 or ended.stderr:
-        return f"lawful trace {number} by {' '.join(words)}: status {ended.returncode}, {said[:3]}", made.count(b"\n")
+        return f"lawful trace {number}, {client} to {manager}: status {ended.returncode}, {said[:3]}", made.count(b"\n")
     return None, made.count(b"\n")
 
 
@@ -343,23 +340,7 @@ def in_order_failure(program, seed, what):
     """Returns the error in the remarks on a conversation with this mistake, or on a lawful one."""
     randomness = random.Random(f"in order {seed} {what}")
     client, manager = (randomness.choice(model.WIDTHS[2:6]) for _ in range(2))
-    words = [
-        "--client",
-        str(client),
-        "--manager",
-        str(manager),
-        "--lines",
-        "5000",
-        "--seed",
-        str(seed),
-        "--sources",
-        "12",
-        "--largest",
-        "32",
-    ]
-    made = subprocess.run(
-        [sys.executable, str(ROOT / "tools" / "make-trace"), *words], capture_output=True, check=True
-    ).stdout
+    made = lawful_trace(client, manager, 5000, seed, sources=12, sizes=range(6))
     header, rows, exchanges = exchanges_of(made)
     wanted = []
     if what:
@@ -387,12 +368,8 @@ def random_remarks(number, seed=1):
     """The remarks that are wanted on a random trace of this number, and those that come."""
     randomness = random.Random(f"{seed} {number}")
     client, manager = randomness.choice(model.WIDTHS[4:7]), randomness.choice(model.WIDTHS[4:7])
-    words = ["--client", str(client), "--manager", str(manager), "--lines", str(LINES), "--seed", str(number)]
-    mix = randomness.choice(("get,put,intent", "acquire,probe,release", "acquire,probe,release,get"))
-    words += ["--largest", "4", "--mix", mix]
-    made = subprocess.run(
-        [sys.executable, str(ROOT / "tools" / "make-trace"), *words], capture_output=True, check=True
-    ).stdout
+    mix = randomness.choice(("get put intent", "acquire probe release", "acquire probe release get"))
+    made = lawful_trace(client, manager, LINES, number, sizes=range(3), mix=dict.fromkeys(mix.split(), 1))
     header, *lines = made.decode().splitlines()
     is_lawful = number % 5 == 0
     if not is_lawful:

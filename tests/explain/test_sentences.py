@@ -16,7 +16,7 @@ import pytest
 from project import ROOT, needs_program
 
 HERE = Path(__file__).resolve().parent / "sentences"
-CRATES = ("tl_explain", "tl_remarks", "tl_markup", "tl_page", "tlexplain")
+CRATES = ("tl_text", "tl_remarks", "tl_times", "tl_explain", "tl_markup", "tl_formats", "tlexplain")
 
 # The name of an output, its trace, the words of the command line, and the exit status. A word that names a file of this
 # folder is that file.
@@ -79,7 +79,7 @@ NEVER = {
     "channels A and B have a message for each opcode of three bits": (" has only the opcodes 0 to 7",),
     "`?` and the last arms of `match` need a value for what cannot happen": (
         "the mask is wrong",
-        " is of another size",
+        " has another size",
         "expected the end of the line",
     ),
     "a report that leaves nothing, or nothing more, never leaves too much": ("TtoN", "BtoN", "NtoN"),

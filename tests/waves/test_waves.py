@@ -1191,13 +1191,13 @@ class Comparing(Case):
         status, out, _ = self.compared([FAR[0], FAR[1].replace(" 07 ", " 06 "), FAR[2]] + self.REPORT)
         self.assertEqual(status, 1)
         self.assertEqual(
-            out[2],
+            out[3],
             (
                 "A: far beat 0, time 10 on the manager's link: source is 07, expected 06; "
                 f"its message begins at time 10 on the client's link, line 2 of the trace: {LOW}"
             ),
         )
-        self.assertEqual(out[-1], "first difference: channel A, time 10")
+        self.assertEqual(out[1], "first difference: channel A, time 10")
 
     def test_missing_and_unexpected(self):
         status, out, _ = self.compared([FAR[0], FAR[1], FAR[1], FAR[2]] + self.REPORT)
@@ -1210,7 +1210,7 @@ class Comparing(Case):
         status, out, _ = self.compared([FAR[0], FAR[2], "= A refused 0 Mask", *self.REPORT[1:]], None, 1)
         self.assertEqual(status, 1)
         self.assertEqual(
-            out[1:3],
+            out[2:4],
             [
                 (
                     f"A: refused: near beat 0, time 10 on the client's link, line 2 of the trace: Mask: {LOW}; later"
@@ -1219,7 +1219,7 @@ class Comparing(Case):
                 "B: done: 0 near beats, 0 far beats expected",
             ],
         )
-        self.assertEqual(out[-1], "first difference: channel A, time 10")
+        self.assertEqual(out[1], "first difference: channel A, time 10")
 
     def test_program_fails(self):
         status, _, said = self.compared([], None, 9)
@@ -2099,7 +2099,7 @@ class Page(Case):
             text, out, _ = self.made(
                 made.text(), "--client", "in", "--manager", "out", "--compare", "--program", str(program), status=wanted
             )
-            self.assertEqual(out[1], f"A: done: {2 + wanted} near beats, {2 + wanted} far beats expected")
+            self.assertEqual(out[1 + wanted], f"A: done: {2 + wanted} near beats, {2 + wanted} far beats expected")
             self.assertEqual(len(Markup(text).items), 3 + wanted)
             made.read(200, 2, drop=(3,))
 

@@ -12,6 +12,7 @@ from typing import Any, Callable, Dict, List, NamedTuple, Optional, Sequence
 
 from ..judge import level_words
 from ..levels import NAMES
+from ..matching import PAIRS
 from ..one_link import LinkFault, LinkJudge
 from ..protocol import CHANNELS
 from ..run import EndedError, FailureError, Row
@@ -108,7 +109,7 @@ class Verdict:
         self.beats = {port.letter: port.accepted for port in watch.ports}
         self.level = NAMES[matcher.lowest_level()] if any(self.beats.values()) else ""
         self.outstanding = watch.judge.run.outstanding()
-        self.asked = sorted(matcher.outstanding.values(), key=lambda asked: asked.time or 0)
+        self.asked = matcher.outstanding()
         self.remarks = [*([watch.failure] if watch.failure else []), *left_out, *self._hangs(), *remarks]
 
     @property
@@ -123,9 +124,11 @@ class Verdict:
             words = f"{wait.channel}: valid without ready since time {wait.since}, for {wait.cycles} cycles"
             said.append(f"{words} until the dump ends{is_longest * HANGS}")
         for asked in self.asked[:1]:
-            is_longest = self._end - (asked.time or 0) > self.watch.judge.matcher.longest
+            pair = self.watch.judge.matcher.pairs[asked.channel]
+            is_longest = self._end - (asked.time or 0) > pair.longest
             more = f"; {len(self.asked) - 1} later ones have none either" if len(self.asked) > 1 else ""
-            words = f"A: the request of time {asked.time} has no response when the dump ends: {asked.line}"
+            what = f"the {PAIRS[asked.channel].request} of time {asked.time} has no {PAIRS[asked.channel].response}"
+            words = f"{asked.channel}: {what} when the dump ends: {asked.line}"
             said.append(words + is_longest * HANGS + more)
         return said
 

@@ -1,12 +1,17 @@
 """From a waveform to a trace, or to a judgement.
 
-    tlbridge-trace DUMP                                          lists the TileLink links of a VCD, a .vcd.gz or an FST
-    file tlbridge-trace --all DUMP                                    judges each of these links by itself, in one pass,
-    with a table tlbridge-trace DUMP --link LINK > TRACE                      writes the beats of one link as a trace,
-    for tlexplain tlbridge-trace DUMP --link LINK --html PAGE                  writes the page of that trace, with times
-    and notes, for a browser tlbridge-trace DUMP --client LINK --manager LINK > TRACE     writes the near beats of both
-    links as a trace tlbridge-trace DUMP --client LINK --manager LINK --compare   reports whether the design's far beats
-    are as expected
+    tlbridge-trace DUMP
+        lists the TileLink links of a VCD, a .vcd.gz or an FST file
+    tlbridge-trace --all DUMP
+        judges each of these links by itself, in one pass, with a table
+    tlbridge-trace DUMP --link LINK > TRACE
+        writes the beats of one link as a trace, for tlexplain
+    tlbridge-trace DUMP --link LINK --html PAGE
+        writes the page of that trace, with times and notes, for a browser
+    tlbridge-trace DUMP --client LINK --manager LINK > TRACE
+        writes the near beats of both links as a trace
+    tlbridge-trace DUMP --client LINK --manager LINK --compare
+        reports whether the design's far beats are as expected
 
 LINK is a name from the list, or its end after a dot. DUMP may be `-` for a VCD on standard input.
 """
@@ -15,7 +20,8 @@ from __future__ import annotations
 import argparse
 import contextlib
 import sys
-from typing import IO, Callable, Dict, Iterator, List, Optional, Sequence, Set, Tuple, TypeVar
+from dataclasses import dataclass
+from typing import IO, Callable, Dict, Iterator, List, Mapping, Optional, Sequence, Set, Tuple, TypeVar
 
 from ..protocol import CHANNELS, FIELDS, FROM_CLIENT, WIDTHS
 from ..compare import split_hint
@@ -179,23 +185,74 @@ def command_line() -> argparse.ArgumentParser:
     return words
 
 
-def sides_of(words: argparse.Namespace) -> Tuple[str, ...]:
+@dataclass(frozen=True)
+class LinkOptions:
+    """The words of the command line for one link."""
+
+    name: Optional[str]
+    pattern: Optional[str]
+    clock: Optional[str]
+    reset: Optional[str]
+    width: Optional[int]
+
+
+@dataclass(frozen=True)
+class Options:
+    """The command line, which `command_line` explains."""
+
+    dump: str
+    links: Mapping[str, LinkOptions]  # of link, client and manager
+    default: LinkOptions  # for each link that does not have its own clock, reset or width
+    fields: Sequence[str]
+    structs: Sequence[str]
+    all: bool
+    json: bool
+    level: Optional[str]
+    trace: Optional[str]
+    times: Optional[str]
+    html: Optional[str]
+    tlexplain: Optional[str]
+    far: Optional[str]
+    beats: Optional[str]
+    compare: bool
+    ignore_unmasked: bool
+    program: Optional[str]
+    unknown_zero: bool
+    first: Optional[int]
+    last: Optional[int]
+    trace_version: Optional[int]
+    no_count: bool
+    quiet: bool
+
+
+def options_of(words: argparse.Namespace) -> Options:
+    """Returns the options of a parsed command line."""
+    given = vars(words)
+
+    def link(side: str) -> LinkOptions:
+        name, start = given.pop(side, None), f"{side}_" if side else ""
+        return LinkOptions(name, *(given.pop(start + what, None) for what in ("pattern", "clock", "reset", "width")))
+
+    links = {side: link(side) for side in ("link", "client", "manager")}
+    default = link("")
+    return Options(links=links, default=default, fields=given.pop("field"), structs=given.pop("struct"), **given)
+
+
+def sides_of(options: Options) -> Tuple[str, ...]:
     """The links that are named: none, one, or a client's and a manager's."""
-    named = {
-        side for side in ("link", "client", "manager") if getattr(words, side) or getattr(words, f"{side}_pattern")
-    }
-    if words.all:
-        if named or words.compare or words.far or words.trace or words.beats or words.times or words.html:
+    named = {side for side, link in options.links.items() if link.name or link.pattern}
+    if options.all:
+        if named or options.compare or options.far or options.trace or options.beats or options.times or options.html:
             raise FailureError("--all judges each link by itself: no other link and no other output can be named", 2)
-        if words.first is not None or words.last is not None or words.no_count:
+        if options.first is not None or options.last is not None or options.no_count:
             raise FailureError("--all judges the whole dump: --from, --to and --no-count have no meaning with it", 2)
         return ()
-    if words.json:
+    if options.json:
         raise FailureError("--json needs --all", 2)
-    if words.level and (words.first is not None or words.last is not None or not named):
+    if options.level and (options.first is not None or options.last is not None or not named):
         raise FailureError("--level is for a whole dump, with --all, with --link, or with --client and --manager", 2)
     if not named:
-        if words.compare or words.far or words.trace or words.beats or words.times or words.html:
+        if options.compare or options.far or options.trace or options.beats or options.times or options.html:
             raise FailureError(
                 (
                     "name the links, with --client and --manager, or one with --link; without other options the links"
@@ -205,7 +262,7 @@ def sides_of(words: argparse.Namespace) -> Tuple[str, ...]:
             )
         return ()
     if named == {"link"}:
-        if words.compare or words.far or words.beats:
+        if options.compare or options.far or options.beats:
             raise FailureError("--compare, --far and --beats need two links: name them with --client and --manager", 2)
         return ("link",)
     if named != {"client", "manager"}:
@@ -213,10 +270,10 @@ def sides_of(words: argparse.Namespace) -> Tuple[str, ...]:
     return ("client", "manager")
 
 
-def renamed_of(words: argparse.Namespace) -> Dict[str, str]:
+def renamed_of(options: Options) -> Dict[str, str]:
     renamed = {}
     known = {"valid", "ready", *(name for names in FIELDS.values() for name in names)}
-    for word in words.field:
+    for word in options.fields:
         name, equals, value = word.partition("=")
         if not equals or name not in known:
             raise FailureError(f"--field '{word}' is not NAME=WORD, where NAME is one of {', '.join(sorted(known))}", 2)
@@ -224,28 +281,23 @@ def renamed_of(words: argparse.Namespace) -> Dict[str, str]:
     return renamed
 
 
-def opened(words: argparse.Namespace, renamed: Dict[str, str], layouts: Sequence[Layout]) -> Reader:
-    given = (getattr(words, side + what) for side in ("", "client_", "manager_") for what in ("clock", "reset"))
-    extra = [name.lstrip("!") for name in given if name]
-    for pattern in (words.link_pattern, words.client_pattern, words.manager_pattern):
-        if pattern:
-            extra += names_of_pattern(pattern, renamed)
-    stream, feeder, size = open_wave(words.dump)
-    return Reader(stream, is_wanted(extra, layouts), words.dump, feeder, size, words.quiet)
+def opened(options: Options, renamed: Dict[str, str], layouts: Sequence[Layout]) -> Reader:
+    links = [options.default, *options.links.values()]
+    extra = [name.lstrip("!") for link in links for name in (link.clock, link.reset) if name]
+    for link in links:
+        if link.pattern:
+            extra += names_of_pattern(link.pattern, renamed)
+    stream, feeder, size = open_wave(options.dump)
+    return Reader(stream, is_wanted(extra, layouts), options.dump, feeder, size, options.quiet)
 
 
-def link_of(
-    words: argparse.Namespace, side: str, links: Sequence[Link], signals: Signals, renamed: Dict[str, str]
-) -> Link:
-    pattern, name = getattr(words, f"{side}_pattern"), getattr(words, side)
-    if pattern and name:
+def link_of(options: Options, side: str, links: Sequence[Link], signals: Signals, renamed: Dict[str, str]) -> Link:
+    named, default = options.links[side], options.default
+    if named.pattern and named.name:
         raise FailureError(f"give --{side} or --{side}-pattern, and not both", 2)
-    link = by_pattern(pattern, signals, renamed) if pattern else choose(links, name)
-    option = {
-        what: getattr(words, f"{side}_{what}", None) or getattr(words, what) for what in ("width", "clock", "reset")
-    }
-    link.finish(option["width"])
-    find_clocks(link, signals, option["clock"], option["reset"])
+    link = by_pattern(named.pattern, signals, renamed) if named.pattern else choose(links, named.name or "")
+    link.finish(named.width or default.width)
+    find_clocks(link, signals, named.clock or default.clock, named.reset or default.reset)
     if link.clock is None:
         for other in links:
             if other is not link and not other.is_half:
@@ -276,7 +328,7 @@ def reset_of(link: Link) -> str:
     return "!" * link.is_reset_low + link.reset.name if link.reset else "none"
 
 
-def list_links(words: argparse.Namespace, reader: Reader, links: List[Link], signals: Signals) -> int:
+def list_links(options: Options, reader: Reader, links: List[Link], signals: Signals) -> int:
     halves = [link for link in links if link.is_half]
     links = [link for link in links if not link.is_half]
     if not links and not halves:
@@ -286,12 +338,12 @@ def list_links(words: argparse.Namespace, reader: Reader, links: List[Link], sig
             else ""
         )
         raise FailureError(
-            f"{words.dump}: no TileLink link is among its {sum(reader.kinds.values())} variables in"
+            f"{options.dump}: no TileLink link is among its {sum(reader.kinds.values())} variables in"
             f" {reader.scopes} scopes: --link-pattern, --client-pattern and --manager-pattern say how its signals are"
             f" named.{extended}"
         )
-    watches = watches_of(words, links, signals, lambda link: Watch(link, span=(words.first, words.last)))
-    is_counted = bool(watches) and not words.no_count
+    watches = watches_of(options, links, signals, lambda link: Watch(link, span=(options.first, options.last)))
+    is_counted = bool(watches) and not options.no_count
     sampler = Sampler(reader, list(watches.values()) if is_counted else [])
     if is_counted:
         sampler.read()
@@ -319,7 +371,7 @@ def list_links(words: argparse.Namespace, reader: Reader, links: List[Link], sig
             print_remarks(link)
     if halves:
         print(f"one direction each, joined by + as in --client A+B: {few([link.name for link in halves], 12)}")
-    if is_counted and not words.quiet:
+    if is_counted and not options.quiet:
         tell(reader, sampler, None, note)
     return 0
 
@@ -335,15 +387,15 @@ AnyWatch = TypeVar("AnyWatch", bound=Watch)
 
 
 def watches_of(
-    words: argparse.Namespace, links: Sequence[Link], signals: Signals, made: Callable[[Link], AnyWatch]
+    options: Options, links: Sequence[Link], signals: Signals, made: Callable[[Link], AnyWatch]
 ) -> Dict[Link, AnyWatch]:
     """A watch for each link that can be sampled; the same wires are sampled once."""
     watches: Dict[Link, AnyWatch] = {}
     seen: Dict[object, Link] = {}
     for link in links:
-        link.finish(words.width)
+        link.finish(options.default.width)
         try:
-            find_clocks(link, signals, words.clock, words.reset)
+            find_clocks(link, signals, options.default.clock, options.default.reset)
         except FailureError as error:
             link.problems.append(str(error))
     for link in links:
@@ -359,22 +411,22 @@ def watches_of(
 # ---- all links
 
 
-def judge_all(words: argparse.Namespace, reader: Reader, found: Sequence[Link], signals: Signals) -> int:
+def judge_all(options: Options, reader: Reader, found: Sequence[Link], signals: Signals) -> int:
     """Judges each link of the dump by itself, in one pass. Returns the exit status."""
     links = [link for link in found if not link.is_half]
-    judges = AllLinks(program_of(words.program, nothing), words.level, lambda link: version_for(words, [link]))
+    judges = AllLinks(program_of(options.program, nothing), options.level, lambda link: version_for(options, [link]))
     try:
-        watches = watches_of(words, links, signals, judges.watch)
+        watches = watches_of(options, links, signals, judges.watch)
         if not watches:
             for link in links:
                 print_remarks(link)
-            raise FailureError(f"{words.dump}: no link is there that can be judged", 2 if links else 3)
+            raise FailureError(f"{options.dump}: no link is there that can be judged", 2 if links else 3)
         sampler = Sampler(reader, list(watches.values()))
         verdicts = judges.read(sampler, lambda watch: remarks_of(watch, is_list=True))
         others = [(link, why_not(link)) for link in links if link not in watches]
-        if words.json:
+        if options.json:
             about = {
-                "dump": words.dump,
+                "dump": options.dump,
                 "begin": sampler.begin or 0,
                 "end": sampler.end,
                 "unit": reader.timescale,
@@ -569,21 +621,19 @@ class MonitorRun(Run):
 class Outputs:
     """Writes and judges the parts of a run."""
 
-    def __init__(
-        self, words: argparse.Namespace, judge: Optional[Judge], pages: Optional[Pages], told: Callable[[str], None]
-    ):
-        self.words, self.judge, self.pages, self._told = words, judge, pages, told
-        self.is_trace_shown = not words.trace and not words.compare and not words.html
+    def __init__(self, options: Options, judge: Optional[Judge], pages: Optional[Pages], told: Callable[[str], None]):
+        self.options, self.judge, self.pages, self._told = options, judge, pages, told
+        self.is_trace_shown = not options.trace and not options.compare and not options.html
 
     def part(self, part: Part) -> None:
-        words = self.words
+        options = self.options
         end = "" if part.number == 1 else f".{part.number}"
         if part.number > 1:
             self._tell(part, end)
         for path, write in (
-            (words.trace, part.write_trace),
-            (words.times, part.write_times),
-            (words.far, part.write_far),
+            (options.trace, part.write_trace),
+            (options.times, part.write_times),
+            (options.far, part.write_far),
         ):
             if path:
                 with writing(path + end), open(path + end, "w", encoding="ascii") as out:
@@ -597,7 +647,7 @@ class Outputs:
             self.judge.part(part)
 
     def _tell(self, part: Part, end: str) -> None:
-        files = [path + end for path in (self.words.trace, self.words.times, self.words.far) if path]
+        files = [path + end for path in (self.options.trace, self.options.times, self.options.far) if path]
         files += [self.pages.name(part.number)] if self.pages else []
         where = f"is in {' and '.join(files)}" if files else "follows"
         if self.is_trace_shown:
@@ -605,29 +655,29 @@ class Outputs:
         self._told(f"part {part.number} of the run, from time {part.begin} to {part.end}, {where}")
 
 
-def version_for(words: argparse.Namespace, links: Sequence[Link]) -> int:
+def version_for(options: Options, links: Sequence[Link]) -> int:
     needs = (
         2
         if max(link.bits(name) for link in links for name in ("source", "sink")) > 8
         or max(link.width for link in links) > 64
         else 1
     )
-    if words.trace_version and words.trace_version < needs:
+    if options.trace_version and options.trace_version < needs:
         raise FailureError("these links need a trace of version 2", 2)
-    return words.trace_version or needs
+    return options.trace_version or needs
 
 
 def trace(
-    words: argparse.Namespace,
+    options: Options,
     sides: Sequence[str],
     reader: Reader,
     all_links: Sequence[Link],
     signals: Signals,
     renamed: Dict[str, str],
 ) -> int:
-    links = [link_of(words, side, all_links, signals, renamed) for side in sides]
-    version, is_one = version_for(words, links), len(links) == 1
-    printed = nothing if words.quiet else note
+    links = [link_of(options, side, all_links, signals, renamed) for side in sides]
+    version, is_one = version_for(options, links), len(links) == 1
+    printed = nothing if options.quiet else note
     told, doubts = Notes(printed), Notes(
         printed
     )  # what happens in the course of the run, and what the whole dump leaves in doubt
@@ -636,21 +686,22 @@ def trace(
     tell_links(links, told)
     client, manager = links[0].width, links[-1].width
     judge = (
-        Judge(program_of(words.program, note), (client, manager), WavePlaces(), told, words.ignore_unmasked)
-        if words.compare
+        Judge(program_of(options.program, note), (client, manager), WavePlaces(), told, options.ignore_unmasked)
+        if options.compare
         else None
     )
-    pages = Pages(words.html, tlexplain_of(words.tlexplain)) if words.html else None
-    outputs = Outputs(words, judge, pages, told)
+    pages = Pages(options.html, tlexplain_of(options.tlexplain)) if options.html else None
+    outputs = Outputs(options, judge, pages, told)
     run = MonitorRun(
-        version, client, None if is_one else manager, outputs.part, told, words.first, words.last, words.level
+        version, client, None if is_one else manager, outputs.part, told, options.first, options.last, options.level
     )
     try:
-        if words.beats:
-            run.open_files(words.beats)
+        if options.beats:
+            run.open_files(options.beats)
         nears = (CHANNELS,) if is_one else (FROM_CLIENT, "BD")
         watches = [
-            Watch(link, run, at, version, near, words.unknown_zero) for at, (link, near) in enumerate(zip(links, nears))
+            Watch(link, run, at, version, near, options.unknown_zero)
+            for at, (link, near) in enumerate(zip(links, nears))
         ]
         for watch in watches:
             watch.resets = len([link for link in links if link.reset])
@@ -682,10 +733,9 @@ def trace(
         if pages is not None:
             if unjudged:
                 raise too_long(f"the trace has more than {MOST_BYTES} bytes without an idle point")
-            source = (
-                f"{'standard input' if words.dump == '-' else words.dump}: {' and '.join(link.name for link in links)}"
-            )
-            write_pages(pages, source, reader.timescale, doubts.texts() + told.texts(), words.quiet)
+            dump = "standard input" if options.dump == "-" else options.dump
+            source = f"{dump}: {' and '.join(link.name for link in links)}"
+            write_pages(pages, source, reader.timescale, doubts.texts() + told.texts(), options.quiet)
         return status
     finally:
         run.close()
@@ -721,27 +771,27 @@ def write_pages(pages: Pages, source: str, unit: str, notes: Sequence[str], is_q
             note(text)
 
 
-def lists_or_writes(words: argparse.Namespace) -> int:
+def lists_or_writes(options: Options) -> int:
     """Lists the links of a dump, or writes or judges its beats. Returns the exit status."""
     reader = None
     try:
-        sides, renamed = sides_of(words), renamed_of(words)
-        layouts = [layout_of(text) for text in words.struct]
-        if words.compare or words.all:
-            program_of(words.program, nothing)  # before a long dump is read
-        if words.html:
-            tlexplain_of(words.tlexplain)
-        reader = opened(words, renamed, layouts)
+        sides, renamed = sides_of(options), renamed_of(options)
+        layouts = [layout_of(text) for text in options.structs]
+        if options.compare or options.all:
+            program_of(options.program, nothing)  # before a long dump is read
+        if options.html:
+            tlexplain_of(options.tlexplain)
+        reader = opened(options, renamed, layouts)
         links, signals = find_links(reader.variables, layouts)
-        if words.all:
-            return judge_all(words, reader, links, signals)
+        if options.all:
+            return judge_all(options, reader, links, signals)
         if sides:
-            return trace(words, sides, reader, links, signals, renamed)
-        return list_links(words, reader, links, signals)
+            return trace(options, sides, reader, links, signals, renamed)
+        return list_links(options, reader, links, signals)
     finally:
         if reader is not None:
             reader.close()
 
 
 def main(arguments: Optional[Sequence[str]] = None) -> int:
-    return status_of(lambda: lists_or_writes(command_line().parse_args(arguments)), note)
+    return status_of(lambda: lists_or_writes(options_of(command_line().parse_args(arguments))), note)

@@ -8,7 +8,7 @@ from __future__ import annotations
 from collections import ChainMap
 from typing import Dict, List, Optional, Set, Tuple
 
-from ..protocol import CARRIES_DATA, CHANNELS, FIELDS, GRANTS, RELEASE_ACK, beat_count
+from ..protocol import CARRIES_DATA, CHANNELS, FIELDS, GRANTS, RELEASE_ACK, active_lanes, beat_count
 from ..run import FailureError, Run
 from .links import Link, Signal, Values
 from .vcd import Reader
@@ -18,14 +18,6 @@ _TO_ZERO = bytes(48 if letter in b"xXzZ" else letter for letter in range(256))
 # The fields of each channel but data.
 NUMBERS = {letter: tuple(name for name in names if name != "data") for letter, names in FIELDS.items()}
 Seen = Optional[Tuple[int, str]]  # a time and a signal's name
-
-
-def active_lanes(size: int, address: int, width: int) -> int:
-    """Returns bit i for each lane within a message of this size at this address."""
-    if 1 << size >= width:
-        return (1 << width) - 1
-    first = address & width - 1 & ~((1 << size) - 1)
-    return ((1 << (1 << size)) - 1) << first
 
 
 def hexadecimal(text: bytes, digits: int) -> str:
