@@ -159,10 +159,10 @@ PAIRS = ((4, 2), (2, 4), (2, 2))
 # No run of these has ended yet, so they claim nothing. They are tried if they are named.
 NOT_RUN = frozenset(
     """
-    B-2-4 C-2-4 D-2-4 A-4-2-two-clocks A-2-4-two-clocks A-2-2-two-clocks B-4-2-two-clocks B-2-4-two-clocks
-    B-2-2-two-clocks C-2-4-two-clocks C-2-2-two-clocks D-4-2-two-clocks D-2-4-two-clocks D-2-2-two-clocks
-    A-4-2-within-3 A-2-4-within-2 A-2-2-within-2 B-4-2-within-2 B-2-4-within-3 B-2-2-within-2 C-4-2-within-3
-    C-2-4-within-2 C-2-2-within-2 D-4-2-within-2 D-2-4-within-3 D-2-2-within-2
+    D-2-4 A-4-2-two-clocks A-2-4-two-clocks A-2-2-two-clocks B-4-2-two-clocks B-2-4-two-clocks B-2-2-two-clocks
+    C-2-4-two-clocks C-2-2-two-clocks D-4-2-two-clocks D-2-4-two-clocks D-2-2-two-clocks A-4-2-within-3
+    A-2-4-within-2 A-2-2-within-2 B-4-2-within-2 B-2-4-within-3 B-2-2-within-2 C-4-2-within-3 C-2-4-within-2
+    C-2-2-within-2 D-4-2-within-2 D-2-4-within-3 D-2-2-within-2
     """.split()
 )
 NO_RUN = "no run of this row has ended yet"
