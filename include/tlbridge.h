@@ -214,10 +214,11 @@ typedef struct {
  *                                        the last two cases nothing is written. The side itself does not change: it can still fetch and take.
  *                                        A receipt is a plain structure, which may be copied and passed to any thread.
  *   drained_client(client, receipt),     Compare a side with the receipt of the other side of its bridge. Return TL_OK if as many beats were taken
- *   drained_manager(manager, receipt)    from this side as the receipt counts. These are all that the other side will ever send.
- *                                        Otherwise return TL_NOT_TAKEN; TL_BRIDGE_MISMATCH if the receipt has the number of another bridge;
- *                                        TL_WRONG_RECEIPT if finish of the other side did not write it, or wrote it before the latest open of
- *                                        the handle; or TL_NOT_OPEN. Nothing changes.
+ *   drained_manager(manager, receipt)    from this side as the receipt counts. These are all that the other side will ever send, which is proved
+ *                                        if both sides meet: docs/ASSURANCE.md. Otherwise return TL_NOT_OPEN; TL_WRONG_RECEIPT if finish of the
+ *                                        other side did not write the receipt; TL_BRIDGE_MISMATCH if the receipt has the number of another
+ *                                        bridge; TL_WRONG_RECEIPT if finish wrote it before the latest open of the handle; or TL_NOT_TAKEN. The
+ *                                        first of these that holds is returned. Nothing changes.
  *   status_text(status, text)            Writes the name and the sentence of a status.
  *   version()                            Returns TL_VERSION of the library. */
 #define TLBRIDGE(cw, mw) \
