@@ -82,9 +82,9 @@ enum {
     TL_TOO_LONG = 23,
     /* returned by drained: the number of beats taken is not that of the receipt */
     TL_NOT_TAKEN = 249,
-    /* of drained: not a receipt of the other side, or a receipt of another open of the handle */
+    /* returned by drained: not a receipt of the other side, or a receipt of another open of the handle */
     TL_WRONG_RECEIPT = 250,
-    /* of meet and settle: the two sides have different numbers or openings. In drained, the receipt has the number of another bridge */
+    /* returned by meet and settle: the sides have different numbers or openings. drained returns it for a receipt with another number */
     TL_BRIDGE_MISMATCH = 251,
     /* the handle has no side, or one of the two handles of meet and settle has none */
     TL_NOT_OPEN = 252,

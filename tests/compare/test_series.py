@@ -1,4 +1,4 @@
-"""Judges two blocks in a row as one, by the monitor files of the two outer links, as docs/START.md says.
+"""Judges two blocks in a row as one, by the monitor files of the two outer links, as docs/CONNECT.md says.
 
 Each block is a bridge of the model. The near beats of a random lawful conversation go through both: the far beats of
 the first one are the near beats of the second one, and the other way round for B and D. Then `sv/compare` judges the

@@ -296,14 +296,48 @@ def test_two_thousand_messages(tmp_path: Path) -> None:
     assert any("client.beats line 1002: corrupt is 0, expected 1" in line for line in ended.lines), ended
 
 
+def verify(folder: Path, *words: str, burst: int = 0, mistake: int = 0) -> Ended:
+    """Runs tlbridge-verify, in Icarus only, over the adapter of splitter.sv."""
+    source = BENCH.read_text().partition("module split_bench;")[0]
+    for name, value in (("BURST", burst), ("MISTAKE", mistake)):
+        source = source.replace(f"parameter {name} = 0", f"parameter {name} = {value}")
+    (folder / "adapter.sv").write_text(source)
+    command = [sys.executable, str(ROOT / "tlbridge-verify"), "adapter.sv", "--top", "splitter", "--no-waves", *words]
+    command += ["--simulator", "icarus", "--shrink-seconds", "1"]
+    done = subprocess.run(command, cwd=folder, capture_output=True, text=True, timeout=LIMIT)
+    return Ended(done.returncode, done.stdout.splitlines(), done.stderr)
+
+
 @pytest.mark.simulator
 @pytest.mark.parametrize("burst, status", ((1, 1), (0, 0)))
 def test_the_level_of_verify(tmp_path: Path, burst: int, status: int) -> None:
     """tlbridge-verify --rules-only --level UL calls the bursting twin wrong, and the splitting adapter right."""
     needs_tools("verilator", "iverilog")
-    source = BENCH.read_text().partition("module split_bench;")[0].replace("BURST = 0", f"BURST = {burst}")
-    (tmp_path / "adapter.sv").write_text(source)
-    words = ["adapter.sv", "--top", "splitter", "--rules-only", "--level", "UL", "--messages", "50", "--no-waves"]
-    command = [sys.executable, str(ROOT / "tlbridge-verify"), *words, "--shrink-seconds", "1", "--simulator", "icarus"]
-    done = subprocess.run(command, cwd=tmp_path, capture_output=True, text=True, timeout=LIMIT)
-    assert (done.returncode, "BurstNotInLevel" in done.stdout) == (status, status == 1), done.stdout + done.stderr
+    ended = verify(tmp_path, "--rules-only", "--level", "UL", "--messages", "50", burst=burst)
+    assert ended.status == status, ended
+    assert any("26 BurstNotInLevel" in line for line in ended.lines) == (status == 1), ended
+
+
+@pytest.mark.simulator
+@pytest.mark.long
+@pytest.mark.parametrize("mistake", range(2, 8))
+def test_planted_mistakes_in_verify(tmp_path: Path, mistake: int) -> None:
+    """It finds each planted mistake, also those that break no rule of a link: reads return what was written. Mistake 1,
+    the order of the pieces, is against the rule of --split only: TileLink does not order messages.
+    """
+    needs_tools("verilator", "iverilog")
+    ended = verify(tmp_path, "--rules-only", "--level", "UL", "--messages", "2000", mistake=mistake)
+    assert (ended.status, any(line.startswith("MISTAKE: ") for line in ended.lines)) == (1, True), ended
+
+
+@pytest.mark.simulator
+def test_verify_names_the_options(tmp_path: Path) -> None:
+    """At TL-UH the adapter is compared with a bridge that keeps messages whole, and at TL-UL no access is split by
+    default. Both are said, with the options that judge such an adapter.
+    """
+    needs_tools("verilator", "iverilog")
+    ended = verify(tmp_path, "--level", "UH", "--messages", "50")
+    assert ended.status == 1 and any(line.startswith("This design seems to split messages.") for line in ended.lines)
+    ended = verify(tmp_path, "--level", "UL", "--messages", "50")
+    words = "  no access of more than 4 bytes is played: at TL-UL an adapter splits it (--rules-only --level UL"
+    assert ended.status == 0 and any(line.startswith(words) for line in ended.lines), ended

@@ -37,6 +37,10 @@ SHORT_PAGES = (
             "CHECKER",
             "FAULTS",
             "LIMITS",
+            "FORMAL",
+            "UVM",
+            "ROCKET_CHIP",
+            "RATTLE",
         )
     ),
 )
@@ -256,7 +260,7 @@ def forms_in(sentence: Sentence) -> List[str]:
 
 HABIT_PAGES = (
     *SHORT_PAGES,
-    *(f"docs/{name}.md" for name in ("RTL", "FORMAL", "UVM", "ROCKET_CHIP", "RATTLE")),
+    "docs/RTL.md",
 )
 # Each habit, with a sentence that has it and one that does not.
 HABITS = {

@@ -14,7 +14,8 @@ the library are skipped.
   block, except commands.
 - A block of docs/SPECIFICATION.md with the lines of a trace and of its answer shows what `run` gives at some pair of
   widths.
-- Each link to a file or to a heading leads somewhere, and no section ends with a colon.
+- Each link to a file or to a heading leads somewhere, and no section ends with a colon. Each page that a source names is
+  there.
 - docs/FAULTS.md has a heading and a sentence for each line of `tlexplain --faults`, and no other.
 """
 
@@ -47,6 +48,7 @@ COMMAND = re.compile(
 )
 OUTPUT = re.compile(r"tilelink-far |= [A-E] |line \d+: |tlbridge: ")
 LINK = re.compile(r"\]\(([^)\s]+)\)")
+PAGE = re.compile(r"\bdocs/[A-Z_]+\.md\b")
 WIDTHS = (1, 2, 4, 8, 16, 32, 64)
 FILE = re.compile(r"(From )?`((?:examples|crates|python)/[\w./]+)`:$")
 EXAMPLE = re.compile(r"examples/(\w+)")
@@ -310,6 +312,19 @@ def test_links_lead_somewhere(path):
         assert target.exists(), f"no file for the link {link}"
         if anchor and target.suffix == ".md":
             assert anchor in anchors(target.read_text()), f"no heading for the link {link}"
+
+
+SOURCES = ("include", "sv", "rtl", "packaging", "python", "examples", "tools", "bench", "crates/*/src")
+
+
+def test_pages_that_sources_name_are_there():
+    """A page that a comment, a message or a man page names is there."""
+    files = [path for name in SOURCES for folder in ROOT.glob(name) for path in folder.rglob("*") if path.is_file()]
+    files += [path for path in ROOT.iterdir() if path.is_file()]
+    named = {(page, path) for path in files for page in PAGE.findall(path.read_bytes().decode("utf-8", "replace"))}
+    assert len({page for page, _ in named}) > 10
+    gone = [f"{path.relative_to(ROOT)} names {page}" for page, path in named if not (ROOT / page).exists()]
+    assert not gone, gone
 
 
 def test_each_fault_has_its_heading():

@@ -41,7 +41,7 @@ exit 7
 CRATES = "# four crates\nlow:\nleft:\ntlbridge: low left clap\ntlexplain: low\n"
 OF_TLBRIDGE = ["left lib yes", "low lib yes", "tlbridge run yes"]
 BUILDS = "{}: not built yet, or a source is newer. It is proved and built first, which takes a while.\n"
-MODEL = "tlbridge: to get the same answer now, use the unverified model:\n    {}/tlbridge-model"
+MODEL = "tlbridge: to get the same output now, use the unverified model:\n    {}/tlbridge-model"
 PAGES = (
     "tlexplain: to get the sentences now, without --html and --json, use the unverified model:\n"
     "    {}/tlexplain-model FILE\n"

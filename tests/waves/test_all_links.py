@@ -211,6 +211,28 @@ def test_waits(tmp_path: Path) -> None:
     assert ended.about("top.in")[0] == f"{words} (it may hang: none before waited as long)"
 
 
+def test_two_names_of_one_link(tmp_path: Path) -> None:
+    """A link that the dump has as ports of two modules has one row. Another address, and it is another link."""
+    names = SIMPLE.split("$scope module top $end\n")[1].partition("$upscope")[0].splitlines()[1:]
+    codes = {line.split(" ")[3]: chr(ord("A") + 32 + at) for at, line in enumerate(names)}
+    for address, is_same in (("b1000 a", True), ("b1100 a", False)):
+        ports = [line.replace(f" {old} ", f" {new * 2} ") for line, (old, new) in zip(names, codes.items())]
+        text = SIMPLE.replace("$upscope", "\n".join(["$scope module dut $end", *ports, "$upscope $end", "$upscope"]), 1)
+        for line in simple(GET + ",1r", "0v", DATA + ",1R", "0V")[len(SIMPLE) :].splitlines():
+            text += line + "\n"
+            value, _, code = line.partition(" ") if line[0] == "b" else (line[0], "", line[1:])
+            if code in codes and line[0] != "#":
+                value = address.split(" ")[0] if code == "a" else value
+                text += f"{value}{' ' if line[0] == 'b' else ''}{codes[code] * 2}\n"
+        (tmp_path / "dump.vcd").write_text(text)
+        ended = trace(tmp_path, "--all", "dump.vcd")
+        assert ended.status == 0, ended
+        words = ["has no row: the same beats at the same times as top.in"]
+        assert ended.row("top.in")[1] == "TL-UL", ended
+        assert (ended.about("top.dut.in") == words) == is_same, ended
+        assert sum(line.startswith("top.dut.in ") for line in ended.lines) == (not is_same), ended
+
+
 def test_stray_response(tmp_path: Path) -> None:
     (tmp_path / "dump.vcd").write_text(simple(DATA + ",1R", "0V", GET + ",1r", "0v", DATA, "0V"))
     ended = trace(tmp_path, "--all", "dump.vcd")

@@ -453,6 +453,11 @@ class Session:
                 f"  traffic: TL-{level}, up to {limits.largest} bytes{stated}{where}: {', '.join(limits.kinds)}"
                 " (--level, --largest, --only)"
             )
+        if self.is_bridge and level == "UL" and limits.largest < self.design.links["client"].width:
+            lines.append(
+                f"  no access of more than {limits.largest} bytes is played: at TL-UL an adapter splits it"
+                " (--rules-only --level UL plays and judges them)"
+            )
         if self.is_bridge and not_compared(self.design):
             lines.append(f"  not compared, since only one link has it: {', '.join(not_compared(self.design))}")
         lines.append(f"  judged by {self.judge.name}")
@@ -1049,6 +1054,11 @@ class Play:
         design, problem = self.session.design, problems[0]
         has_two = self.session.bench.has_two
         lines = [f"MISTAKE: {problem.words}"] + [f"    {line}" for line in problem.picture]
+        if seems_to_split(problems):
+            lines.append(
+                "This design seems to split messages. It is compared with a bridge that keeps messages whole;"
+                " --rules-only judges one that splits them (--rules-only --level UL for TL-UL)."
+            )
         if problem.kind == "hang" and all(is_near(beat.side, beat.channel) for beat in beats):
             lines.append(
                 "    Nothing ever came out. Is the polarity of the reset right? (--client-reset !NAME is active low)"
@@ -1076,6 +1086,12 @@ class Play:
             lines.append(f"If the design need not hold this: {', or '.join(options)}.")
         others = [other for other in problems[1:] if other.words != problem.words][:2]
         return lines + [f"Also: {other.words}" for other in others]
+
+
+def seems_to_split(problems: List[Problem]) -> bool:
+    """Whether a request left the design with a smaller size than it has to have."""
+    sizes = (re.search(r"^manager link: .*\bsize is (\w), expected (\w)", problem.words) for problem in problems)
+    return any(found and int(found[1], 16) < int(found[2], 16) for found in sizes)
 
 
 # ---- several seeds

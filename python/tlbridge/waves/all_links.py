@@ -7,8 +7,9 @@ is a remark, since a dump may end at any moment.
 from __future__ import annotations
 
 import json
+import zlib
 from pathlib import Path
-from typing import Any, Callable, Dict, List, NamedTuple, Optional, Sequence
+from typing import Any, Callable, Dict, List, NamedTuple, Optional, Sequence, Tuple
 
 from ..judge import level_words
 from ..levels import NAMES
@@ -40,6 +41,7 @@ class LinkWatch(Watch):
         super().__init__(link, judge.run, 0, version, CHANNELS, unknown_zero=True)
         self.judge, self.failure = judge, ""
         self.longest: Optional[Wait] = None
+        self.fingerprint = 0  # of the beats and their times
 
     def restart(self) -> None:
         super().restart()
@@ -76,6 +78,10 @@ class LinkWatch(Watch):
         if moved:
             self._beats(moved, values, time)
 
+    def _give(self, letter: str, line: str, time: int) -> None:
+        super()._give(letter, line, time)
+        self.fingerprint = zlib.crc32(f"{time} {line}".encode(), self.fingerprint)
+
     def _end_wait(self, letter: str) -> None:
         wait = self._held.pop(letter)
         if self.longest is None or wait.cycles > self.longest.cycles:
@@ -111,6 +117,7 @@ class Verdict:
         self.outstanding = watch.judge.run.outstanding()
         self.asked = matcher.outstanding()
         self.remarks = [*([watch.failure] if watch.failure else []), *left_out, *self._hangs(), *remarks]
+        self.same: Optional[Verdict] = None  # that of an earlier link with the same beats at the same times
 
     @property
     def is_right(self) -> bool:
@@ -132,6 +139,11 @@ class Verdict:
             said.append(words + is_longest * HANGS + more)
         return said
 
+    def signature(self) -> Tuple[object, ...]:
+        """Returns what is equal for the two names of one link, such as the ports of two modules that it connects."""
+        watch = self.watch
+        return self.link.width, watch.fingerprint, tuple(self.beats.items()), watch.longest, *watch.waiting()
+
     def row(self) -> List[str]:
         """Returns the words of the table."""
         wait = self.watch.longest_wait()
@@ -152,6 +164,8 @@ class Verdict:
         ]
         if len(self.faults) > 1:
             said.append(f"{len(self.faults) - 1} more faults after it, which may follow from it")
+        if self.same:
+            return [f"{self.link.name}: has no row: the same beats at the same times as {self.same.link.name}"]
         return [f"{self.link.name}: {text}" for text in [*said, *self.level_faults, *self.remarks]]
 
     def record(self) -> Dict[str, Any]:
@@ -176,6 +190,7 @@ class Verdict:
             "outstanding": self.outstanding,
             "longest_wait": wait._asdict() if wait else None,
             "remarks": self.remarks,
+            "same_as": self.same.link.name if self.same else None,
         }
 
 
@@ -205,6 +220,11 @@ class AllLinks:
             except (FailureError, EndedError) as error:
                 watch.failure = watch.failure or f"not judged to its end: {error}"
             verdicts.append(Verdict(watch, sampler.end, remarks_of(watch), notes))
+        seen: Dict[Tuple[object, ...], Verdict] = {}
+        for verdict in verdicts:
+            first = seen.setdefault(verdict.signature(), verdict)
+            if first is not verdict and any(verdict.beats.values()):
+                verdict.same = first
         return verdicts
 
     def judged_by(self) -> str:

@@ -444,7 +444,7 @@ def judge_all(options: Options, reader: Reader, found: Sequence[Link], signals: 
 def print_all(
     reader: Reader, sampler: Sampler, judges: AllLinks, verdicts: Sequence[Verdict], others: Sequence[Tuple[Link, str]]
 ) -> None:
-    print(table([COLUMNS, *(verdict.row() for verdict in verdicts)]))
+    print(table([COLUMNS, *(verdict.row() for verdict in verdicts if not verdict.same)]))
     first = first_of(verdicts)
     if first:
         print(f"first fault of the dump: {first.lines()[0]}")
