@@ -101,6 +101,9 @@ enum {
 /* The maximum number of beats in a ring. */
 #define TL_MAX_RING 4096
 
+/* The maximum number of beats in an inbox. */
+#define TL_INBOX 128
+
 /* The number of lanes of the widest link. */
 #define TL_WIDEST 128
 
@@ -184,6 +187,8 @@ typedef struct {
  *
  *   tl_CLIENT_MANAGER_client             The two types of handles. A handle that is all zero has no side. `opening` is higher after each
  *   tl_CLIENT_MANAGER_manager            open that succeeds (up to 2^64 - 1), and free keeps it.
+ *   tl_CLIENT_MANAGER_client_beat        A beat with the lanes of the client's or of the manager's link, as take_all writes it.
+ *   tl_CLIENT_MANAGER_manager_beat
  *   open(client, manager, ring, bridge)  Frees what the handles held, creates a bridge, and gives each handle its side. Each of the five rings
  *                                        has room for `ring` beats, 1 to 4,096. `bridge` is any number; it distinguishes this bridge from
  *                                        others. Call it before another thread has one of the handles. It allocates all memory that the
@@ -198,6 +203,10 @@ typedef struct {
  *   take_x(side, beat, lanes)            Removes the first far beat from the inbox and writes it. `lanes` has one byte for each lane of the
  *                                        receiver's link; a lane without a byte of the message is 0. Returns true if there was a beat, and
  *                                        otherwise writes nothing.
+ *   take_all_x(side, beats, room)        Does what take_x does until the inbox is empty or `room` beats are written, and returns how many
+ *                                        were. `beats` has `room` elements, of type client_beat for B and D and manager_beat for A, C and E.
+ *                                        TL_INBOX is always enough: beats that find no room stay in the inbox. `beats` may be NULL if `room`
+ *                                        is 0.
  *   close_x(side)                        Ends the offers of x. Staged beats still cross. Returns TL_OK, TL_MID_BURST or TL_NOT_OPEN.
  *   pump_client(client),                 Move beats from this side's stages into its rings: every beat known to fit, and more if the other
  *   pump_manager(manager)                thread has made room. Return how many were moved.
@@ -207,6 +216,9 @@ typedef struct {
  *                                        TL_NOT_OPEN if a handle has no side, or TL_BRIDGE_MISMATCH if their numbers or openings differ. In
  *                                        the last two cases nothing changes. Afterwards each side knows each free position of its rings.
  *   settle(client, manager, standings)   Pumps and fetches both sides until nothing more can move, and then does the same as meet.
+ *                                        On each channel the receiver's inbox is then full, or holds all far beats that are still to be taken.
+ *                                        So settle and take everything until settle leaves all inboxes empty: then every far beat that the
+ *                                        accepted beats complete has been taken.
  *   count_client(client, totals),        Write the number of far beats that the side has moved into its rings on each channel that it sends, and
  *   count_manager(manager, totals)       the number that take has removed on each of the others. Return TL_OK or TL_NOT_OPEN.
  *   finish_client(client, receipt),      Write the receipt of a side that has sent everything: each channel that it sends is closed, and no far
@@ -223,8 +235,8 @@ typedef struct {
  *   version()                            Returns TL_VERSION of the library. */
 #define TLBRIDGE(cw, mw) \
     TL_BEGIN \
-    TL_SIDE(cw, mw, client) \
-    TL_SIDE(cw, mw, manager) \
+    TL_SIDE(cw, mw, client, cw) \
+    TL_SIDE(cw, mw, manager, mw) \
     uint8_t TL_CALL(cw, mw, open)(TL_CALL(cw, mw, client) *client, TL_CALL(cw, mw, manager) *manager, size_t ring, uint64_t bridge); \
     uint8_t TL_CALL(cw, mw, meet)(TL_CALL(cw, mw, client) *client, TL_CALL(cw, mw, manager) *manager, tl_standings *standings); \
     uint8_t TL_CALL(cw, mw, settle)(TL_CALL(cw, mw, client) *client, TL_CALL(cw, mw, manager) *manager, tl_standings *standings); \
@@ -237,13 +249,17 @@ typedef struct {
     TL_CHANNEL(cw, mw, e, client, cw, manager, mw) \
     TL_END
 
-#define TL_SIDE(cw, mw, side) \
+#define TL_SIDE(cw, mw, side, width) \
     typedef struct { \
         void *impl; \
         bool is_open; \
         uint64_t bridge; \
         uint64_t opening; \
     } TL_CALL(cw, mw, side); \
+    typedef struct { \
+        tl_beat beat; \
+        uint8_t lanes[width]; \
+    } TL_CALL(cw, mw, side##_beat); \
     void TL_CALL(cw, mw, free_##side)(TL_CALL(cw, mw, side) *side); \
     size_t TL_CALL(cw, mw, pump_##side)(TL_CALL(cw, mw, side) *side); \
     size_t TL_CALL(cw, mw, fetch_##side)(TL_CALL(cw, mw, side) *side); \
@@ -255,6 +271,7 @@ typedef struct {
     bool TL_CALL(cw, mw, ready_##x)(TL_CALL(cw, mw, near) *near); \
     uint8_t TL_CALL(cw, mw, offer_##x)(TL_CALL(cw, mw, near) *near, const tl_beat *beat, const uint8_t lanes[near_width]); \
     bool TL_CALL(cw, mw, take_##x)(TL_CALL(cw, mw, far) *far, tl_beat *beat, uint8_t lanes[far_width]); \
+    size_t TL_CALL(cw, mw, take_all_##x)(TL_CALL(cw, mw, far) *far, TL_CALL(cw, mw, far##_beat) *beats, size_t room); \
     uint8_t TL_CALL(cw, mw, close_##x)(TL_CALL(cw, mw, near) *near);
 
 TL_BEGIN

@@ -3,10 +3,11 @@ import ctypes as c
 import itertools
 from dataclasses import astuple, dataclass
 from types import TracebackType
-from typing import Any, Iterator, Optional, Type
+from typing import Any, Iterator, List, Optional, Type
 
 from .beats import Beat, beat_of
 from .library import (
+    INBOX,
     NOT_SENT,
     NOT_TAKEN,
     VERSION,
@@ -17,6 +18,7 @@ from .library import (
     TotalsFields,
     call_of,
     check,
+    inbox_fields,
     load,
     pairs,
 )
@@ -104,6 +106,12 @@ class Side:
         if not self._call("take", channel, False)(c.byref(self._handle), c.byref(came), lanes):
             return None
         return beat_of(channel, came, bytes(lanes))
+
+    def take_all(self, channel: str) -> List[Beat]:
+        """Removes and returns all far beats of the inbox, in order: what `take` returns until it returns None."""
+        came = inbox_fields(self.width)()
+        count = self._call("take_all", channel, False)(c.byref(self._handle), came, INBOX)
+        return [beat_of(channel, at.beat, bytes(at.lanes)) for at in came[:count]]
 
     def close(self, channel: str) -> None:
         """Ends the offers of a channel. Staged beats still cross. Raises RefusedError within a burst."""

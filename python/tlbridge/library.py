@@ -3,10 +3,13 @@ import ctypes as c
 import ctypes.util
 import os
 from dataclasses import dataclass
+from functools import lru_cache
 from pathlib import Path
 from typing import Any, Dict, Optional, Tuple
 
 VERSION = 7  # of the library whose structures are here
+
+INBOX = 128  # the most beats in an inbox
 
 # Statuses of drained and finish that are not refusals in Python.
 NOT_TAKEN = 249
@@ -55,6 +58,16 @@ class BeatFields(c.Structure):
         ("reserved", c.c_uint8 * 7),
         ("mask_high", c.c_uint64),
     ]
+
+
+@lru_cache(maxsize=None)
+def inbox_fields(width: int) -> Any:
+    """Returns the type of an array with room for all beats of an inbox, with their lanes, at this width."""
+
+    class LanedBeat(c.Structure):
+        _fields_ = [("beat", BeatFields), ("lanes", c.c_uint8 * width)]
+
+    return LanedBeat * INBOX
 
 
 class HandleFields(c.Structure):
@@ -117,6 +130,7 @@ _OF_A_PAIR: Dict[str, Tuple[Any, ...]] = {
     "ready": (c.c_bool, _SIDE),
     "offer": (c.c_uint8, _SIDE, _BEAT, _LANES),
     "take": (c.c_bool, _SIDE, _BEAT, c.POINTER(c.c_uint8)),
+    "take_all": (c.c_size_t, _SIDE, c.c_void_p, c.c_size_t),
     "close": (c.c_uint8, _SIDE),
 }
 
@@ -125,7 +139,7 @@ def call_of(library: c.CDLL, client: int, manager: int, name: str) -> Any:
     """Returns a call of a pair of widths, such as `open`, `pump_client` or `offer_a`. Raises AttributeError if the
     library does not have it."""
     call = getattr(library, f"tl_{client}_{manager}_{name}")
-    call.restype, *call.argtypes = _OF_A_PAIR[name.partition("_")[0]]
+    call.restype, *call.argtypes = _OF_A_PAIR[name.rpartition("_")[0] or name]
     return call
 
 

@@ -94,6 +94,28 @@ class Calls(unittest.TestCase):
             self.assertEqual(len(came), 1024)
             self.assertEqual([beat.data for beat in came], [bytes([at // 2 % 256] * 4) for at in range(1024)])
 
+    def test_all_beats_of_an_inbox(self):
+        """A whole inbox and one beat more, and then those of each channel."""
+        with Bridge(8, 4) as bridge:
+            for sink in range(129):
+                bridge.offer("E", Beat(sink=sink))
+            bridge.settle()
+            self.assertEqual(bridge.manager.take("E"), Beat(sink=0))
+            bridge.settle()
+            self.assertEqual(bridge.manager.take_all("E"), [Beat(sink=sink) for sink in range(1, 129)])
+            self.assertEqual(bridge.manager.take_all("E"), [])
+            bridge.offer("A", GET)
+            bridge.offer("B", Beat(opcode=6, size=2, source=1, address=0x1004, mask=0xF))
+            bridge.offer("C", Beat(opcode=7, size=3, source=2, address=0x40, data=b"abcdefgh"))
+            bridge.settle()
+            self.assertEqual([beat.mask for beat in bridge.manager.take_all("A")], [0xF])
+            self.assertEqual([beat.mask for beat in bridge.client.take_all("B")], [0xF0])
+            self.assertEqual([beat.data for beat in bridge.manager.take_all("C")], [b"abcd", b"efgh"])
+            bridge.offer("D", Beat(opcode=1, size=2, source=7, data=b"ijkl"))
+            bridge.settle()
+            self.assertEqual([beat.data for beat in bridge.client.take_all("D")], [b"\0\0\0\0ijkl"])
+            self.assertTrue(bridge.meet().drained)
+
     def test_refused(self):
         with Bridge(8, 4) as bridge:
             bridge.offer("A", GET)
@@ -119,6 +141,8 @@ class Calls(unittest.TestCase):
                 bridge.client.offer("B", Beat())
             with self.assertRaisesRegex(ValueError, "the client's side takes B, D"):
                 bridge.client.take("A")
+            with self.assertRaisesRegex(ValueError, "the manager's side takes A, C, E"):
+                bridge.manager.take_all("D")
 
     def test_not_there(self):
         with self.assertRaisesRegex(MissingLibraryError, "no pair 8:3; it has .*8:4"):
@@ -135,6 +159,7 @@ class Calls(unittest.TestCase):
         with self.assertRaises(RefusedError) as refused:
             bridge.settle()
         self.assertEqual(refused.exception.status.name, "NotOpen")
+        self.assertEqual(bridge.client.take_all("D"), [])
 
     def test_two_threads(self):
         with Bridge(8, 4, ring=4) as bridge:

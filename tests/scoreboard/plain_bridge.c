@@ -362,6 +362,11 @@ static void status_text(uint8_t answer, tl_text *text) {
     bool TL_CALL(cw, mw, take_##x)(TL_CALL(cw, mw, taker) *handle, tl_beat *beat, uint8_t lanes[far_width]) { \
         LOCKED(cw, mw, taker, bool, take(all, channel, beat, lanes)) \
     } \
+    size_t TL_CALL(cw, mw, take_all_##x)(TL_CALL(cw, mw, taker) *handle, TL_CALL(cw, mw, taker##_beat) *beats, size_t room) { \
+        size_t count = 0; \
+        while (count < room && TL_CALL(cw, mw, take_##x)(handle, &beats[count].beat, beats[count].lanes)) count++; \
+        return count; \
+    } \
     uint8_t TL_CALL(cw, mw, close_##x)(TL_CALL(cw, mw, sender) *handle) { \
         if (!handle->is_open) return TL_NOT_OPEN; \
         LOCKED(cw, mw, sender, uint8_t, all->of[channel].came > 0 ? TL_MID_BURST : (all->of[channel].closed = true, TL_OK)) \

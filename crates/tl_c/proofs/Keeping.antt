@@ -2,7 +2,7 @@
 use Rattle.std.specs.Prelude.{ℕ, Option, None, Some, Result, Ok, Err, OnOk, OnErr}
 use Rattle.std.proofs.Common.{◌≡◌, sym, ap, ◌∙◌, subst, rules}
 use Rattle.tl_sides.specs.Calls.{SendingChannel}
-use Rattle.tl_sides.specs.Ports.{sends_a, sends_b, sends_c, sends_d, sends_e, takes_a, takes_b, takes_c, takes_d, takes_e}
+use Rattle.tl_sides.specs.Ports.{sends_a, sends_b, sends_c, sends_d, sends_e}
 use Rattle.tl_sides.specs.Sides.{ClientState, ManagerState, SameClient, SameManager, client_side, manager_side}
 use Rattle.tl_c_beats.specs.Calls.{ClosesNumbered}
 use Rattle.tl_c.specs.Calls.{Keeps}
@@ -38,14 +38,8 @@ module _ {A : Type 0} {C M : ℕ} where
   pub same_side_a : {s s' : ClientState A C M} → (sends_a (client_side {A = A} {C = C} {M = M})).Keeps s s' → SameClient s s'
   same_side_a rest = search rules
 
-  pub taken_b : {s s' : ClientState A C M} → (takes_b (client_side {A = A} {C = C} {M = M})).Keeps s s' → SameClient s s'
-  taken_b rest = search rules
-
   pub same_side_c : {s s' : ClientState A C M} → (sends_c (client_side {A = A} {C = C} {M = M})).Keeps s s' → SameClient s s'
   same_side_c rest = search rules
-
-  pub taken_d : {s s' : ClientState A C M} → (takes_d (client_side {A = A} {C = C} {M = M})).Keeps s s' → SameClient s s'
-  taken_d rest = search rules
 
   pub same_side_e : {s s' : ClientState A C M} → (sends_e (client_side {A = A} {C = C} {M = M})).Keeps s s' → SameClient s s'
   same_side_e rest = search rules
@@ -53,17 +47,8 @@ module _ {A : Type 0} {C M : ℕ} where
   pub manager_same : (t : ManagerState A C M) → SameManager t t
   manager_same t = search rules
 
-  pub taken_a : {t t' : ManagerState A C M} → (takes_a (manager_side {A = A} {C = C} {M = M})).Keeps t t' → SameManager t t'
-  taken_a rest = search rules
-
   pub same_side_b : {t t' : ManagerState A C M} → (sends_b (manager_side {A = A} {C = C} {M = M})).Keeps t t' → SameManager t t'
   same_side_b rest = search rules
 
-  pub taken_c : {t t' : ManagerState A C M} → (takes_c (manager_side {A = A} {C = C} {M = M})).Keeps t t' → SameManager t t'
-  taken_c rest = search rules
-
   pub same_side_d : {t t' : ManagerState A C M} → (sends_d (manager_side {A = A} {C = C} {M = M})).Keeps t t' → SameManager t t'
   same_side_d rest = search rules
-
-  pub taken_e : {t t' : ManagerState A C M} → (takes_e (manager_side {A = A} {C = C} {M = M})).Keeps t t' → SameManager t t'
-  taken_e rest = search rules

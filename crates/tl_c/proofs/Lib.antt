@@ -1,7 +1,8 @@
+mod Arriving
 mod AsOwners
 mod BothWidths
 mod Counting
-mod Taking
+mod Emptying
 mod Keeping
 mod Meeting
 mod Opening

@@ -12,7 +12,7 @@ use Rattle.tl_msg.specs.declared.fault.SideFault.TheVariants.{Beat}
 use Rattle.tl_burst.specs.Handing.{fault_after}
 use Rattle.tl_convert.specs.Due.{due}
 use Rattle.tl_ring.specs.Ends.{known_items}
-use Rattle.tl_settle.specs.Histories.{Event, Ask, Answer, answered, manager_answer, manager_home, manager_homes, to_request}
+use Rattle.tl_settle.specs.Histories.{Ask, Answer, answered, manager_answer, manager_home, manager_homes, to_request}
 use Rattle.tl_settle.specs.Obeying.{ResponsesObey}
 use Rattle.tl_settle.specs.Requests.{is_request_of, is_release_ack}
 use Rattle.tl_sides.specs.Sides.{ClientPast, ManagerPast}

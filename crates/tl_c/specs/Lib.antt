@@ -1,3 +1,4 @@
 pub mod Handles
 pub mod Calls
+pub mod Inboxes
 pub mod Settling

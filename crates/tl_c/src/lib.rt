@@ -12,6 +12,7 @@ mod client_handle;
 mod closes;
 mod example;
 mod held;
+mod inboxes;
 mod manager_handle;
 mod meetings;
 mod moves;

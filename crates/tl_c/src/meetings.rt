@@ -2,7 +2,7 @@
 ghost use Rattle.std.specs.Prelude.{◌≡◌, ◌≢◌};
 ghost use Rattle.tl_sides.specs.Sides.{ClientPast, ManagerPast};
 ghost use Rattle.tl_c.specs.Calls.{HoldsClient, HoldsManager, HoldSides, KeepsClient, KeepsManager, KeepsOfClient, KeepsOfManager, ClientStays, ManagerStays, MayMeet, HaveMet, AreCounted, AreKnown};
-ghost use Rattle.tl_c.specs.Settling.{HaveSettled, AreStill, meeting_answer};
+ghost use Rattle.tl_c.specs.Settling.{HaveSettled, HaveArrived, AreStill, meeting_answer};
 
 use crate::client_handle::ClientHandle;
 use crate::manager_handle::ManagerHandle;
@@ -80,6 +80,12 @@ pub extern "C" fn tl_meet(
 /// the inbox is full. The sides have then met, with all that [`tl_meet`] promises: legal in, legal
 /// out.
 ///
+/// Every accepted beat arrives. On each channel, the beats taken and then those in the inbox are
+/// all far beats that the accepted beats made due, unless the inbox is full. So a caller that
+/// settles both sides and takes everything, again and again, takes in each round all beats that are
+/// due, or as many as an inbox holds. If no inbox has a beat afterwards, every beat that is due was
+/// taken.
+///
 /// Returns 0 if they settled. Otherwise nothing changes. Errors: `NOT_OPEN` if a handle holds none;
 /// otherwise `BRIDGE_MISMATCH` if their numbers or openings differ.
 ///
@@ -98,6 +104,9 @@ pub extern "C" fn tl_settle(
     ensures settled { (x : ClientPast CLIENT MANAGER) (y : ManagerPast CLIENT MANAGER) →
         HoldsClient client.old.owned.held x → HoldsManager manager.old.owned.held y →
         result ≡ 0 → HaveSettled client.new.owned.held manager.new.owned.held x y }
+    ensures arrived { (x : ClientPast CLIENT MANAGER) (y : ManagerPast CLIENT MANAGER) →
+        HoldsClient client.old.owned.held x → HoldsManager manager.old.owned.held y →
+        result ≡ 0 → HaveArrived client.new.owned.held manager.new.owned.held x y }
     ensures still { result ≡ 0 → AreStill client.new.owned.held manager.new.owned.held }
     ensures known { result ≡ 0 → AreKnown client.new.owned.held manager.new.owned.held }
     ensures counts { result ≡ 0 →

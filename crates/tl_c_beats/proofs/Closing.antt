@@ -7,7 +7,7 @@ use Rattle.tl_ring.specs.declared.fault.EndFault.TheVariants.{MidBurst}
 use Rattle.tl_burst.specs.Handing.{rest_of}
 use Rattle.tl_sides.specs.Calls.{SendingChannel, ended}
 use Rattle.tl_c_beats.specs.Answers.{close_answer, close_number}
-use Rattle.tl_c_beats.specs.Calls.{Stands, Closes, ClosesNumbered}
+use Rattle.tl_c_beats.specs.Calls.{Closes, ClosesNumbered}
 use Rattle.tl_c_beats.proofs.Numbers.{end_fault_numbered}
 
 on_0 : {Q : Type 0} (closed : Result Unit EndFault) → OnOk closed Q → close_number closed ≡ 0 → Q
@@ -25,16 +25,6 @@ close_told (Err MidBurst) (b ∷ bs) between = refl
 
 held_not_none : {S Q : Type 0} {before : Option S} {h : S} → before ≡ Some h → before ≡ None → Q
 held_not_none {h = h} was e = absurd (none-some h (sym e ∙ was))
-
--- nothing is held
-pub closes_none : {S P R H : Type 0} {w v : ℕ} {StandsFor : S → P → Type 0} {none : ℕ} {k : SendingChannel R P H w v} {before now : Option S} →
-    before ≡ None → now ≡ None → Closes (Stands StandsFor) none k before now none
-closes_none {StandsFor = StandsFor} was is = record {
-  nothing = λ e. refl;
-  answers = λ x h. absurd (subst (λ s. Stands StandsFor s x) was h);
-  closed = λ x h e. absurd (subst (λ s. Stands StandsFor s x) was h);
-  refused = λ e. is ∙ sym was;
-}
 
 -- the held value is the side q before the call and q' after it
 pub closes : {S P R H : Type 0} {w v : ℕ} {Holds : Option S → P → Type 0} {none : ℕ} {k : SendingChannel R P H w v} {before now : Option S}

@@ -1,7 +1,6 @@
--- The status and the effect of an offer, and of the question whether one may be made, from the held value.
+-- The status and the effect of an offer, from the held value.
 use Rattle.std.specs.Prelude.{◌≢◌, ◌↔◌, ℕ, Bool, true, false, Option, None, Some, Result, Ok, Err, IsOk, IsTrue, IfErr, OnOk, OnErr, if◌then◌else◌}
-use Rattle.std.proofs.Common.{◌≡◌, List, [], ◌∷◌, refl, sym, ap, ◌∙◌, subst, arith}
-use Rattle.std.proofs.lemmas.Bool.{false≢true}
+use Rattle.std.proofs.Common.{◌≡◌, List, [], ◌∷◌, refl, sym, ap, ◌∙◌, subst}
 use Rattle.std.proofs.lemmas.Option.{none-some}
 use Rattle.tl_msg.specs.declared.fault.SideFault.{SideFault}
 use Rattle.tl_ring.specs.Crossing.{World}
@@ -9,8 +8,8 @@ use Rattle.tl_ring.specs.Pipe.{Pipe, IsReady}
 use Rattle.tl_msg.specs.declared.beat.BeatOf.{BeatOf}
 use Rattle.tl_sides.specs.Calls.{SendingChannel, OffersBeat, with_beat}
 use Rattle.tl_c_beats.specs.declared.answers.TheConstants.{NOT_READY}
-use Rattle.tl_c_beats.specs.Answers.{is_free, is_ready, fault_answer, offer_answer, offer_number}
-use Rattle.tl_c_beats.specs.Calls.{Stands, Asks, Offers}
+use Rattle.tl_c_beats.specs.Answers.{is_free, is_ready, fault_answer, offer_number}
+use Rattle.tl_c_beats.specs.Calls.{Stands, Offers}
 use Rattle.tl_c_beats.proofs.Numbers.{side_fault_numbered}
 
 is_free_if : {A : Type 0} (closed : Bool) (stage : List A) → (stage ≡ []) × (closed ≡ false) → is_free closed stage ≡ true
@@ -18,24 +17,12 @@ is_free_if false [] e = refl
 is_free_if false (b ∷ bs) e = let e0 = e.0 in cc
 is_free_if true bs e = let e1 = e.1 in cc
 
-is_free_only : {A : Type 0} (closed : Bool) (stage : List A) → ((stage ≡ []) × (closed ≡ false) → ⊥) → is_free closed stage ≡ false
-is_free_only false [] ne = absurd (ne (refl, refl))
-is_free_only false (b ∷ bs) ne = refl
-is_free_only true bs ne = refl
-
 -- a pipe whose stage is that of the crossing, and which is closed as it is
 abbrev AreAlike : {H : Type 0} {w v : ℕ} → Pipe H v → World H w v → Type 0
 AreAlike p x = (p.stage ≡ x.stage) × (p.closed ≡ x.closed)
 
 ready_if : {H : Type 0} {w v : ℕ} (p : Pipe H v) (x : World H w v) → AreAlike p x → IsReady p → is_ready x ≡ true
 ready_if p x alike is = is_free_if x.closed x.stage (sym alike.0 ∙ is.0, sym alike.1 ∙ is.1)
-
-ready_only : {H : Type 0} {w v : ℕ} (p : Pipe H v) (x : World H w v) → AreAlike p x → (IsReady p → ⊥) → is_ready x ≡ false
-ready_only p x alike not = is_free_only x.closed x.stage (λ is. not (alike.0 ∙ is.0, alike.1 ∙ is.1))
-
-ready_told : {H : Type 0} {w v : ℕ} (answer : Bool) (p : Pipe H v) (x : World H w v) → AreAlike p x → IsTrue answer ↔ IsReady p → answer ≡ is_ready x
-ready_told true p x alike asked = sym (ready_if p x alike (asked.0 refl))
-ready_told false p x alike asked = sym (ready_only p x alike (λ ready. false≢true (asked.1 ready)))
 
 verdict_told : (offered : Result Unit SideFault) (verdict : Option SideFault) → IsOk offered ↔ (verdict ≡ None) →
     IfErr offered (λ fault. verdict ≡ Some fault)
@@ -54,57 +41,12 @@ on_else (Err fault) q not = q
 held_not_none : {S Q : Type 0} {before : Option S} {h : S} → before ≡ Some h → before ≡ None → Q
 held_not_none {h = h} was e = absurd (none-some h (sym e ∙ was))
 
-not_held : {S P : Type 0} (StandsFor : S → P → Type 0) (Q : P → Type 0) {before : Option S} → before ≡ None → (x : P) →
-    Stands StandsFor before x → Q x
-not_held StandsFor Q was x held = absurd (subst (λ s. Stands StandsFor s x) was held)
-
 stands_held : {S P : Type 0} (StandsFor : S → P → Type 0) {before : Option S} {h : S} → before ≡ Some h → (x : P) →
     Stands StandsFor before x → StandsFor h x
 stands_held StandsFor was x held = subst (λ s. Stands StandsFor s x) was held
 
-later_not_0 : NOT_READY ≡ 0 → ⊥
-later_not_0 e = omega (arith, e)
-
-module _ {S P : Type 0} {StandsFor : S → P → Type 0} {H : Type 0} {w v : ℕ} {channel : P → World H w v} {before now : Option S} where
-  -- nothing is held
-  pub asks_none : before ≡ None → now ≡ None → Asks (Stands StandsFor) channel before now false
-  asks_none was is = record {
-    nothing = λ e. refl;
-    ready = not_held StandsFor (λ x. false ≡ is_ready (channel x)) was;
-    same = is ∙ sym was;
-  }
-
-  -- the held value has a part on which the channel is this pipe
-  pub asks : (p : Pipe H v) (h : S) → ((x : P) → StandsFor h x → AreAlike p (channel x)) → before ≡ Some h → now ≡ Some h → {answer : Bool} →
-      IsTrue answer ↔ IsReady p → Asks (Stands StandsFor) channel before now answer
-  asks p h alike was is {answer = answer} asked = record {
-    nothing = held_not_none was;
-    ready = λ x held. ready_told answer p (channel x) (alike x (stands_held StandsFor was x held)) asked;
-    same = is ∙ sym was;
-  }
-
 module _ {S P : Type 0} {StandsFor : S → P → Type 0} {R H : Type 0} {w v : ℕ} {k : SendingChannel R P H w v} {b : BeatOf H w} {before now : Option S}
     {none : ℕ} where
-  -- nothing is held
-  pub offers_none : before ≡ None → now ≡ None → Offers (Stands StandsFor) none k b before now none
-  offers_none was is = record {
-    nothing = λ e. refl;
-    answers = not_held StandsFor (λ x. none ≡ offer_answer (k.crossing x) (k.stops x b)) was;
-    accepted = λ x held e. not_held StandsFor (λ x. Stands StandsFor now (with_beat k b x)) was x held;
-    refused = λ e. is ∙ sym was;
-  }
-
-  -- the held value has a part on which the channel is this pipe
-  pub offers_later : (p : Pipe H v) (h : S) → ((x : P) → StandsFor h x → AreAlike p (k.crossing x)) → before ≡ Some h → now ≡ Some h →
-      IsTrue false ↔ IsReady p → Offers (Stands StandsFor) none k b before now NOT_READY
-  offers_later p h alike was is asked = record {
-    nothing = held_not_none was;
-    answers = λ x held. ap (λ t. if t then fault_answer (k.stops x b) else NOT_READY)
-        (ready_told false p (k.crossing x) (alike x (stands_held StandsFor was x held)) asked);
-    accepted = λ x held e. absurd (later_not_0 e);
-    refused = λ e. is ∙ sym was;
-  }
-
   -- the held value is the side q before the offer and q' after it; the offered beat is the one that C passes
   pub offers : (of : R → S) (q q' : R) (p : Pipe H v) → ((x : P) → StandsFor (of q) x → AreAlike p (k.crossing x)) →
       before ≡ Some (of q) → now ≡ Some (of q') →
@@ -117,7 +59,7 @@ module _ {S P : Type 0} {StandsFor : S → P → Type 0} {R H : Type 0} {w v : �
         nothing = held_not_none was;
         answers = λ x held. let s = stands_held StandsFor was x held in
             told ∙ verdict_told offered (k.stops x given) (said.admitted x (to x s)) (said.fault x (to x s))
-            ∙ ap (λ t. if t then fault_answer (k.stops x given) else NOT_READY) (ready_told true p (k.crossing x) (alike x s) asked);
+            ∙ ap (λ t. if t then fault_answer (k.stops x given) else NOT_READY) (sym (ready_if p (k.crossing x) (alike x s) (asked.0 refl)));
         accepted = λ x held e. subst (λ s. Stands StandsFor s (with_beat k given x)) (sym is)
             (from (with_beat k given x) (on_0 offered (said.accepted x (to x (stands_held StandsFor was x held))) (sym told ∙ e)));
         refused = λ e. is ∙ ap (λ z. Some (of z)) (on_else offered said.refused (λ z. e (told ∙ z))) ∙ sym was;

@@ -1,5 +1,5 @@
 -- Both sides of one bridge in one thread: the state in which nothing more can move (this project's choice).
-use Rattle.std.specs.Prelude.{◌≡◌, ◌≤◌, ◌<◌, ◌+◌, ◌*◌, ◌++◌, ℕ, length}
+use Rattle.std.specs.Prelude.{◌≡◌, ◌≤◌, ◌<◌, ◌+◌, ◌*◌, ℕ, length}
 use Rattle.tl_ring.specs.Crossing.{inbox_room}
 use Rattle.tl_ring.specs.Ends.{Sending, Taking, room, known_items, passed}
 pub use Rattle.tl_sides.specs.ArrivingSides.{IsKnown, KnownSides}

@@ -201,11 +201,21 @@ static void without_memory(void) {
     free_both(&bridge);
 }
 
-/* Sends a message over channel x, in near beats, and compares each far beat that is taken with its layout. */
+/* Whether a taken beat is this far beat of a message. */
+static bool is_due(const message *m, int x, int number, const tl_beat *beat, const uint8_t *lanes) {
+    tl_beat due;
+    uint8_t due_lanes[MAX_LANES];
+    lay_out(m, x, far_width[x], number, &due, due_lanes);
+    if (x == E) due.mask = 0;
+    return same(beat, &due) && memcmp(lanes, due_lanes, (size_t)far_width[x]) == 0;
+}
+
+/* Sends a message over channel x, in near beats, and compares each far beat that is taken, one by one or several at once, with its layout. */
 static void crosses(both_sides *bridge, int x, const message *m) {
     int sent = 0, got = 0, near_beats = beat_count(m, near_width[x]), far_beats = beat_count(m, far_width[x]);
-    tl_beat beat, due;
-    uint8_t lanes[MAX_LANES], due_lanes[MAX_LANES];
+    tl_beat beat;
+    uint8_t lanes[MAX_LANES];
+    taken_beat taken[TL_INBOX];
     while (sent < near_beats || got < far_beats) {
         if (sent < near_beats && ready[x](near_side(bridge, x))) {
             lay_out(m, x, near_width[x], sent, &beat, lanes);
@@ -221,13 +231,13 @@ static void crosses(both_sides *bridge, int x, const message *m) {
         if (draw(2)) from_client(x) ? CALL(pump_client)(&bridge->client) : CALL(pump_manager)(&bridge->manager);
         if (draw(2)) from_client(x) ? CALL(fetch_manager)(&bridge->manager) : CALL(fetch_client)(&bridge->client);
         while (draw(4) && take[x](far_side(bridge, x), &beat, lanes)) {
-            CHECK(got < far_beats);
-            lay_out(m, x, far_width[x], got, &due, due_lanes);
-            if (x == E) due.mask = 0;
-            CHECK(same(&beat, &due));
-            CHECK(memcmp(lanes, due_lanes, (size_t)far_width[x]) == 0);
+            CHECK(got < far_beats && is_due(m, x, got, &beat, lanes));
             got++;
         }
+        if (draw(4)) continue;
+        size_t room = draw(2) ? TL_INBOX : draw(4), count = take_all[x](far_side(bridge, x), taken, room);
+        CHECK(count == room || !take[x](far_side(bridge, x), &beat, lanes));
+        for (size_t i = 0; i < count; i++, got++) CHECK(got < far_beats && is_due(m, x, got, &taken[i].beat, taken[i].lanes));
     }
     settle(bridge);
     CHECK(!take[x](far_side(bridge, x), &beat, lanes));
@@ -252,6 +262,31 @@ static void messages(void) {
         crosses(&bridge, D, &m);
         draw_message(&m, E, 0, 0, 0);
         crosses(&bridge, E, &m);
+    }
+    free_both(&bridge);
+}
+
+/* An inbox that is full, with two beats more in the ring, taken by calls with room for none, for one, and for all. */
+static void whole_inboxes(void) {
+    both_sides bridge = {{0}, {0}};
+    uint8_t lanes[MAX_LANES] = {0};
+    taken_beat taken[TL_INBOX];
+    tl_totals totals;
+    tl_id sink = 0;
+    CHECK(open_both(&bridge, TL_MAX_RING) == TL_OK);
+    for (tl_id i = 0; i < TL_INBOX + 2; i++) {
+        tl_beat ack = {.sink = i};
+        CHECK(offer_e(&bridge.client, &ack, lanes) == TL_OK);
+        settle(&bridge);
+    }
+    CHECK(CALL(take_all_e)(&bridge.manager, NULL, 0) == 0);
+    static const size_t rooms[] = {1, TL_INBOX, TL_INBOX, TL_INBOX}, counts[] = {1, TL_INBOX, 1, 0};
+    for (int i = 0; i < 4; i++) {
+        size_t count = take_all_e(&bridge.manager, taken, rooms[i]);
+        CHECK(count == counts[i]);
+        for (size_t k = 0; k < count; k++, sink++) CHECK(taken[k].beat.sink == sink);
+        CHECK(CALL(count_manager)(&bridge.manager, &totals) == TL_OK && totals.e == sink);
+        settle(&bridge);
     }
     free_both(&bridge);
 }
@@ -553,6 +588,7 @@ int main(void) {
     over_new(last_lanes);
     meetings();
     messages();
+    whole_inboxes();
     random_calls(10000);
     printf("%d to %d bytes: %ld checks passed, %ld failed\n", CLIENT, MANAGER, passed, failed);
     return failed > 0;

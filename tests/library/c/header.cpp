@@ -14,6 +14,9 @@ static_assert(sizeof(tl_beat) == 40 && offsetof(tl_beat, mask) == 8 && offsetof(
 static_assert(sizeof(tl_8_4_client) == 32 && sizeof(tl_8_4_manager) == 32 && offsetof(tl_8_4_client, is_open) == 8 &&
                   offsetof(tl_8_4_manager, bridge) == 16 && offsetof(tl_8_4_manager, opening) == 24,
               "the handles of the two sides");
+static_assert(sizeof(tl_8_4_client_beat) == 48 && offsetof(tl_8_4_client_beat, lanes) == 40 && sizeof(tl_4_8_manager_beat) == 48 &&
+                  sizeof(tl_4_8_manager_beat::lanes) == 8,
+              "the beats of an inbox");
 static_assert(sizeof(tl_counts) == 24 && sizeof(tl_standings) == 120 && sizeof(tl_text) == 160 && sizeof(tl_answer) == 40, "what calls write");
 
 int main() {

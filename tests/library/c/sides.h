@@ -5,22 +5,50 @@ TLBRIDGE(CLIENT, MANAGER)
 #define CALL(name) TL_CALL(CLIENT, MANAGER, name)
 typedef CALL(client) client_handle;
 typedef CALL(manager) manager_handle;
+typedef CALL(client_beat) client_beat;
+typedef CALL(manager_beat) manager_beat;
 
-/* The calls of a channel, over whichever handle it takes. */
+/* A beat of an inbox of either side, with its lanes. */
+typedef struct {
+    tl_beat beat;
+    uint8_t lanes[MAX_LANES];
+} taken_beat;
+
+static bool is_unwritten(const void *memory, size_t bytes) {
+    const uint8_t *at = memory;
+    for (size_t i = 0; i < bytes; i++)
+        if (at[i] != 0x5a) return false;
+    return true;
+}
+
+/* The calls of a channel, over whichever handle it takes. take_all has room for one beat more than an inbox, and checks that it writes nothing
+ * past the beats that it returns. */
 #define CALLS_OF(x, near, far) \
-    static bool ready_##x(void *side) { return CALL(ready_##x)((near *)side); } \
-    static uint8_t offer_##x(void *side, const tl_beat *beat, const uint8_t *lanes) { return CALL(offer_##x)((near *)side, beat, lanes); } \
-    static bool take_##x(void *side, tl_beat *beat, uint8_t *lanes) { return CALL(take_##x)((far *)side, beat, lanes); } \
-    static uint8_t close_##x(void *side) { return CALL(close_##x)((near *)side); }
-CALLS_OF(a, client_handle, manager_handle)
-CALLS_OF(b, manager_handle, client_handle)
-CALLS_OF(c, client_handle, manager_handle)
-CALLS_OF(d, manager_handle, client_handle)
-CALLS_OF(e, client_handle, manager_handle)
+    static bool ready_##x(void *side) { return CALL(ready_##x)((near##_handle *)side); } \
+    static uint8_t offer_##x(void *side, const tl_beat *beat, const uint8_t *lanes) { return CALL(offer_##x)((near##_handle *)side, beat, lanes); } \
+    static bool take_##x(void *side, tl_beat *beat, uint8_t *lanes) { return CALL(take_##x)((far##_handle *)side, beat, lanes); } \
+    static size_t take_all_##x(void *side, taken_beat *taken, size_t room) { \
+        far##_beat beats[TL_INBOX + 1]; \
+        memset(beats, 0x5a, sizeof beats); \
+        size_t count = CALL(take_all_##x)((far##_handle *)side, beats, room); \
+        CHECK(count <= room && count <= TL_INBOX && is_unwritten(beats + count, sizeof beats - count * sizeof *beats)); \
+        for (size_t i = 0; i < count && i < room; i++) { \
+            taken[i].beat = beats[i].beat; \
+            memcpy(taken[i].lanes, beats[i].lanes, sizeof beats[i].lanes); \
+        } \
+        return count; \
+    } \
+    static uint8_t close_##x(void *side) { return CALL(close_##x)((near##_handle *)side); }
+CALLS_OF(a, client, manager)
+CALLS_OF(b, manager, client)
+CALLS_OF(c, client, manager)
+CALLS_OF(d, manager, client)
+CALLS_OF(e, client, manager)
 
 static bool (*const ready[])(void *) = {ready_a, ready_b, ready_c, ready_d, ready_e};
 static uint8_t (*const offer[])(void *, const tl_beat *, const uint8_t *) = {offer_a, offer_b, offer_c, offer_d, offer_e};
 static bool (*const take[])(void *, tl_beat *, uint8_t *) = {take_a, take_b, take_c, take_d, take_e};
+static size_t (*const take_all[])(void *, taken_beat *, size_t) = {take_all_a, take_all_b, take_all_c, take_all_d, take_all_e};
 static uint8_t (*const close_it[])(void *) = {close_a, close_b, close_c, close_d, close_e};
 
 static bool from_client(int x) {
@@ -64,6 +92,7 @@ static void without_sides(both_sides *none) {
         CHECK(!ready[x](near_side(none, x)));
         CHECK(offer[x](near_side(none, x), &beat, lanes) == TL_NOT_OPEN);
         CHECK(!take[x](far_side(none, x), &beat, lanes));
+        CHECK(take_all[x](far_side(none, x), NULL, TL_INBOX) == 0);
         CHECK(close_it[x](near_side(none, x)) == TL_NOT_OPEN);
     }
     CHECK(CALL(pump_client)(client) == 0 && CALL(fetch_client)(client) == 0);

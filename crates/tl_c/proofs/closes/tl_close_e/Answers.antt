@@ -1,16 +1,7 @@
-use Rattle.std.proofs.Common.{refl}
-use Rattle.tl_c_beats.proofs.Closing.{closes_none, closes}
-use Rattle.tl_c.proofs.Keeping.{held_at, kept, kept_none, close_keeps, same_side_e}
+use Rattle.tl_c_beats.proofs.Closing.{closes}
+use Rattle.tl_c.proofs.Keeping.{held_at, kept, close_keeps, same_side_e}
 use Rattle.tl_c.specs.Calls.{sends_e}
 use Rattle.tl_c.proofs.closes.tl_close_e.Goals as goal
-
-pub returns-in_default : goal.returns-in_default
-returns-in_default c =
-    let was = c.in_default.ensures.none refl in
-    record {
-      close = closes_none was c.on_held-take.ensures.after;
-      kept = kept_none _ was c.on_held-take.ensures.after c.on_held-take.ensures.number;
-    }
 
 pub returns : goal.returns
 returns c =

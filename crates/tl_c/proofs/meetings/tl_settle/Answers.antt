@@ -1,7 +1,8 @@
 use Rattle.std.proofs.Common.{refl, sym, ◌∙◌, subst}
 use Rattle.tl_sides.proofs.SameSides.{still_sides}
 use Rattle.tl_c.specs.Calls.{HoldsClient, HoldsManager, HoldSides, AreKnown}
-use Rattle.tl_c.specs.Settling.{HaveSettled, AreStill}
+use Rattle.tl_c.specs.Settling.{HaveSettled, HaveArrived, AreStill}
+use Rattle.tl_c.proofs.Arriving.{beats_arrive}
 use Rattle.tl_c.proofs.Counting.{counted}
 use Rattle.tl_c.proofs.Keeping.{held_at, kept, kept_none, client_same, manager_same}
 use Rattle.tl_c.proofs.Meeting.{not_open, bridge_mismatch, untouched, for_both, sides_held}
@@ -18,6 +19,7 @@ returns-in_default c =
     record {
       answer = answer_no_client _ _ client;
       settled = λ x y h k zero. not_open zero;
+      arrived = λ x y h k zero. not_open zero;
       still = λ zero. not_open zero;
       known = λ zero. not_open zero;
       counts = λ zero. not_open zero;
@@ -33,6 +35,7 @@ returns-in_default-take c =
     record {
       answer = answer_no_manager _ _ manager;
       settled = λ x y h k zero. not_open zero;
+      arrived = λ x y h k zero. not_open zero;
       still = λ zero. not_open zero;
       known = λ zero. not_open zero;
       counts = λ zero. not_open zero;
@@ -53,6 +56,7 @@ returns-then-not-is c =
     record {
       answer = answer_others client manager c.take.ensures.number c.take-2.ensures.number c.is.ensures.result c.if-not-is.true;
       settled = λ x y h k zero. bridge_mismatch zero;
+      arrived = λ x y h k zero. bridge_mismatch zero;
       still = λ zero. bridge_mismatch zero;
       known = λ zero. bridge_mismatch zero;
       counts = λ zero. bridge_mismatch zero;
@@ -78,6 +82,9 @@ returns c =
           let settles = settled.ensures.settled x y (subst (λ s. HoldsClient s x) client h) (subst (λ t. HoldsManager t y) manager k) in
           for_both (λ s t. HaveSettled s t x y) client_now manager_now
           (record { settles = settles; legal = meet_legally c.sides_obey.ensures settles.meets });
+      arrived = λ x y h k zero.
+          let settles = settled.ensures.settled x y (subst (λ s. HoldsClient s x) client h) (subst (λ t. HoldsManager t y) manager k) in
+          for_both (λ s t. HaveArrived s t x y) client_now manager_now (beats_arrive settles settled.ensures.still);
       still = λ zero. for_both AreStill client_now manager_now settled.ensures.still;
       known = λ zero. for_both AreKnown client_now manager_now settled.ensures.known;
       counts = λ zero. counted {s = record { side = settled.new.client }} {t = record { side = settled.new.manager }} client_now manager_now

@@ -2,33 +2,15 @@ use Rattle.std.specs.Prelude.{◌↔◌, true, IsTrue}
 use Rattle.std.proofs.Common.{refl, sym, ◌∙◌, subst, lit<}
 use Rattle.tl_ring.specs.Ends.{as_pipe}
 use Rattle.tl_ring.specs.Pipe.{IsReady}
-use Rattle.tl_c_beats.proofs.Offering.{offers_none, offers_later, offers}
+use Rattle.tl_c_beats.proofs.Offering.{offers}
 use Rattle.tl_c.proofs.BothWidths.{widths}
-use Rattle.tl_c.proofs.Keeping.{held_at, kept, kept_none, client_same, same_side_c}
+use Rattle.tl_c.proofs.Keeping.{held_at, kept, same_side_c}
 use Rattle.tl_c.proofs.offers.tl_offer_c.Goals as goal
 
 pub offer_held-offer_c-requires : goal.offer_held-offer_c-requires
 offer_held-offer_c-requires c =
     let same = c.offer_held-deref.ensures ∙ sym c.offer_held-deref_mut.ensures.value in
     (lit< tt, (lit< tt, (widths.0, (widths.1, subst (λ h. IsReady (as_pipe h.side.c)) same (c.if-offer_held.ensures.0 refl)))))
-
-pub returns-in_default : goal.returns-in_default
-returns-in_default c =
-    let was = c.in_default.ensures.none refl in
-    record {
-      offer = offers_none was c.offer_held-take.ensures.after;
-      kept = kept_none _ was c.offer_held-take.ensures.after c.offer_held-take.ensures.number;
-    }
-
-pub returns : goal.returns
-returns c =
-    let was = held_at c.in-Some-offer_held.ensures.some c.offer_held-deref.ensures in
-    let is = held_at c.offer_held-put.ensures.held c.offer_held-deref.ensures in
-    record {
-      offer = offers_later (as_pipe c.offer_held-deref.result.now.side.c) c.offer_held-deref.result.now
-          (λ x s. (s.c.pipe.stage, s.c.pipe.closed)) was is c.if-offer_held.ensures;
-      kept = kept _ was is (client_same _, refl) c.offer_held-take.ensures.number c.offer_held-put.ensures.number;
-    }
 
 pub returns-2 : goal.returns-2
 returns-2 c =

@@ -1,0 +1,35 @@
+use Rattle.std.proofs.Common.{◌<◌, ◌≤◌, ◌+◌, length, set, sym, subst, arith, lit<}
+use Rattle.tl_c_beats.specs.Fields.{fields_d}
+use Rattle.tl_c.specs.Inboxes.{client_beat}
+use Rattle.tl_c.proofs.BothWidths.{widths}
+use Rattle.tl_c.proofs.Emptying.{Filling, filling_none, filling_more, filled_none, filled, taker_d}
+use Rattle.tl_c.proofs.inboxes.fill_d.Goals as goal
+
+pub take_d-requires : goal.take_d-requires
+take_d-requires c = (lit< tt, (lit< tt, widths.0))
+
+pub loop-i-init : goal.loop-i-init
+loop-i-init c = filling_none taker_d (client_beat fields_d) c.args.side.now c.args.beats.now
+
+pub loop-i-preserved : goal.loop-i-preserved
+loop-i-preserved c =
+    let same = c.loop-i.invariant.length in
+    let more = c.loop-i-test.true in
+    let inside : c.loop-i.i < length c.loop-i.beats = omega (arith, same, more) in
+    subst (λ f. Filling taker_d (client_beat fields_d) c.args.side.now c.take_d.new.self c.args.beats.now
+    (set c.loop-i.beats c.loop-i.i (record { beat = f; lanes = c.in-Some.far.lanes })) (c.loop-i.i + 1)) (sym c.fields_d.ensures)
+    (filling_more taker_d (client_beat fields_d) c.loop-i.invariant c.in-Some.far inside c.in-Some.ensures)
+
+pub returns-in_default : goal.returns-in_default
+returns-in_default c =
+    let same = c.loop-i.invariant.length in
+    let more = c.loop-i-test.true in
+    let inside : c.loop-i.i < length c.loop-i.beats = omega (arith, same, more) in
+    filled_none taker_d (client_beat fields_d) c.loop-i.invariant inside c.in_default.ensures
+
+pub returns : goal.returns
+returns c =
+    let same = c.loop-i.invariant.length in
+    let over = c.loop-i-test.false in
+    let full : length c.loop-i.beats ≤ c.loop-i.i = omega (arith, same, over) in
+    filled taker_d (client_beat fields_d) c.loop-i.invariant full
