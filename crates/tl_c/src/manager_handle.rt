@@ -1,4 +1,5 @@
-//! The handle by which C holds the manager's side of a bridge.
+//! The handle by which C holds the manager's side of a bridge. It is that of the client's side with
+//! other names: a struct that C gets has no type parameters, and a macro writes no contract.
 ghost use Rattle.std.specs.Prelude.{◌≡◌, ◌≢◌, ◌↔◌, true, Option, Some, None, IfSome};
 ghost use Rattle.tl_c_beats.specs.Receipts.{without_number};
 ghost use Rattle.tl_c.specs.Handles.{holds_manager, manager_coded};
