@@ -20,8 +20,8 @@ class Planted(NamedTuple):
 
 
 class Adapter(NamedTuple):
-    """A design. `proof` are the further words for the correct one, for which `proved` assertions of all are proved
-    without a bound; each other one has no counterexample in `cycles`.
+    """A design. `proof` are the further words for the correct one. Each of its assertions is proved without a bound, or
+    has no counterexample in `cycles`.
     """
 
     name: str
@@ -124,7 +124,7 @@ CROSSING = Adapter(
             "DROP_WHEN_FULL",
             "a word that comes while the FIFO is full is lost",
             ("a.Head", "a.Data0", "d.SourceOne", "a.Room"),
-            9,
+            10,
         ),
         macro("LEAVES", "a word leaves although it is not accepted", ("a.Head", "a.Data0", "d.SourceOne"), 9),
         macro("COUNT_FIRST", "a count crosses before its word is written", ("a.Head", "a.Data0", "d.SourceOne"), 9),
@@ -138,7 +138,7 @@ COHERENT = Adapter(
         macro("BUG_1", "the param of a Probe that waits is lost", ("b.Head",), 4),
         macro("BUG_2", "the corrupt of a beat of C that waits is lost", ("c.Corrupt",), 4),
         macro("BUG_3", "a GrantAck that comes while another one waits is lost", ("e.Head", "e.Room"), 6),
-        macro("BUG_4", "a Grant that waits has the sink of the next one", ("d.Head",), 6),
+        macro("BUG_4", "a Grant has the sink of the one that is offered next", ("d.Head",), 6),
         macro("BUG_5", "a message of C without data is sent twice", ("c.Invented",), 4),
         macro("BUG_6", "each GrantAck after the first one is lost", ("e.Room",), 7, ("--count-bits", "2")),
     ),

@@ -31,7 +31,7 @@ NARROW = (
     Bug(9, "AccessAck has size 0", ("d.Head",), 4),
     Bug(10, "the place of a source is written once", ("d.Data0",), 7),
     Bug(11, "a put is acknowledged before its response", ("d.SourceD", "d.Invented"), 3),
-    Bug(12, "the second beat of A is never sent", ("a.Late",), 9, ("--within", "3")),
+    Bug(12, "the second beat of A is never sent", ("a.Late", "a.Ready"), 9, ("--within", "3")),
     Bug(13, "the param of a request is 0", ("a.Head",), 3),
     Bug(14, "a request loses the high bit of its source", ("a.Head", "d.SourceA"), 4),
     Bug(15, "the second half of a corrupt beat is not corrupt", ("a.Corrupt",), 5),

@@ -2,7 +2,7 @@
 """Plays tlbridge-prove on each adapter of adapters.py and each of its planted bugs, and prints the tables of
 docs/PROVE.md.
 
-    tests/prove/play.py [ADAPTER ..] [--jobs N] [--bugs [REGEX] | --correct] [--cache FOLDER]
+    tests/prove/play.py [ADAPTER ..] [--jobs N] [--bugs [REGEX] | --correct] [--cache FOLDER] [--seconds S]
 
 The status is 1 if a bug is not found by an expected assertion and in time, or an assertion of a correct adapter fails.
 """
@@ -62,9 +62,11 @@ def play_bug(adapter: Adapter, bug: Planted, folder: Path, cache: Optional[Path]
     return play((*adapter.words, *bug.words, *bug.options, *cycles, *FEWER_BITS), folder, cache, jobs)
 
 
-def play_correct(adapter: Adapter, folder: Path, cache: Optional[Path] = None, jobs: int = 2) -> Played:
+def play_correct(
+    adapter: Adapter, folder: Path, cache: Optional[Path] = None, jobs: int = 2, seconds: int = 300
+) -> Played:
     """Proves the correct adapter without a bound as far as abc gets, and the rest in its number of cycles."""
-    words = ("--cycles", str(adapter.cycles), "--unbounded", "--seconds", "300")
+    words = ("--cycles", str(adapter.cycles), "--unbounded", "--seconds", str(seconds))
     return play((*adapter.words, *adapter.proof, *words), folder, cache, jobs)
 
 
@@ -103,6 +105,9 @@ def main() -> int:
     )
     words.add_argument("--correct", action="store_true", help="only the correct adapters")
     words.add_argument("--cache", type=Path, help="keep the models here")
+    words.add_argument(
+        "--seconds", type=int, default=300, help="for each assertion of a correct adapter [default: 300]"
+    )
     given = words.parse_args()
     chosen = [one for one in ADAPTERS if not given.adapters or one.name in given.adapters]
     bad: List[str] = []
@@ -122,7 +127,7 @@ def main() -> int:
         if given.bugs is None:
             print("\n| Adapter | What it is | Proved | The others | Seconds |\n|---|---|---|---|---|")
             for adapter in chosen:
-                run = play_correct(adapter, folder, given.cache, given.jobs)
+                run = play_correct(adapter, folder, given.cache, given.jobs, given.seconds)
                 print(line_of_correct(adapter, run), flush=True)
                 if run.status:
                     bad.append(f"{adapter.name}: {run.said}")

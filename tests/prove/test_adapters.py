@@ -121,4 +121,4 @@ def test_option_changes_a_verdict(option: str, tmp_path: Path) -> None:
     else:
         words = [word for word in EARLY.words if word != option]
         run = play((*words, "--cycles", "3"), tmp_path)
-        assert run.status == 1, run.said
+        assert run.status == 1 and f"add {option}" in run.said, run.said

@@ -182,6 +182,10 @@ def test_planted_bug_fails_and_is_replayed(tmp_path: Path) -> None:
         (["none.sv", "--top", "adapter"], 2, "there is no file"),
         ([str(START), "--top", "adaptor"], 2, "the files have no module adaptor"),
         (["--top", "adapter"], 2, "no file of the design was named"),
+        ([str(EXAMPLES), "--top", "adapter"], 2, "is a folder: name the files of the design"),
+        (start("--out", str(START)), 2, "this is a file: name a folder"),
+        (start("--assume", "client_a_opcod == 4"), 2, "there is no signal client_a_opcod, but client_a_opcode"),
+        (start("--assume", "client_a_opcode = 4"), 2, "--assume 'client_a_opcode = 4': syntax error"),
         (start("--clocks", "2"), 2, "both links have the clock clock"),
         (start("--assume", "1; end"), 2, "this is not an expression"),
         (start("--largest", "64"), 2, "size has 2 bits"),
@@ -213,6 +217,49 @@ def test_unreadable_design(tmp_path: Path) -> None:
     (tmp_path / "broken.sv").write_text(broken)
     run = prove(tmp_path / "cache", tmp_path, "broken.sv", "--top", "adapter")
     assert run.status == 3 and "the design does not compile" in run.err
+
+
+ACCEPTED = "assign up_a_ready     = down_a_ready;"
+WRONG_DESIGNS = {
+    "latch": (
+        "always_ff @(posedge clock)\n        if (up_a_valid && up_a_ready) begin",
+        "always_latch\n        if (up_a_valid && up_a_ready) begin",
+        r"/design\.sv:\d+\.\d+: \w+ is a latch: a proof needs registers",
+    ),
+    "two drivers": (
+        ACCEPTED,
+        ACCEPTED + " assign up_a_ready = 1'b1;",
+        r"/design\.sv:6\.\d+: up_a_ready has two drivers",
+    ),
+    "clock": (ACCEPTED, "assign up_a_ready = down_a_ready && clock;", r"/design\.sv:\d+\.\d+: a clock is used as data"),
+    "memory": (
+        ACCEPTED,
+        ACCEPTED + " logic [31:0] ram[65536]; always_ff @(posedge clock) ram[up_a_address[15:0]] <= up_a_data[31:0];\n"
+        "    assign extra = ram[down_d_data[15:0]];",
+        r"/design\.sv:\d+\.\d+: the memory dut\.ram has 2097152 bits.* smaller by a parameter",
+    ),
+    "loop": (
+        ACCEPTED,
+        "wire round = round ^ down_a_ready; assign up_a_ready = round;",
+        r"/design\.sv:\d+\.\d+: a loop of logic without a register: break it",
+    ),
+}
+
+
+@pytest.mark.parametrize(
+    "name", [pytest.param(name, marks=pytest.mark.long if name == "loop" else ()) for name in WRONG_DESIGNS]
+)
+def test_design_that_has_no_model(name: str, tmp_path: Path) -> None:
+    """Verilator and yosys read each of these, and a model of it would be that of another design."""
+    needs_tools("yosys", "yosys-abc", "verilator")
+    old, new, message = WRONG_DESIGNS[name]
+    text = START.read_text()
+    assert text.count(old) == 1
+    text = text.replace(old, new).replace("up_d_ready,\n", "up_d_ready,\n    output logic [31:0] extra,\n")
+    (tmp_path / "design.sv").write_text(text)
+    run = prove(tmp_path / "cache", tmp_path, "design.sv", "--top", "adapter")
+    assert run.status == 3 and run.claims_nothing(), run.out + run.err
+    assert re.search(message, run.err) and len(run.err.splitlines()) == 1, run.err
 
 
 def test_missing_tool(tmp_path: Path) -> None:

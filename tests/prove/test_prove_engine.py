@@ -8,7 +8,7 @@ from typing import Any, Dict, List, Tuple
 
 import pytest
 
-from tlbridge.prove import command, engine, model, user_bits
+from tlbridge.prove import command, engine, model, netlist, user_bits
 from tlbridge.prove.clocks import line_of, settle_clocks
 from tlbridge.prove.engine import BOUNDED, FAILS, OPEN, PROVED, Verdict
 from tlbridge.prove.errors import ProveError
@@ -77,6 +77,15 @@ def test_solver_that_ends_proves(fake_abc: Path, tmp_path: Path) -> None:
         f"#!/bin/sh\nprintf '{VERIFIED.strip()}\\nProperty proved.\\n'\necho tlbridge-prove-has-ended\n"
     )
     assert engine.unbounded(a_model(tmp_path), 0, 1).kind == PROVED
+
+
+def test_two_assertions_at_once(fake_abc: Path, tmp_path: Path) -> None:
+    """abc gets both outputs as one, so that a proof is one of each."""
+    fake_abc.write_text(f'#!/bin/sh\necho "$2" > {tmp_path}/asked\necho tlbridge-prove-has-ended\n')
+    engine.unbounded(a_model(tmp_path), 2, 7, True)
+    assert "cone -s -O 1 -R 2; orpos; scorr; dc2; pdr -T 7" in (tmp_path / "asked").read_text()
+    engine.unbounded(a_model(tmp_path), 2, 7)
+    assert "cone -s -O 2; scorr" in (tmp_path / "asked").read_text()
 
 
 def test_one_dead_solver_ends_the_run(fake_abc: Path, tmp_path: Path) -> None:
@@ -153,11 +162,44 @@ def test_assumptions_that_end_time(tmp_path: Path, monkeypatch: pytest.MonkeyPat
     assert error.value.status == 2
 
 
+def test_channel_whose_covers_yosys_removes(
+    tmp_path: Path, monkeypatch: pytest.MonkeyPatch, capsys: pytest.CaptureFixture[str]
+) -> None:
+    """A cover that cannot be reached at all is a constant, which is not in the model: it counts as not seen."""
+    proof = a_proof({"Data0": BOUNDED, "SeesBeat": FAILS, "SeesByte": FAILS}, monkeypatch, tmp_path)
+    proof.model = Model(tmp_path, LABELS, ("watch.a.watch.SeesShort", "watch.a.watch.Zeros"))
+    proof.reach()
+    assert "2 of 3 kinds of beats arrive\n  not seen on A" in capsys.readouterr().out
+    proof.model = Model(tmp_path, LABELS, ("watch.d.watch.SeesBeat", "watch.d.watch.SeesByte"))
+    with pytest.raises(ProveError, match="nothing is proved: no beat of channel D can arrive") as error:
+        proof.reach()
+    assert error.value.status == 2
+
+
+@pytest.mark.parametrize(
+    "name, last, option, hint",
+    [
+        ("a.Invented", {"free_client_a_valid": 1}, False, True),
+        ("d.SourceA", {"free_client_a_valid": 1}, False, True),
+        ("d.Early", {"free_manager_d_valid": 1}, False, True),
+        ("a.Invented", {"free_client_a_valid": 0}, False, False),  # nothing is offered that it could have sent
+        ("a.Invented", {"free_client_a_valid": 1}, True, False),
+        ("a.Data0", {"free_client_a_valid": 1}, False, False),
+    ],
+)
+def test_hint_to_forwards_offered(name: str, last: Dict[str, int], option: bool, hint: bool) -> None:
+    proof = command.Proof.__new__(command.Proof)
+    proof.options = Options(forwards_offered=option)
+    assert proof.sends_offered(name, last) == hint
+
+
 def test_no_assertion_of_that_name(tmp_path: Path, monkeypatch: pytest.MonkeyPatch) -> None:
     proof = a_proof({"Data0": BOUNDED, "SeesBeat": FAILS, "SeesByte": FAILS}, monkeypatch, tmp_path)
     assert proof.chosen() == [0]
     proof.words.only = "b.Data"
-    with pytest.raises(ProveError, match="no assertion has such a name. There are a.Data0: nothing is proved"):
+    with pytest.raises(
+        ProveError, match="no assertion of the model has such a name. There are a.Data0: nothing is proved"
+    ):
         proof.chosen()
 
 
@@ -229,6 +271,29 @@ def test_a_failure_in_the_smaller_model_is_none(
     assert found == [("whole", "bounded 9"), *asked]
 
 
+def test_source_room_is_proved_with_source_one(tmp_path: Path, monkeypatch: pytest.MonkeyPatch) -> None:
+    """It follows from SourceOne. If the two fail together in the smaller model, it is tried alone in the whole one."""
+    labels = ("watch.SourceOne", "watch.SourceRoom")
+    proof = a_proof(dict.fromkeys(("Data0", "SeesBeat", "SeesByte"), BOUNDED), monkeypatch, tmp_path)
+    proof.words = argparse.Namespace(seconds=9)
+    proof.harness = Harness("", "D", {}, {}, (), ())
+    proof.model, small = Model(tmp_path, labels), Model(tmp_path / "small", labels)
+    proof.design = None  # type: ignore[assignment]
+    monkeypatch.setattr(proof, "build", lambda harness, what: small)
+    monkeypatch.setattr(command, "write_harness", lambda design, options, cover: proof.harness)
+    asked: List[Tuple[bool, int, bool]] = []
+
+    def ask(model: Model, index: int, seconds: int, with_previous: bool = False) -> Verdict:
+        asked.append((model is small, index, with_previous))
+        return Verdict(FAILS if model is small else PROVED, 3, 0.5)
+
+    monkeypatch.setattr(engine, "unbounded", ask)
+    prove = proof.prover([0, 1])
+    assert prove(1) == Verdict(PROVED, 3, 1.0) and asked == [(True, 1, True), (False, 1, False)]
+    asked.clear()
+    assert prove(0).kind == PROVED and asked == [(True, 0, False), (False, 0, False)]
+
+
 # ---- user bits, later resets, memories
 
 
@@ -296,10 +361,96 @@ def test_memory_that_does_not_fit() -> None:
     assert error.value.status == 3
 
 
+@pytest.mark.parametrize(
+    "words, message",
+    [
+        ("client_a_opcod == 4", "there is no signal client_a_opcod, but client_a_opcode, "),
+        ("nonsense > 1", "there is no signal nonsense: names are such as client_a_opcode"),
+        ("1; end", "this is not an expression"),
+    ],
+)
+def test_assumption_about_no_signal(words: str, message: str) -> None:
+    """SystemVerilog would make a wire of the name, of which the assumption says nothing."""
+    design, _ = a_design()
+    with pytest.raises(ProveError) as error:
+        write_harness(design, Options(level="ul", largest=4, assumptions=(words,)))
+    assert f"--assume '{words}': {message}" in str(error.value)
+
+
+def test_assumption_about_signals() -> None:
+    design, _ = a_design()
+    words = ("client_a_opcode == 3'h4 && !reset", "dut.state != 'd3", "watch.a.watch.held < 2")
+    text = write_harness(design, Options(level="ul", largest=4, assumptions=words)).text
+    assert all(f"assume ({one});" in text for one in words)
+
+
+# ---- what yosys accepts without a word
+
+
+def a_cell(kind: str, line: int, **connections: Tuple[str, List[Any]]) -> Dict[str, Any]:
+    """A cell of a netlist: each port with its direction and bits."""
+    return {
+        "type": kind,
+        "attributes": {"src": f"proof.sv:9.1-9.9|adapter.sv:{line}.3-{line}.9" if line else ""},
+        "port_directions": {name: there for name, (there, _) in connections.items()},
+        "connections": {name: bits for name, (_, bits) in connections.items()},
+    }
+
+
+AND = a_cell("$and", 4, A=("input", [2]), B=("input", [3]), Y=("output", [6]))
+
+
+@pytest.mark.parametrize(
+    "cells, message",
+    [
+        ([AND, a_cell("$dff", 5, CLK=("input", [1]), D=("input", [6]), Q=("output", [7]))], ""),
+        (
+            [a_cell("$dlatch", 0, EN=("input", [2]), D=("input", [3]), Q=("output", [8]))],
+            "adapter.sv:7.1: held is a latch: ",
+        ),
+        ([a_cell("$and", 4, A=("input", [1]), Y=("output", [6]))], "adapter.sv:4.3: a clock is used as data: "),
+        ([AND, a_cell("$or", 6, A=("input", [2]), Y=("output", [6]))], "adapter.sv:6.3: a wire that is assigned here"),
+        ([a_cell("$or", 6, A=("input", [2]), Y=("output", ["1"]))], "adapter.sv:6.3: a wire that is assigned here"),
+        ([a_cell("$or", 6, A=("input", [2]), Y=("output", [3]))], "from the input manager_a_ready has two drivers"),
+    ],
+)
+def test_netlist_of_another_design(cells: List[Dict[str, Any]], message: str, tmp_path: Path) -> None:
+    ports = {name: {"direction": "input", "bits": [bit]} for name, bit in (("clock", 1), ("x", 2))}
+    ports["free_manager_a_ready"] = {"direction": "input", "bits": [3]}
+    names = {"dut.held": {"bits": [8], "attributes": {"src": "proof.sv:9.1-9.9|adapter.sv:7.1-7.5"}}}
+    module = {"ports": ports, "netnames": names, "cells": {f"c{number}": cell for number, cell in enumerate(cells)}}
+    (tmp_path / "flat.json").write_text(json.dumps({"modules": {"top": module}}))
+    if not message:
+        netlist.check_netlist(tmp_path / "flat.json", ("clock",))
+        return
+    with pytest.raises(ProveError) as error:
+        netlist.check_netlist(tmp_path / "flat.json", ("clock",))
+    assert message in str(error.value) and error.value.status == 3
+
+
+def test_wire_that_is_assigned_twice() -> None:
+    wires = '  attribute \\hdlname "dut ready"\n  attribute \\src "p.sv:1.1-1.2|b.sv:6.2-6.9"\n  wire \\dut.ready\n'
+    once = wires + "  connect \\dut.ready \\go\n  connect \\dut.x [0] 1'1\n  connect \\dut.x [1] 1'1\n"
+    netlist.check_assignments(once)
+    with pytest.raises(ProveError, match=r"^b.sv:6.2: ready has two drivers: remove one") as error:
+        netlist.check_assignments(once + "  connect \\dut.ready 1'1\n")
+    assert error.value.status == 3
+
+
+def test_loop_has_a_line(tmp_path: Path) -> None:
+    said = (
+        "Warning: found logic loop in module top:\n    cell $auto$1 ($_AND_)\n    cell $auto$2 ($_XOR_)\n    wire \\x\n"
+    )
+    cells = {"$auto$1": a_cell("$_AND_", 0), "$auto$2": a_cell("$_XOR_", 34)}
+    (tmp_path / "gates.json").write_text(json.dumps({"modules": {"top": {"cells": cells}}}))
+    assert netlist.loop_in(said, tmp_path / "gates.json") == "adapter.sv:34.3"
+    assert netlist.loop_in("Found and reported 0 problems.\n", tmp_path / "gates.json") == ""
+
+
 # ---- clocks
 
 
-def netlist(cells: Dict[str, Any]) -> str:
+def a_netlist(cells: Dict[str, Any]) -> str:
     wires = {"clock": 1, "client_clock": 2, "client_tick": 3, "other": 4}
     names = {name: {"bits": [bit]} for name, bit in wires.items()}
     return json.dumps({"modules": {"top": {"netnames": names, "cells": cells}}})
@@ -316,7 +467,7 @@ def register(clock: int, kind: str = "$dff", polarity: str = "1") -> Dict[str, A
 
 
 def settled(cell: Dict[str, Any], folder: Path) -> Dict[str, Any]:
-    (folder / "in.json").write_text(netlist({"r": cell}))
+    (folder / "in.json").write_text(a_netlist({"r": cell}))
     settle_clocks(folder / "in.json", folder / "out.json", {"client_clock": "client_tick"})
     found: Dict[str, Any] = json.loads((folder / "out.json").read_text())["modules"]["top"]["cells"]["r"]
     return found

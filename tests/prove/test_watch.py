@@ -5,7 +5,7 @@ import subprocess
 import tempfile
 from functools import lru_cache
 from pathlib import Path
-from typing import Set, Tuple
+from typing import FrozenSet, Set, Tuple
 
 import pytest
 from bugs import NARROW, WATCH_MUTANTS, Bug, WatchMutant
@@ -49,21 +49,30 @@ def test_correct_converter(tmp_path: Path) -> None:
 
 
 @lru_cache(maxsize=None)
-def first_seed(bug: Bug) -> int:
-    """The first of four seeds with which the watch reports a bug by an expected assertion, or 0.
+def first_reports(bug: Bug) -> Tuple[int, FrozenSet[str]]:
+    """The first of four seeds with which the watch reports a bug by an expected assertion, or 0, and all reports of it.
 
     A bug that stops the converter is reported only if the message that waits is the watched one.
     """
     with tempfile.TemporaryDirectory() as folder:
         for seed in (1, 2, 3, 4):
-            if reports(bug.number, Path(folder), seed)[0] & set(bug.expected):
-                return seed
-    return 0
+            found, _ = reports(bug.number, Path(folder), seed)
+            if found & set(bug.expected):
+                return seed, frozenset(found)
+    return 0, frozenset()
 
 
 @pytest.mark.parametrize("bug", NARROW, ids=[one.name for one in NARROW])
 def test_planted_bug_is_reported(bug: Bug) -> None:
-    assert first_seed(bug)
+    assert first_reports(bug)[0]
+
+
+def test_each_assertion_reports_a_planted_bug() -> None:
+    """No assertion of the watch is without a bug of narrow.sv that it reports. Covers are no assertions."""
+    names = set(re.findall(r"^ *`TL_WATCH_ASSERT\((?!Sees)(\w+),", FILES[0].read_text(), re.M))
+    assert {"Invented", "Room", "SourceOne", "Ready"} <= names
+    reported = {name.partition(".")[2] for bug in NARROW for name in first_reports(bug)[1]}
+    assert names == reported
 
 
 @pytest.mark.parametrize("mutant", WATCH_MUTANTS, ids=[one.name for one in WATCH_MUTANTS])
@@ -72,6 +81,6 @@ def test_weaker_watch_misses_a_bug(mutant: WatchMutant, tmp_path: Path) -> None:
     text = FILES[0].read_text()
     assert text.count(mutant.text) == 1
     (tmp_path / "weaker.sv").write_text(text.replace(mutant.text, mutant.by))
-    seed = first_seed(next(bug for bug in NARROW if bug.number == mutant.bug))
+    seed, _ = first_reports(next(bug for bug in NARROW if bug.number == mutant.bug))
     found, messages = reports(mutant.bug, tmp_path, seed, tmp_path / "weaker.sv")
     assert not found and messages

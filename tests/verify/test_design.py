@@ -150,7 +150,12 @@ REFUSED: Dict[str, Tuple[str, str, int]] = {
     "array": ("module dut(input x [4]); endmodule", "the port x is an unpacked array", 2),
     "clock": (
         f"module dut({ports('p_', True)}); endmodule",
-        "no clock found for the link p. Add --client-clock NAME",
+        "no clock found for the link p, and the design has no input for one: write a wrapper module with a clock",
+        2,
+    ),
+    "clock of another name": (
+        f"module dut(input tick, input [1:0] mode, input go, {ports('p_', True)}); endmodule",
+        "no clock found for the link p. Add --client-clock NAME, with one of tick, go",
         2,
     ),
     "clocks": (
@@ -197,6 +202,7 @@ def test_what_is_named_and_not_there(tmp_path: Path) -> None:
     assert "--tie mode: the design has no such input left over" in error_of(source, Choice(ties={"mode": "1"}))[0]
     assert "no parameter WIDTH" in error_of(Source(source.top, source.files, {"WIDTH": "3"}))[0]
     assert "there is no file missing.sv" in error_of(Source("dut", ("missing.sv",)))[0]
+    assert f"{tmp_path} is a folder: name the files" in error_of(Source("dut", (str(tmp_path),)))[0]
     assert "is VHDL" in error_of(Source("dut", ("design.vhd",)))[0]
 
 

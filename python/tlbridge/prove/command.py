@@ -366,6 +366,10 @@ class Proof:
     def __init__(self, words: argparse.Namespace):
         self.words = words
         self.began = time.monotonic()
+        for option in ("out", "sby", "tcl"):
+            folder = getattr(words, option)
+            if folder and Path(folder).exists() and not Path(folder).is_dir():
+                raise ProveError(f"--{option} {folder}: this is a file: name a folder")
         try:
             self.source = source_of(words)
             self.design = read_design(self.source, choice_of(words))
@@ -389,7 +393,7 @@ class Proof:
             return self.projects()
         self.folder = Path(tempfile.mkdtemp(prefix="tlbridge-prove."))
         try:
-            self.model = self.build(self.harness)
+            self.model = self.build_whole()
             indices = self.chosen()
             self.reach()
             self.search(indices)
@@ -436,6 +440,22 @@ class Proof:
         say(f"{what} of {len([label for label in model.labels if not is_cover(label)])} assertions, {how}")
         return model
 
+    def build_whole(self) -> Model:
+        """Makes the model with all assertions and covers. Errors: yosys cannot read an assumption of the user (2)."""
+        try:
+            model = self.build(self.harness)
+        except ProveError as error:
+            found = re.search(r"proof\.sv:(\d+): ([^.]*)", str(error))
+            line = self.harness.text.splitlines()[int(found[1]) - 1] if found else ""
+            for words in self.options.assumptions:
+                if found and f"assume ({words})" in line:
+                    raise ProveError(f"--assume '{words}': {found[2]}: write an expression of SystemVerilog") from error
+            raise
+        folded = sorted(short_name(label) for label in model.folded if not is_cover(label))
+        if folded:
+            say(f"  not asked, since yosys simplified them to true or to another assertion: {', '.join(folded)}")
+        return model
+
     def prover(self, indices: Sequence[int]) -> Callable[[int], Verdict]:
         """Returns how an assertion is proved.
 
@@ -452,11 +472,17 @@ class Proof:
             small.update({label: (model, index) for index, label in enumerate(model.labels)})
 
         def ask(index: int) -> Verdict:
-            found = engine.unbounded(*small[self.model.labels[index]], seconds)
-            if found.kind != FAILS:
-                return found
+            label, before = self.model.labels[index], 0.0
+            if label in small:
+                model, place = small[label]
+                # follows from the assertion in front of it, and is slow to prove without it
+                both = label.endswith("SourceRoom") and place > 0 and model.labels[place - 1].endswith("SourceOne")
+                found = engine.unbounded(model, place, seconds, *([True] if both else []))
+                if found.kind != FAILS:
+                    return found
+                before = found.seconds
             again = engine.unbounded(self.model, index, seconds)
-            return replace(again, seconds=found.seconds + again.seconds)
+            return replace(again, seconds=before + again.seconds)
 
         return ask
 
@@ -471,8 +497,8 @@ class Proof:
         if not found:
             names = sorted({short_name(label) for _, label in labels})
             raise ProveError(
-                f"--only {self.words.only}: no assertion has such a name. There are {', '.join(names) or 'none'}: "
-                "nothing is proved",
+                f"--only {self.words.only}: no assertion of the model has such a name. There are "
+                f"{', '.join(names) or 'none'}: nothing is proved",
                 2 if labels else TOOL,
             )
         return sorted(found, key=lambda index: short_name(self.model.labels[index]))
@@ -482,7 +508,8 @@ class Proof:
         (2).
         """
         covers = [(index, label) for index, label in enumerate(self.model.labels) if is_cover(label)]
-        times = [label for _, label in covers if label == "SeesTime"]
+        impossible = [label for label in self.model.folded if is_cover(label)]
+        times = [label for label in (*impossible, *(label for _, label in covers)) if label == "SeesTime"]
         frames = max(COVER_FRAMES + self.words.reset_cycles, self.frames if self.options.two_clocks else 0)
         needed = [index for index, label in covers if label.endswith(("SeesBeat", "SeesTime"))]
         questions = [
@@ -491,25 +518,32 @@ class Proof:
             for limit in [NEEDED_SECONDS if index in needed else COVER_SECONDS]
         ]
         missing: Dict[str, List[str]] = {}
-        reached = 0
-        for done, (index, found) in enumerate(engine.in_parallel(self.words.jobs, questions), 1):
-            self.progress("kinds of beats", done, len(questions))
-            channel, _, name = short_name(self.model.labels[index]).rpartition(".")
-            if found.kind == FAILS:
-                reached += 1
+        seen: List[str] = []  # the channel of each cover that is reached
+
+        def note_cover(label: str, is_reached: bool) -> None:
+            channel, _, name = short_name(label).rpartition(".")
+            if is_reached:
+                seen.append(channel.upper())
             else:
                 missing.setdefault(channel.upper(), []).append(name)
+
+        for label in impossible:
+            note_cover(label, False)
+        for done, (index, found) in enumerate(engine.in_parallel(self.words.jobs, questions), 1):
+            self.progress("kinds of beats", done, len(questions))
+            note_cover(self.model.labels[index], found.kind == FAILS)
         within = f"{frames - self.words.reset_cycles} {self.unit}"
         if "" in missing:  # SeesTime
             raise ProveError(f"nothing is proved: the assumptions exclude every run of {within}. Check --assume")
         for channel, names in sorted(missing.items()):
-            if "SeesBeat" in names:
+            if "SeesBeat" in names and channel not in seen:
                 raise ProveError(
                     f"nothing is proved: no beat of channel {channel} can arrive at its receiver in {within}. "
                     "The assumptions exclude every beat, or the design passes none on: check --assume, --tie and "
                     "the reset"
                 )
-        say(f"possible: {reached - len(times)} of {len(covers) - len(times)} kinds of beats arrive")
+        total = len(covers) + len(impossible) - len(times)
+        say(f"possible: {len(seen) - len(times)} of {total} kinds of beats arrive")
         for channel, names in sorted(missing.items()):
             listed = ", ".join(COVERS[name] for name in COVERS if name in names)
             say(f"  not seen on {channel} in up to {within}, so nothing is said of it: {listed}")
@@ -579,12 +613,19 @@ class Proof:
         parts = [f"{proved} proved"] if proved else []
         parts += [f"{others} without a counterexample in {least} {self.unit} or more"] if others else []
         parts += [f"{fails} fail" + ("s" if fails == 1 else "")] if fails else []
-        say(f"{len(kinds)} assertions: {', '.join(parts)}; {time.monotonic() - self.began:.0f} s")
+        used = os.times()
+        taken = used.user + used.system + used.children_user + used.children_system
+        say(f"{len(kinds)} assertion{'s' if len(kinds) > 1 else ''}: {', '.join(parts)}")
+        say(f"it took {taken:.0f} s of processor time, {time.monotonic() - self.began:.0f} s by the clock")
         if not fails:
             return 0
-        self.show(
-            min((i for i in indices if self.verdicts[i].kind == FAILS), key=lambda i: (self.verdicts[i].frames, i))
-        )
+        # the first to fail, and rather the cause than one of the assertions about a source
+        order = [
+            (self.verdicts[index].frames, ".Source" in short_name(self.model.labels[index]), index)
+            for index in indices
+            if self.verdicts[index].kind == FAILS
+        ]
+        self.show(min(order)[-1])
         return 1
 
     # ---- a failure
@@ -606,6 +647,11 @@ class Proof:
         )
         (out / "inputs.txt").write_text(steps)
         say(f"counterexample of {name}, in {out}:")
+        if self.sends_offered(name, table[-1] if table else {}):
+            say(
+                "  a near beat is offered then. If the design sends parts of a beat before it accepts the beat, add "
+                "--forwards-offered"
+            )
         if not shutil.which("iverilog") or not shutil.which("vvp"):
             say(
                 "  inputs.txt: the inputs of proof.sv, step by step. There is no Icarus (`apt install iverilog`), "
@@ -627,6 +673,16 @@ class Proof:
             )
         )
         self.beats(out)
+
+    def sends_offered(self, name: str, last: Dict[str, int]) -> bool:
+        """Whether the design may have sent a part of a beat that was only offered: a far beat came too soon, while the
+        near link offered one. `last` has the inputs of the step that fails.
+        """
+        if self.options.forwards_offered or not name.endswith((".Invented", ".Early", ".SourceA", ".SourceD")):
+            return False
+        letter = "a" if name.endswith(".SourceA") else name[0]
+        near = "client" if letter in "ace" else "manager"
+        return bool(last.get(f"free_{near}_{letter}_valid"))
 
     def beats(self, out: Path) -> None:
         """Prints the beats of both links, writes the near ones as a trace, and the first difference by
@@ -661,6 +717,9 @@ class Proof:
                 f"  compared with the far beats of {judge}: "
                 + (wrong[0].strip() if wrong else "the beats so far do not differ")
             )
+            for line in done.stdout.splitlines():
+                if line.startswith("this design seems to split messages"):
+                    say(f"  {line}")
 
 
 def is_cover(label: str) -> bool:

@@ -64,9 +64,14 @@ def bounded(model: Model, index: int, frames: int, seconds: int) -> Verdict:
     return verdict(said, taken)
 
 
-def unbounded(model: Model, index: int, seconds: int) -> Verdict:
-    """Looks for a proof of one assertion for any number of frames, for at most `seconds`."""
-    said, taken = ask(model.small, [f"cone -s -O {index}", "scorr", "dc2", f"pdr -T {seconds}"], seconds)
+def unbounded(model: Model, index: int, seconds: int, with_previous: bool = False) -> Verdict:
+    """Looks for a proof of one assertion for any number of frames, for at most `seconds`.
+
+    `with_previous`: of this one and of the one in front of it, both at once. A proof is one of each, and a failure may
+    be one of either.
+    """
+    cone = [f"cone -s -O {index - 1} -R 2", "orpos"] if with_previous else [f"cone -s -O {index}"]
+    said, taken = ask(model.small, [*cone, "scorr", "dc2", f"pdr -T {seconds}"], seconds)
     return verdict(said, taken)
 
 

@@ -3,7 +3,8 @@ from __future__ import annotations
 
 import re
 from dataclasses import dataclass
-from typing import Dict, List, Optional, Set, Tuple
+from difflib import get_close_matches
+from typing import Dict, List, Optional, Sequence, Set, Tuple
 
 from ..verify.design import FROM_CLIENT, SIGNAL_NAME, Design, Link, Signal
 from .errors import ProveError
@@ -345,6 +346,21 @@ endmodule
 """
 
 
+def check_names(assumptions: Sequence[str], text: str) -> None:
+    """Refuses an assumption with a name that the harness does not have: it would be a free wire of its own. Names with
+    a dot, which are inside the design or the watch, are left to yosys.
+    """
+    known = set(re.findall(r"\b(?:wire|logic)\b(?: *\[[^]]*\])? *(\w+)", text))
+    for words in assumptions:
+        for name in re.findall(r"(?<![\w'.$])[A-Za-z_]\w*(?![\w.])", words):
+            if name not in known:
+                near = get_close_matches(name, sorted(known), 3)
+                raise ProveError(
+                    f"--assume '{words}': there is no signal {name}"
+                    + (f", but {', '.join(near)}" if near else ": names are such as client_a_opcode, manager_d_valid")
+                )
+
+
 def write_harness(design: Design, options: Options, cover: bool = True) -> Harness:
     """Returns the harness of a design. Errors: the design has one link only, or sends no mask on A or B (2)."""
     for words in options.assumptions:
@@ -354,4 +370,5 @@ def write_harness(design: Design, options: Options, cover: bool = True) -> Harne
             )
     writer = _Writer(design, options, cover)
     text = writer.module()
+    check_names(options.assumptions, text)
     return Harness(text, writer.channels, writer.bits, writer.free, tuple(writer.unread), tuple(writer.inputs))

@@ -11,6 +11,7 @@ from pathlib import Path
 from typing import Dict, Iterator, List, Mapping, Optional, Sequence, Tuple
 
 from .clocks import line_of, settle_clocks
+from .netlist import check_assignments, check_netlist, loop_in
 from .errors import TOOL, UNREADABLE, ProveError
 from .tools import run_tool
 
@@ -54,11 +55,13 @@ class Model:
     """A model in a folder: `model.aig`, the same after simplification (`small.aig`), and the map of its inputs
     (`model.map`).
 
-    `labels` are the assertions in the order of the model's outputs, with their places: `watch.a.watch.Data0`.
+    `labels` are the assertions in the order of the model's outputs, with their places: `watch.a.watch.Data0`. `folded`
+    are those that yosys simplified to true or merged with another one, so the model does not have them.
     """
 
     folder: Path
     labels: Tuple[str, ...]
+    folded: Tuple[str, ...] = ()
 
     @property
     def path(self) -> Path:
@@ -118,7 +121,7 @@ def key_of(recipe: Recipe) -> str:
             }
         ).encode()
     )
-    for name in ("model.py", "clocks.py"):
+    for name in ("model.py", "clocks.py", "netlist.py"):
         digest.update((Path(__file__).parent / name).read_bytes())
     files = [*recipe.design_files, *recipe.proof_files]
     for path in [*map(Path, files), *included_files(files, recipe.includes)]:
@@ -150,7 +153,7 @@ def build(recipe: Recipe, cache: Optional[Path]) -> Tuple[Model, bool]:
         ) from error
     try:
         _made(recipe, folder)
-        for name in ("flat.il", "before.il", "clocked.json", "settled.json"):
+        for name in ("flat.il", "flat.json", "before.il", "clocked.json", "settled.json"):
             (folder / name).unlink(missing_ok=True)
         try:
             folder.rename(place)
@@ -173,7 +176,8 @@ def _read(folder: Path) -> Model:
     labels = tuple(line.rpartition("/")[2] for line in (folder / "labels").read_text().split())
     if not labels:
         raise ProveError("the model has no assertion: nothing is proved", TOOL)
-    return Model(folder, labels)
+    folded = folder / "folded"
+    return Model(folder, labels, tuple(folded.read_text().split()) if folded.is_file() else ())
 
 
 def _made(recipe: Recipe, folder: Path) -> Model:
@@ -183,9 +187,12 @@ def _made(recipe: Recipe, folder: Path) -> Model:
     steps = [f"read_verilog -sv -formal{flags} {' '.join(recipe.proof_files)}"]
     if recipe.design_files:
         steps.append(f"read_verilog -sv {as_design}{flags} {' '.join(recipe.design_files)}")
-    steps += [f"hierarchy -check -top {recipe.top}", "proc", "flatten", "write_rtlil flat.il"]
+    steps += [f"hierarchy -check -top {recipe.top}", "proc", "flatten", "write_rtlil flat.il", "write_json flat.json"]
     _yosys(steps, folder)
-    check_memories((folder / "flat.il").read_text(errors="replace"))
+    text = (folder / "flat.il").read_text(errors="replace")
+    check_memories(text)
+    check_assignments(text)
+    check_netlist(folder / "flat.json", ("clock", *recipe.ticks))
     steps = ["read_rtlil flat.il", "memory_map -formal"]
     if recipe.free_initial:
         steps.append(f"setattr -unset init w:{recipe.free_initial}.*")
@@ -197,12 +204,15 @@ def _made(recipe: Recipe, folder: Path) -> Model:
     _yosys(steps, folder)
     names = (folder / "labels.all").read_text().split()
     script: List[str] = []
+    kept: List[str] = []
     for name in names:
         label = name.rpartition("/")[2]
         if recipe.assume and re.search(recipe.assume, label):
             script.append(f"chformal -assert -assert2assume {name}")
         elif (recipe.drop and re.search(recipe.drop, label)) or (recipe.keep and not re.search(recipe.keep, label)):
             script.append(f"chformal -assert -remove {name}")
+        else:
+            kept.append(label)
     if recipe.forget:
         assumed = (folder / "assumed.all").read_text().split()
         script += [f"chformal -assume -remove {name}" for name in assumed if re.search(recipe.forget, name)]
@@ -211,16 +221,24 @@ def _made(recipe: Recipe, folder: Path) -> Model:
     _yosys([*steps, "write_json clocked.json"], folder)
     settle_clocks(folder / "clocked.json", folder / "settled.json", recipe.ticks)
     (folder / "numbers.il").write_text("autoidx 100000000\n")  # yosys' new names differ from those in the file
-    steps = ["read_rtlil numbers.il", "read_json settled.json", "dffunmap", "setundef -anyseq"]
+    gates = ["read_rtlil numbers.il", "read_json settled.json", "dffunmap", "setundef -anyseq"]
     if recipe.zero_initial:
-        steps.append("setundef -zero -init")
-    steps += ["opt -fast", "techmap", "opt -fast", "dffunmap", "opt_clean", "abc -g AND -fast", "opt_clean"]
-    steps += ["select -write labels.last t:$assert", "write_aiger -I -B -zinit -map model.map model.aig"]
-    _yosys(steps, folder)
+        gates.append("setundef -zero -init")
+    gates += ["opt -fast", "techmap", "opt -fast", "dffunmap", "opt_clean"]
+    steps = [*gates, "abc -g AND -fast", "opt_clean", "select -write labels.last t:$assert"]
+    try:
+        _yosys([*steps, "write_aiger -I -B -zinit -map model.map model.aig"], folder)
+    except ProveError as error:  # write_aiger ends in a signal if the logic has a loop
+        place = _loop(gates, folder)
+        if not place:
+            raise
+        raise ProveError(f"{place}: a loop of logic without a register: break it by a register", UNREADABLE) from error
     labels = (folder / "labels.last").read_text().split()
     if not labels:
         raise ProveError("the model has no assertion: nothing is proved", TOOL)
     simplify(folder, len(labels))
+    there = {name.rpartition("/")[2] for name in labels}
+    (folder / "folded").write_text("".join(f"{label}\n" for label in kept if label not in there))
     (folder / "labels").write_text("\n".join(labels) + "\n")
     return _read(folder)
 
@@ -234,8 +252,8 @@ def check_memories(text: str) -> None:
         if bits > MOST_MEMORY_BITS:
             place = line_of(found[1] or found[4])
             raise ProveError(
-                f"{place}: the memory {found[4]} has {bits} bits, which would become registers, and at most "
-                f"{MOST_MEMORY_BITS} have a model: make it smaller by a parameter (-P NAME=VALUE)",
+                f"{place}: the memory {found[4]} has {bits} bits. Each bit becomes a register, and a memory may have "
+                f"{MOST_MEMORY_BITS} at most: make it smaller by a parameter (-P NAME=VALUE)",
                 UNREADABLE,
             )
 
@@ -271,10 +289,20 @@ def _yosys(steps: Sequence[str], folder: Path) -> None:
     if status == 0:
         return
     errors = [line for line in said.splitlines() if "ERROR" in line]
-    first = re.sub(r"^ERROR: ", "", errors[0].strip()) if errors else last_line(said)
+    first = re.sub(r"\bERROR: ", "", errors[0].strip()) if errors else last_line(said)
     if status < 0 or not errors:
-        raise ProveError(f"yosys ended with status {status}: nothing is proved. {first}", TOOL)
-    raise ProveError(f"yosys cannot read the design: {first[:400]}. {_remedy(first)}", UNREADABLE)
+        how = f"was ended by signal {-status}" if status < 0 else f"ended with status {status}"
+        raise ProveError(f"yosys {how}: nothing is proved. {first}", TOOL)
+    raise ProveError(f"yosys cannot read the design: {first[:400].rstrip('.!')}. {_remedy(first)}", UNREADABLE)
+
+
+def _loop(gates: Sequence[str], folder: Path) -> str:
+    """Returns the line of a loop in the logic, or nothing. yosys finds it among gates: it sees no bits of words."""
+    try:
+        _yosys([*gates, "tee -q -o loops check", "write_json gates.json"], folder)
+    except ProveError:
+        return ""
+    return loop_in((folder / "loops").read_text(errors="replace"), folder / "gates.json")
 
 
 REMEDIES: Dict[str, str] = {
@@ -283,6 +311,7 @@ REMEDIES: Dict[str, str] = {
         "the line in a simpler way"
     ),
     "not part of the design": "Name the file of that module, too",
+    "re-definition of module": "Name each file once, and the files of one variant of a module only",
     "unsupported cell type": (
         "Registers with asynchronous loads, latches and tristates have no model: write a synthesizable variant"
     ),

@@ -327,6 +327,8 @@ def _verilator(source: Source, out: Path) -> tree.Element:
                 f"{name} is VHDL, which no simulator here reads: convert it first, with `ghdl synth --out=verilog` or"
                 " another tool"
             )
+        if Path(name).is_dir():
+            raise DesignError(f"{name} is a folder: name the files of the design, or a list of them with -f LIST")
         if not Path(name).is_file():
             raise DesignError(f"there is no file {name}")
     words = ["verilator", "--xml-only", "--xml-output", str(out), "-sv", "-Wno-fatal", "-Wno-lint", "-Wno-style"]
@@ -521,7 +523,16 @@ def _find_ticks(link: Link, side: str, ports: Mapping[str, Port], choice: Choice
             )
     link.clock = choice.clocks.get(side) or _find_tick(link, ports, True, side)
     if not link.clock:
-        raise DesignError(f"no clock found for the link {link.name}. Add --{side}-clock NAME")
+        others = [name for name, port in ports.items() if port.direction == "input" and port.bits == 1]
+        others = [name for name in others if not SIGNAL_NAME.match(name)]
+        if not others:
+            raise DesignError(
+                f"no clock found for the link {link.name}, and the design has no input for one: write a wrapper module "
+                "with a clock"
+            )
+        raise DesignError(
+            f"no clock found for the link {link.name}. Add --{side}-clock NAME, with one of {', '.join(others)}"
+        )
     link.reset = choice.resets.get(side) or _find_tick(link, ports, False, side)
     link.reset_is_low = (
         link.reset.startswith("!") or bool(_ACTIVE_LOW.search(link.reset)) and not choice.resets.get(side)
