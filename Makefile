@@ -99,7 +99,7 @@ install-files:
 	install -m 755 sv/prove $(share)/sv
 	install -m 755 sv/compare $(root)/bin/tlbridge-compare
 	install -m 755 $(scripts) $(root)/bin
-	install -m 644 python/pyproject.toml python/backend.py $(share)/python
+	install -m 644 python/pyproject.toml python/hatch_build.py $(share)/python
 	rm -rf $(share)/python/tlbridge && cp -R python/tlbridge $(share)/python
 	find $(share)/python -name __pycache__ -prune -exec rm -rf {} +
 	install -d $(root)/share/man/man1 $(root)/share/bash-completion/completions

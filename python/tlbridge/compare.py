@@ -18,6 +18,7 @@ from __future__ import annotations
 import argparse
 import re
 from dataclasses import dataclass
+from functools import partial
 from pathlib import Path
 from typing import Iterator, List, Optional, Sequence, Tuple
 
@@ -277,7 +278,7 @@ def report_split(links: Sequence[LinkJudge], split: SplitJudge, places: FilePlac
     faults = [
         (side, fault)
         for side, link in zip(LINKS, links)
-        for fault in link.faults(lambda row, side=side: places.of(side, row, False))  # type: ignore[misc]
+        for fault in link.faults(partial(places.of, side, is_near=False))
     ]
     firsts = [
         Said(f"channel {fault.channel}, {fault.place}: {fault.name}: {fault.words}: {fault.line}", fault.seen)

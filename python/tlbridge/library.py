@@ -147,11 +147,12 @@ _loaded: Optional[c.CDLL] = None
 
 
 def _find() -> str:
-    """Returns the path in TLBRIDGE_LIBRARY, or else the library in this package, or else the one that the system's
-    loader finds."""
-    named = os.environ.get("TLBRIDGE_LIBRARY")
-    packed = Path(__file__).resolve().parent / "libtlbridge.so"
-    found = named or (str(packed) if packed.is_file() else ctypes.util.find_library("tlbridge"))
+    """Returns the path in TLBRIDGE_LIBRARY, or else the library in this package, or else the one of the tree that
+    `make install` made around it, or else the one that the system's loader finds."""
+    package = Path(__file__).resolve().parent
+    places = [package, *(folder / "lib" for folder in list(package.parents)[3:4])]
+    own = (str(place / "libtlbridge.so") for place in places if (place / "libtlbridge.so").is_file())
+    found = os.environ.get("TLBRIDGE_LIBRARY") or next(own, None) or ctypes.util.find_library("tlbridge")
     if not found:
         raise MissingLibraryError(
             "libtlbridge.so was not found: `make install` makes it, and the variable TLBRIDGE_LIBRARY may name it"

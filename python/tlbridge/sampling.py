@@ -1,7 +1,7 @@
 """Beats from signals that may have unknown bits. The rules are those of sv/tl_trace_monitor.sv."""
 from __future__ import annotations
 
-from typing import Callable, Dict, List, NamedTuple
+from typing import Any, Callable, Dict, List, NamedTuple
 
 from .beats import Beat
 from .protocol import CARRIES_DATA, FIELDS, GRANTS, RELEASE_ACK
@@ -90,7 +90,7 @@ class LinkSampler:
         return is_active and bool(values.get("mask", -1) >> lane & 1)
 
     def _beat(self, values: Dict[str, int]) -> Beat:
-        fields: Dict[str, object] = dict(values)
+        fields: Dict[str, Any] = dict(values)
         if "data" in values:
             fields["data"] = values["data"].to_bytes(self._width, "little")
-        return Beat(**fields)  # type: ignore[arg-type]
+        return Beat(**fields)

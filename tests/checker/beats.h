@@ -70,8 +70,8 @@ inline Beat first_beat(const Link &link, Channel channel, const Beat *request_of
     Beat b;
     do b.opcode = below(8);
     while (message(channel, b.opcode).name.empty());
-    const Message &kind = message(channel, b.opcode);
-    b.param = below(params(kind.name));
+    const Message kind = message(channel, b.opcode);
+    b.param = below(kind.params);
     b.size = some_size(link);
     b.source = some_source(link);
     if (channel == A)

@@ -1,5 +1,6 @@
-// The rules of one link, written only from docs/SPECIFICATION.md: tables of names, bytes one by one, lists of accepted beats.
+// The rules of one link, written only from docs/SPECIFICATION.md: bytes one by one, lists of accepted beats.
 #pragma once
+#include "../lib/protocol.h"
 #include <cstdint>
 #include <map>
 #include <string>
@@ -18,31 +19,13 @@ struct Beat {
 struct Message {
     std::string name;  // empty: there is none
     bool has_data;
+    unsigned params;
 };
 
 // section 2, the column of a channel
-inline const Message &message(Channel channel, unsigned opcode) {
-    static const Message a[8] = {{"PutFullData", true}, {"PutPartialData", true}, {"ArithmeticData", true}, {"LogicalData", true},
-        {"Get", false}, {"Intent", false}, {"AcquireBlock", false}, {"AcquirePerm", false}};
-    static const Message b[8] = {{"PutFullData", true}, {"PutPartialData", true}, {"ArithmeticData", true}, {"LogicalData", true},
-        {"Get", false}, {"Intent", false}, {"ProbeBlock", false}, {"ProbePerm", false}};
-    static const Message c[8] = {{"AccessAck", false}, {"AccessAckData", true}, {"HintAck", false}, {"", false},
-        {"ProbeAck", false}, {"ProbeAckData", true}, {"Release", false}, {"ReleaseData", true}};
-    static const Message d[8] = {{"AccessAck", false}, {"AccessAckData", true}, {"HintAck", false}, {"", false},
-        {"Grant", false}, {"GrantData", true}, {"ReleaseAck", false}, {"", false}};
-    return (channel == A ? a : channel == B ? b : channel == C ? c : d)[opcode];
-}
-
-// section 2, how many params the row of a message has
-inline size_t params(const std::string &name) {
-    static const std::vector<std::string> grow{"NtoB", "NtoT", "BtoT"}, cap{"toT", "toB", "toN"},
-        report{"TtoB", "TtoN", "BtoN", "TtoT", "BtoB", "NtoN"};
-    static const std::map<std::string, std::vector<std::string>> rows{
-        {"ArithmeticData", {"MIN", "MAX", "MINU", "MAXU", "ADD"}}, {"LogicalData", {"XOR", "OR", "AND", "SWAP"}},
-        {"Intent", {"PrefetchRead", "PrefetchWrite"}}, {"AcquireBlock", grow}, {"AcquirePerm", grow}, {"ProbeBlock", cap}, {"ProbePerm", cap},
-        {"Grant", cap}, {"GrantData", cap}, {"ProbeAck", report}, {"ProbeAckData", report}, {"Release", report}, {"ReleaseData", report}};
-    auto row = rows.find(name);
-    return row == rows.end() ? 1 : row->second.size();
+inline Message message(Channel channel, unsigned opcode) {
+    const tl_kind &kind = tl_kinds[channel][opcode];
+    return {kind.name, kind.has_data, kind.params};
 }
 
 struct Verdict {
@@ -88,9 +71,9 @@ struct Rules {
 
     // sections 6 and 9, of a beat that opens a message
     Fault fault_of_first(Channel channel, const Beat &b) const {
-        const Message &kind = message(channel, b.opcode);
+        const Message kind = message(channel, b.opcode);
         if (kind.name.empty()) return Opcode;
-        if (b.param >= params(kind.name)) return Param;
+        if (b.param >= kind.params) return Param;
         if (b.size > 12) return Size;
         if (channel != D && b.address % (uint64_t(1) << b.size) != 0) return Unaligned;
         if (mask_is_wrong(channel, b)) return Mask;

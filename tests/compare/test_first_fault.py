@@ -17,7 +17,7 @@ from typing import Dict, List, Sequence, Tuple
 import pytest
 from project import MODEL, ROOT, SV, needs_program
 
-MESSAGES, SOURCES, LIMIT = 10_000, 8, 600
+MESSAGES, SOURCES, LIMIT = 2_000, 8, 600
 CLIENT, MANAGER = "client", "manager"
 KINDS = ("stray", "lost", "doubled", "early")
 READS, RELEASES = "A", "C"  # the channel of the requests; the responses are on D

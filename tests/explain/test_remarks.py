@@ -21,23 +21,10 @@ from collections import Counter, defaultdict, deque
 import pytest
 from project import MODEL, needs_program, script
 from random_traces import lawful_trace
+from tlbridge.protocol import RESPONSES
 
 model = script(MODEL)
 
-ANSWERS = {
-    "PutFullData": {"AccessAck"},
-    "PutPartialData": {"AccessAck"},
-    "ArithmeticData": {"AccessAckData"},
-    "LogicalData": {"AccessAckData"},
-    "Get": {"AccessAckData"},
-    "Intent": {"HintAck"},
-    "AcquireBlock": {"Grant", "GrantData"},
-    "AcquirePerm": {"Grant"},
-    "ProbeBlock": {"ProbeAck", "ProbeAckData"},
-    "ProbePerm": {"ProbeAck"},
-    "Release": {"ReleaseAck"},
-    "ReleaseData": {"ReleaseAck"},
-}
 GROWTHS, CAPS = ("NtoB", "NtoT", "BtoT"), ("toT", "toB", "toN")
 REPORTS = ("TtoB", "TtoN", "BtoN", "TtoT", "BtoB", "NtoN")
 # The permissions in their order.
@@ -148,7 +135,7 @@ class Model:
         asked, name = name_of(ask), name_of(answer)
         if name == "GrantAck":
             return
-        if name not in ANSWERS[asked]:
+        if name not in RESPONSES[asked]:
             self.say(answer.line, f"it is not a valid response to {asked}, in line {ask.line}")
         elif asked.startswith("Acquire") and not answer.head["denied"]:
             growth, cap = GROWTHS[ask.head["param"]], CAPS[answer.head["param"]]

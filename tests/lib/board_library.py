@@ -1,5 +1,5 @@
-"""The scoreboard's C engine and the glue for SystemVerilog as a shared library, over the plain bridge of
-tests/scoreboard or over proved archives.
+"""The scoreboard's C engine and the glue for SystemVerilog as a shared library, over the plain bridge
+(plain_bridge.c) or over proved archives.
 """
 
 import os
@@ -11,7 +11,7 @@ from commands import Word, run, said
 from once import made_once
 from project import ROOT, SCOREBOARD, compiler
 
-PLAIN_BRIDGE = ROOT / "tests" / "scoreboard" / "plain_bridge.c"
+PLAIN_BRIDGE = ROOT / "tests" / "lib" / "plain_bridge.c"
 PAIRS = ("8:4", "4:8", "8:8", "16:2", "2:1", "1:32", "64:16", "128:1", "1:128", "128:128", "32:64")
 SOURCES = (*SCOREBOARD, ROOT / "sv" / "tlbridge_dpi.c")
 INCLUDES = (f"-I{ROOT}/include", f"-I{ROOT}/packaging/dpi")

@@ -1,9 +1,8 @@
 """The tables of messages that tests read: opcodes, names, params, which carry data, and the fields of a beat.
 
 They are those of python/tlbridge/protocol.py, which tests/repository/test_protocol.py compares with the proved crates.
-The three models of the
-rules keep tables of their own, on purpose: the crates, `tlbridge-model`, and the checker's model (checker_model.py, and
-rules.h in C++).
+C and C++ have the messages in protocol.h. The three models of the rules keep tables of their own, on purpose: the
+crates, `tlbridge-model`, and the checker with its model (checker_model.py).
 """
 
 from typing import Dict, List

@@ -1,13 +1,10 @@
 """The tree that `make install` makes. Nothing is proved and no program is built.
 
 The files that need no proof (make install-files) are installed into a temporary folder, and the library and the
-programs if they are built and
-no source is newer. Otherwise the programs are left out, and the library is made of stand-ins for the proved archives:
-the plain bridge of
-tests/scoreboard. Then each file with its mode, and links; the links of the pages; the commands with their man pages and
-completion; the symbols
-of the library; the words of `make`, with what it does by default; the archive of `make dist`; the wheel; and the
-version.
+programs if they are built and no source is newer. Otherwise the programs are left out, and the library is made of
+stand-ins for the proved archives: tests/lib/plain_bridge.c. Then come each file with its mode, and links; the links of
+the pages; the commands with their man pages and completion; the symbols of the library; the words of `make`, with what
+it does by default; the archive of `make dist`; the wheel; and the version.
 """
 
 import base64
@@ -48,7 +45,6 @@ LINK = re.compile(r"!?\[[^\]]*\]\(([^)\s]+)\)")
 VERSIONS = {
     "tlbridge-model": r'^VERSION = "(.*)"$',
     "include/tlbridge.h": r'^#define TLBRIDGE_VERSION "(.*)"$',
-    "python/pyproject.toml": r'^version = "(.*)"$',
     "crates/tl_words/src/lib.rt": r'^const VERSION: &str = "(.*)";$',
     "crates/tlexplain/src/words.rt": r'^const VERSION: &str = "(.*)";$',
 }
@@ -226,7 +222,7 @@ def expected_files(parts, pairs):
         ROOT / "sv" / "tlbridge_calls.h",
         ROOT / "sv" / "prove",
     ]
-    copied += [ROOT / "python" / "pyproject.toml", ROOT / "python" / "backend.py"]
+    copied += [ROOT / "python" / "pyproject.toml", ROOT / "python" / "hatch_build.py"]
     copied += [
         path
         for folder in ("examples", "docs", "rtl", "python/tlbridge")
@@ -687,16 +683,22 @@ def test_a_second_installation_leaves_no_old_file(installed: Installed, tmp_path
     tests.verdict()
 
 
+def built(folder: Path, room: Path, kind: str, **environment: str) -> "subprocess.CompletedProcess[str]":
+    """Builds the wheel or the source archive of a folder in another one, as pip and `build` do: by hatchling, which
+    prints its name."""
+    pytest.importorskip("hatchling", reason="there is no hatchling (`tools/install-tools` names its package)")
+    words = "import os, sys; os.chdir(sys.argv[1]); sys.dont_write_bytecode = True; from hatchling import build"
+    return subprocess.run(
+        [sys.executable, "-c", f"{words}; print(build.build_{kind}(sys.argv[2]))", str(folder), str(room)],
+        capture_output=True,
+        text=True,
+        env={**{name: value for name, value in os.environ.items() if name != "TLBRIDGE_LIBRARY"}, **environment},
+    )
+
+
 def wheel_of(folder, room, **environment):
-    """Builds the wheel of a folder with backend.py. Returns its name, and its files, or the error."""
-    build = (
-        "import os, sys; sys.path.insert(0, sys.argv[1]); sys.dont_write_bytecode = True\n"
-        "import backend; print(backend.build_wheel(sys.argv[2]))"
-    )
-    environment = {**{name: value for name, value in os.environ.items() if name != "TLBRIDGE_LIBRARY"}, **environment}
-    done = subprocess.run(
-        [sys.executable, "-c", build, str(folder), str(room)], capture_output=True, text=True, env=environment
-    )
+    """Builds the wheel of a folder. Returns its name, and its files, or the error."""
+    done = built(folder, room, "wheel", **environment)
     name = done.stdout.strip()
     if done.returncode:
         return name, {}, done.stderr[-500:]
@@ -761,6 +763,7 @@ def test_the_library_of_a_wheel(installed: Installed, tmp_path: Path) -> None:
     room = tmp_path
     place, info = room / "wheels" / "deep" / "share" / "python", f"tlbridge-{VERSION}.dist-info"
     shutil.copytree(tree / "share" / "tlbridge" / "python", place)
+    shutil.copy(tree / "share" / "tlbridge" / "VERSION", place.parent)
     (place.parent / "out").mkdir()
     named, own = room / "named.so", place.parent / "out" / "libtlbridge.so"
     named.write_bytes(b"named")
@@ -785,12 +788,11 @@ def test_the_library_of_a_wheel(installed: Installed, tmp_path: Path) -> None:
         tests.test(
             not re.search(r"[-.]", name[len(f"tlbridge-{VERSION}-py3-none-") : -4]), f"a wheel with {what} is {name}"
         )
-        lines = files[f"{info}/WHEEL"].decode().splitlines()
+        lines = [line for line in files[f"{info}/WHEEL"].decode().splitlines() if not line.startswith("Generator: ")]
         tests.test(
             lines
             == [
                 "Wheel-Version: 1.0",
-                "Generator: tlbridge",
                 f"Root-Is-Purelib: {str(text is None).lower()}",
                 f"Tag: {name[len(f'tlbridge-{VERSION}-'):-4]}",
             ],
@@ -801,43 +803,37 @@ def test_the_library_of_a_wheel(installed: Installed, tmp_path: Path) -> None:
     tests.verdict()
 
 
-def built(build: str, folder: Path, room: Path) -> str:
-    """What python/backend.py returns for `build`, in an isolated Python."""
-    words = "import sys; sys.path.insert(0, sys.argv[1]); sys.dont_write_bytecode = True; import backend"
-    done = subprocess.run(
-        [sys.executable, "-c", f"{words}; print({build})", str(folder), str(room)], capture_output=True, text=True
-    )
-    assert done.returncode == 0, done.stderr
-    return done.stdout
-
-
-def test_the_data_of_the_package() -> None:
-    """They are those of pyproject.toml as a reader of TOML has them, and claim no proof of Python."""
+def test_the_data_of_the_package(tmp_path: Path) -> None:
+    """They are those of pyproject.toml and of VERSION, and claim no proof of Python."""
     tomllib = pytest.importorskip("tomllib")
     project = tomllib.loads((ROOT / "python" / "pyproject.toml").read_text())["project"]
-    lines = built("backend.METADATA", ROOT / "python", ROOT).splitlines()
-    assert lines[:4] == [
-        "Metadata-Version: 2.1",
+    _, files, error = wheel_of(ROOT / "python", tmp_path, TLBRIDGE_LIBRARY="")
+    assert not error
+    lines = files[f"tlbridge-{VERSION}.dist-info/METADATA"].decode().splitlines()
+    assert project["description"].endswith("The Python code is tested, not proved.")
+    assert "version" not in project
+    assert {
         "Name: tlbridge",
         f"Version: {VERSION}",
         f"Summary: {project['description']}",
-    ]
-    assert project["description"].endswith("The Python code is tested, not proved.")
-    assert lines[4:6] == [
         f"Requires-Python: {project['requires-python']}",
-        f"Keywords: {','.join(project['keywords'])}",
-    ]
-    assert lines[6:-1] == [f"Classifier: {classifier}" for classifier in project["classifiers"]]
-    scripts = built("backend.SCRIPTS", ROOT / "python", ROOT).split("\n")[1:-2]
-    assert scripts == [f"{name} = {entry}" for name, entry in project["scripts"].items()]
+        f"Keywords: {','.join(sorted(project['keywords']))}",
+        *(f"Classifier: {classifier}" for classifier in project["classifiers"]),
+    } <= {*lines}
+    assert [line for line in lines if re.match("Requires-Dist|License", line)] == []
+    scripts = files[f"tlbridge-{VERSION}.dist-info/entry_points.txt"].decode().split()
+    assert " ".join(scripts) == " ".join(
+        ["[console_scripts]", *(f"{name} = {entry}" for name, entry in sorted(project["scripts"].items()))]
+    )
 
 
 def test_the_source_archive(tmp_path: Path) -> None:
-    """It has each file of the package and no library, and the wheel that its backend builds is that of the repository.
-    pip installs it in a fresh environment, without an index.
+    """It has each file of the package and no library, and its wheel has the files of the repository's. pip installs it
+    in a fresh environment without an index, by the hatchling of this Python.
     """
-    name = built("backend.build_sdist(sys.argv[2])", ROOT / "python", tmp_path).strip()
-    assert name == f"tlbridge-{VERSION}.tar.gz"
+    done = built(ROOT / "python", tmp_path, "sdist", TLBRIDGE_LIBRARY=str(tmp_path / "nowhere.so"))
+    name = done.stdout.strip()
+    assert name == f"tlbridge-{VERSION}.tar.gz", done.stderr
     with tarfile.open(tmp_path / name) as archive:
         archive.extractall(tmp_path / "source")
     place = tmp_path / "source" / f"tlbridge-{VERSION}"
@@ -847,13 +843,14 @@ def test_the_source_archive(tmp_path: Path) -> None:
         for path in (ROOT / "python" / "tlbridge").rglob("*")
         if path.suffix in (".py", ".typed")
     }
-    assert files == {"PKG-INFO", "pyproject.toml", "backend.py", *package}
+    # (hatchling adds the settings of git)
+    assert files - {".gitignore"} == {"PKG-INFO", "pyproject.toml", "hatch_build.py", "VERSION", *package}
     wheel, made, error = wheel_of(place, tmp_path)
     assert (wheel, error) == (f"tlbridge-{VERSION}-py3-none-any.whl", "")
     assert {path for path in made if ".dist-info/" not in path} == package
-    venv.create(tmp_path / "venv", with_pip=True)
-    pip = [tmp_path / "venv" / "bin" / "pip", "install", "--no-index", "--quiet", tmp_path / name]
-    done = subprocess.run([*map(str, pip)], capture_output=True, text=True)
+    venv.create(tmp_path / "venv", with_pip=True, system_site_packages=True)
+    pip = [tmp_path / "venv" / "bin" / "pip", "install", "--no-index", "--no-build-isolation", "--quiet"]
+    done = subprocess.run([*map(str, pip), str(tmp_path / name)], capture_output=True, text=True)
     assert done.returncode == 0, done.stderr
     command = [str(tmp_path / "venv" / "bin" / "tlbridge-compare"), "--help"]
     assert "client_beats" in subprocess.run(command, capture_output=True, text=True).stdout

@@ -6,7 +6,7 @@ Icarus: on each pair of widths, with ids of 8 bits and of 16, the monitors write
 faults of the rules.
 Verilator: for each case, the scoreboard prints its lines and counts, and fails if there is a difference. It is linked
 with the scoreboard's C
-engine over the plain bridge of tests/scoreboard.
+engine over the plain bridge of tests/lib.
 """
 
 import re
@@ -407,6 +407,15 @@ def test_each_response_is_on_the_lanes_of_its_own_request_though_its_source_is_u
         beat_at(50, 0, "D", {**WITH_DATA, "size": 0}, 2),
     ]
     links.sees(link_cases.started(events), (8, 4), 8)
+
+
+def test_a_response_is_on_the_upper_lanes_of_a_bus_of_128_bytes(links: Links) -> None:
+    """Its lane is that of its request, by seven bits of the address."""
+    ask = beat_at(10, 0, "A", {**GET, "size": 0, "address": 0x1040})
+    response = beat_at(20, 0, "D", {**WITH_DATA, "size": 0}, 1 << 64)
+    data = bytes(range(1, 129))
+    events = [replace(ask, mask=1 << 64, data=data), replace(response, data=data)]
+    links.sees(link_cases.started(events), (128, 128), 16)
 
 
 def test_a_release_ack_is_no_response_to_a_request_of_its_source(links: Links) -> None:

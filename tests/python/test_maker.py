@@ -1,6 +1,7 @@
 """The maker of traffic: the unverified model takes each conversation to its end, its options limit what it has, and
 planted mistakes are refused."""
 
+import re
 import subprocess
 import sys
 from collections import Counter
@@ -116,6 +117,29 @@ def test_mistakes() -> None:
     assert {f"refused {rule}" for rule in rules.split()} | {"waiting SourceBusy", "waiting NoRequest", "cut"} <= {*ends}
 
 
+def test_mistakes_in_the_order_of_beats() -> None:
+    """A beat is lost or comes twice, two change places, all are in another order, or those at the end are missing."""
+    seen: Counter[str] = Counter()
+    for seed in range(120):
+        options = Options(8, 4, seed, lines=20, channels="A", mix={"get": 1}, sources=500)
+        beats = [
+            message.beats[0] for message in made(8, 4, lines=20, seed=seed, channels="A", mix={"get": 1}, sources=500)
+        ]
+        lists: Dict[str, List[Transfer]] = {channel: [] for channel in CHANNELS}
+        lists["A"] = [*beats]
+        Faults(Conversation(options).random, lists, options, 1).order()
+        left, moved = lists["A"], [old != new for old, new in zip(beats, lists["A"])].count(True)
+        if len(left) == len(beats):
+            assert sorted(map(str, left)) == sorted(map(str, beats))
+            seen["as before" if not moved else "exchanged" if moved == 2 else "mixed"] += 1
+        else:
+            doubled = len(left) == len(beats) + 1 and any(one == two for one, two in zip(left, left[1:]))
+            lost = len(left) == len(beats) - 1 and left != beats[:-1]
+            seen["doubled" if doubled else "lost" if lost else "ends"] += 1
+            assert doubled or lost or left == beats[: len(left)]
+    assert {"doubled", "exchanged", "mixed", "lost", "ends"} <= {*seen}, seen
+
+
 def test_a_mistake_in_nothing() -> None:
     """Traffic without beats has no place for one."""
     options = Options(8, 4, lines=1)
@@ -162,3 +186,18 @@ def test_wrong_words(words: str, error: str) -> None:
     """They are refused with a sentence."""
     done = command(*"--client 8 --manager 4 --lines 60".split(), *words.split())
     assert done.returncode == 2 and error in done.stderr and not done.stdout
+
+
+@pytest.mark.parametrize(
+    "words, missing",
+    (
+        ("--manager 4 --lines 60", "--client"),
+        ("--client 8 --lines 60", "--manager"),
+        ("--client 8 --manager 4", "--lines --bytes"),
+    ),
+)
+def test_words_that_are_needed(words: str, missing: str) -> None:
+    """Both widths and one length."""
+    done = command(*words.split())
+    assert done.returncode == 2 and not done.stdout
+    assert re.search(f"required: {missing}$|one of the arguments {missing} is required", done.stderr, re.M)

@@ -438,13 +438,16 @@ class Library(unittest.TestCase):
 
     @pytest.mark.usefixtures("library")
     def test_found(self):
-        """The variable TLBRIDGE_LIBRARY comes first, then the package's own file, then the loader's."""
+        """The variable TLBRIDGE_LIBRARY comes first, then the package's own file, then that of the installed tree, then
+        the loader's."""
         named = os.environ["TLBRIDGE_LIBRARY"]
         with tempfile.TemporaryDirectory() as room:
+            folder = Path(room) / "share" / "tlbridge" / "python"
             shutil.copytree(
-                ROOT / "python" / "tlbridge", Path(room) / "tlbridge", ignore=shutil.ignore_patterns("__pycache__")
+                ROOT / "python" / "tlbridge", folder / "tlbridge", ignore=shutil.ignore_patterns("__pycache__")
             )
-            packed = Path(room) / "tlbridge" / "libtlbridge.so"
+            packed, installed = folder / "tlbridge" / "libtlbridge.so", Path(room) / "lib" / "libtlbridge.so"
+            installed.parent.mkdir()
             program = (
                 "import sys, ctypes.util; ctypes.util.find_library = lambda name: {'tlbridge': sys.argv[1] or"
                 " None}[name]\nimport tlbridge\ntry: print(tlbridge.load()._name)\nexcept tlbridge.MissingLibraryError"
@@ -453,17 +456,19 @@ class Library(unittest.TestCase):
             none = (
                 "libtlbridge.so was not found: `make install` makes it, and the variable TLBRIDGE_LIBRARY may name it"
             )
-            for variable, is_packed, by_loader, wanted in (
-                (named, True, "/nowhere.so", named),
-                (named, False, "", named),
-                ("", True, "/nowhere.so", str(packed)),
-                ("", False, named, named),
-                ("", False, "", none),
+            for variable, places, by_loader, wanted in (
+                (named, (packed, installed), "/nowhere.so", named),
+                (named, (), "", named),
+                ("", (packed, installed), "/nowhere.so", str(packed)),
+                ("", (installed,), "/nowhere.so", str(installed)),
+                ("", (), named, named),
+                ("", (), "", none),
             ):
-                packed.unlink(missing_ok=True)
-                if is_packed:
-                    shutil.copy(named, packed)
-                environment = {**os.environ, "PYTHONPATH": room, "TLBRIDGE_LIBRARY": variable}
+                for place in (packed, installed):
+                    place.unlink(missing_ok=True)
+                for place in places:
+                    shutil.copy(named, place)
+                environment = {**os.environ, "PYTHONPATH": str(folder), "TLBRIDGE_LIBRARY": variable}
                 ran = subprocess.run(
                     [sys.executable, "-c", program, by_loader],
                     env=environment,
@@ -471,7 +476,7 @@ class Library(unittest.TestCase):
                     text=True,
                     timeout=60,
                 )
-                with self.subTest(variable=variable, is_packed=is_packed, by_loader=by_loader):
+                with self.subTest(variable=variable, places=places, by_loader=by_loader):
                     self.assertEqual((ran.stdout, ran.stderr), (f"{wanted}\n", ""))
 
     @pytest.mark.usefixtures("library")

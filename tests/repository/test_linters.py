@@ -11,10 +11,7 @@ from project import ROOT, compiler, needs_tools
 FIRST_LINE = re.compile(rb"#!.*\b(python3|sh|bash)\b")
 # What mypy checks strictly, and files there that have no types yet.
 TYPED = ("python/tlbridge", "tests/lib")
-UNTYPED = tuple(
-    f"tests/lib/{name}.py"
-    for name in ("board_library", "checker_model", "lawful", "link_cases", "subtests", "valgrind")
-)
+UNTYPED = tuple(f"tests/lib/{name}.py" for name in ("checker_model", "lawful", "link_cases"))
 
 
 # For the C of all folders: a pair of widths, and the numbers that tests give to glue.c.

@@ -1,5 +1,5 @@
-"""The one table of the protocol, python/tlbridge/protocol.py, beside the proved crates, the unverified model and C's
-header."""
+"""The one table of the protocol, python/tlbridge/protocol.py, compared with the proved crates, the unverified model and
+the headers of C; and that no other file has such a table."""
 
 import re
 import subprocess
@@ -8,7 +8,7 @@ from typing import Dict, List, Tuple
 
 import pytest
 from project import MODEL, ROOT, script
-from tlbridge import protocol
+from tlbridge import library, protocol
 
 CRATES = ROOT / "crates"
 
@@ -115,23 +115,127 @@ def test_the_header_of_c_has_the_same_faults() -> None:
     assert {number: named[number] for number in shared} == {number: expected[number] for number in shared}
 
 
+def test_the_statuses_of_calls_are_those_of_the_library() -> None:
+    """The statuses that only calls have, from 240 on, are for C, SystemVerilog and Python the numbers of the proved
+    constants. 247 is the own number of the glue for SystemVerilog."""
+    text = (CRATES / "tl_c_beats" / "src" / "answers.rt").read_text()
+    proved = {name: int(number) for name, number in re.findall(r"pub const (\w+): u8 = (2[4-9]\d);", text)}
+    assert len(proved) == 6
+    named = r"\bTL_(\w+) = (2[4-9]\d)\b"
+    header = dict(re.findall(named, (ROOT / "include" / "tlbridge.h").read_text()))
+    assert {name: int(number) for name, number in header.items()} == proved
+    package = dict(re.findall(named, (ROOT / "sv" / "tlbridge_pkg.sv").read_text()))
+    assert package.pop("OTHER_WIDTH") == "247"
+    assert package and all(int(number) == proved[name] for name, number in package.items())
+    rows = re.findall(r'SAYS\((2[4-9]\d), "(\w+)"', (ROOT / "tests" / "lib" / "statuses.h").read_text())
+    assert {name.lower(): int(number) for number, name in rows} == {
+        name.replace("_", "").lower(): number for name, number in proved.items()
+    }
+    assert (library.NOT_TAKEN, library.NOT_SENT) == (proved["NOT_TAKEN"], proved["NOT_SENT"])
+
+
+# The messages for C and C++, which are made from protocol.py.
+HEADER = ROOT / "tests" / "lib" / "protocol.h"
+FIRST_LINES = """/* The messages of each channel. Made from python/tlbridge/protocol.py, and written again by
+ * `tools/run-tests tests/repository/test_protocol.py --write`. */
+#ifndef TLBRIDGE_TESTS_PROTOCOL_H
+#define TLBRIDGE_TESTS_PROTOCOL_H
+
+#include <stdbool.h>
+
+/* A message: its name, whether it carries data, and how many params it has. An opcode without a message has none. */
+typedef struct {
+    const char *name;
+    bool has_data;
+    unsigned params;
+} tl_kind;
+
+/* By channel, from A to D, and opcode. */
+static const tl_kind tl_kinds[4][8] = {
+"""
+
+
+def header_of_messages() -> str:
+    """The text of HEADER."""
+    lines = [FIRST_LINES]
+    for channel in "ABCD":
+        kinds = [protocol.OPCODES[channel].get(opcode, protocol.Kind("", 0, False)) for opcode in range(8)]
+        rows = (f'        {{"{kind.name}", {str(kind.has_data).lower()}, {kind.params}}},\n' for kind in kinds)
+        lines += ["    {\n", *rows, "    },\n"]
+    return "".join([*lines, "};\n\n#endif\n"])
+
+
+def test_the_messages_for_c_are_those_of_the_table(pytestconfig: pytest.Config) -> None:
+    """tests/lib/protocol.h, which the C and C++ of tests includes."""
+    if pytestconfig.getoption("--write"):
+        HEADER.write_text(header_of_messages())
+    assert HEADER.read_text() == header_of_messages()
+
+
+def test_the_statuses_for_c_are_those_of_the_library() -> None:
+    """tests/lib/statuses.h has the name and the sentence of each status of the C library's proved table."""
+    text = (CRATES / "tl_c_beats" / "src" / "texts.rt").read_text()
+    split = text.index("fn status_sentence")
+    named, said = (dict(re.findall(r'(\w+) =>\s*"([^"]+)"', part)) for part in (text[:split], text[split:]))
+    rows = re.findall(r'SAYS\((\d+), "(\w+)", "(.*)"\)', (ROOT / "tests" / "lib" / "statuses.h").read_text())
+    assert len(rows) == len(named) == len(said)
+    assert {(name, sentence) for _, name, sentence in rows} == {(named[key], said[key]) for key in named}
+    assert {int(number): name for number, name, _ in rows if int(number) in protocol.FAULTS} == protocol.FAULTS
+
+
+def test_the_opcodes_that_the_scoreboard_names() -> None:
+    """sv/tlbridge_board.h names four."""
+    found = re.search(r"enum { (PUT_PARTIAL_DATA = [^}]*) };", (ROOT / "sv" / "tlbridge_board.h").read_text())
+    assert found
+    channels = {"PUT_PARTIAL_DATA": "A", "GET": "A", "ACCESS_ACK": "D", "RELEASE_ACK": "D"}
+    named = {name: int(number) for name, number in re.findall(r"(\w+) = (\d+)", found[1])}
+    numbers = {(channel, name.upper()): opcode for (channel, name), opcode in protocol.NUMBERS.items()}
+    assert named == {name: numbers[channel, name.replace("_", "")] for name, channel in channels.items()}
+
+
+# The first messages of A in the order of their opcodes, with nothing but numbers and truth between them; or the opcodes
+# of some.
+BETWEEN = r"(?:\W|\d|[Tt]rue|[Ff]alse|Kind)*"
+IN_ORDER = re.compile(rf"PutFullData{BETWEEN}PutPartialData{BETWEEN}ArithmeticData")
+NUMBERED = re.compile(r"\b(Probe|Release)Ack\W{1,4}[56]\b|CARRIES *=|WITH_DATA *= *[{(]$|WITH_DATA *= .*[0-9]", re.M)
+TABLES = {
+    # the one table, with what is made from it, and this test
+    "python/tlbridge/protocol.py",
+    "tests/lib/protocol.h",
+    "tests/repository/test_protocol.py",
+    # the other two models of the rules outside the proof, which have their own on purpose
+    "tlbridge-model",
+    "sv/tl_checker.sv",
+    "tests/lib/checker_model.py",
+    # the words of an option for each request, without opcodes
+    "python/tlbridge/verify/traffic.py",
+}
+
+
 def test_no_other_table_of_opcodes() -> None:
-    """Outside the three models of the rules no file maps opcodes to messages: each reads protocol.py."""
-    listed = subprocess.run(
-        [
-            "git",
-            "grep",
-            "-lE",
-            r"(Probe|Release)Ack\b.*5|CARRIES *=|WITH_DATA *= *[{(]$|WITH_DATA *= .*[0-9]",
-            "--",
-            "*.py",
-            "tools",
-            "bench",
-        ],
-        cwd=ROOT,
-        capture_output=True,
-        text=True,
-        check=False,
-    ).stdout.split()
-    allowed = {"python/tlbridge/protocol.py", "tests/lib/checker_model.py", "tests/repository/test_protocol.py"}
-    assert set(listed) <= allowed
+    """Outside the three models of the rules no source lists messages by opcode: each reads protocol.py."""
+    listed = subprocess.run(["git", "ls-files", "-z"], cwd=ROOT, capture_output=True, check=False)
+    names = [name for name in listed.stdout.decode().split("\0") if name] or pytest.skip("there is no git history")
+    sources = [
+        ROOT / name
+        for name in names
+        if not name.startswith(("crates/", "docs/", "examples/"))
+        and Path(name).suffix in ("", ".py", ".c", ".h", ".cpp", ".sv", ".js")
+    ]
+    texts = {str(path.relative_to(ROOT)): path.read_text(errors="replace") for path in sources if path.is_file()}
+    found = {name for name, text in texts.items() if IN_ORDER.search(text) or NUMBERED.search(text)}
+    assert found - TABLES == set()
+
+
+@pytest.mark.parametrize(
+    "text",
+    (
+        'NAMES = "PutFullData PutPartialData ArithmeticData".split()',
+        '{{"PutFullData", true}, {"PutPartialData", true}, {"ArithmeticData", true}}',
+        '0: Kind("PutFullData", 1, True),\n1: Kind("PutPartialData", 1, True),\n2: Kind("ArithmeticData", 5, True)',
+        '("C", "ProbeAck", 4), ("D", "ReleaseAck", 6)',
+    ),
+)
+def test_a_table_of_opcodes_is_found(text: str) -> None:
+    """In each of the forms that there were."""
+    assert IN_ORDER.search(text) or NUMBERED.search(text)

@@ -9,7 +9,12 @@ from project import ROOT
 SCRIPT = ROOT / "tools" / "install-tools"
 USED = ("sh", "sed", "timeout")
 # the tools of `make test` and of the others, each with its package
-MODULES = {"pytest": "python3-pytest", "xdist": "python3-pytest-xdist", "hypothesis": "python3-hypothesis"}
+MODULES = {
+    "pytest": "python3-pytest",
+    "xdist": "python3-pytest-xdist",
+    "hypothesis": "python3-hypothesis",
+    "hatchling": "python3-hatchling",
+}
 TOOLS = {
     **MODULES,
     "iverilog": "iverilog",

@@ -258,7 +258,7 @@ static void test_answers(void) {
 #define SAYS(number, name, sentence) \
     CHECK(strcmp(tlbridge_status_name(number), name) == 0); \
     CHECK(strcmp(tlbridge_status_text(number), name ": " sentence) == 0);
-#include "answers.h"
+#include "../lib/statuses.h"
     CHECK(strcmp(tlbridge_status_name(OTHER_PAIR), "OtherWidth") == 0);
     CHECK(strcmp(tlbridge_status_text(OTHER_PAIR), "OtherWidth: the glue is not compiled for this pair of widths, or data is on a lane that the link does not have") == 0);
     CHECK(strcmp(tlbridge_status_name(99), "") == 0 && strcmp(tlbridge_status_text(99), ": ") == 0);

@@ -8,7 +8,7 @@ as FST, and in Verilator with --trace-structs. Each is run twice, as it is and w
 to give the monitor's
 lines and times. Its comparison has to end as sv/compare does over the monitor's files: alike without a mistake, and
 with one at the same first
-beat, which in Verilator the scoreboard also has to name. It judges by the plain bridge in C of tests/scoreboard.
+beat, which in Verilator the scoreboard also has to name. It judges by the plain bridge in C of tests/lib.
 
 The expected beats come from the built program, or from the unverified model if it is not there. MEGABYTES is the size
 of the large dump.

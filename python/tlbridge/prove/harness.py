@@ -6,7 +6,8 @@ from dataclasses import dataclass
 from difflib import get_close_matches
 from typing import Dict, List, Optional, Sequence, Set, Tuple
 
-from ..verify.design import FROM_CLIENT, SIGNAL_NAME, Design, Link, Signal
+from ..protocol import FROM_CLIENT
+from ..verify.design import SIGNAL_NAME, Design, Link, Signal
 from .errors import ProveError
 from .user_bits import NONE, UserBits
 

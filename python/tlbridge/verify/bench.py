@@ -17,7 +17,8 @@ from dataclasses import dataclass, field
 from pathlib import Path
 from typing import Dict, List, Mapping, Optional, Sequence, Set, Tuple
 
-from .design import CHANNELS, FIELDS, FROM_CLIENT, Design, DesignError
+from ..protocol import CHANNELS, FIELDS, FROM_CLIENT
+from .design import Design, DesignError
 from .traffic import Message
 
 Settings = Dict[str, int]
@@ -362,11 +363,11 @@ class Run:
 _FAULT = re.compile(r"(\d+): \S*?(client|manager)_checker\.\w: ([A-D]) beat \d+: (fault .*?) \(")
 
 
-class OverTime(SimulatorError):
+class OverTimeError(SimulatorError):
     """A run did not end within its seconds."""
 
 
-class Endless(SimulatorError):
+class EndlessError(SimulatorError):
     """A run took more processor time than it may."""
 
 
@@ -587,12 +588,12 @@ class Simulation:
             limited = ["/bin/sh", "-c", f'ulimit -t {processor}; exec "$@"', "sh"]
             done = _called([*limited, *command], folder, min(seconds, _WALL_SECONDS), cancel)
         except subprocess.TimeoutExpired:
-            raise OverTime(
+            raise OverTimeError(
                 f"{self.simulator} did not end a run within {seconds:.0f} seconds, since this machine is slow or the"
                 " design is large: --seconds gives it more"
             ) from None
         if done.returncode in (-signal.SIGXCPU, -signal.SIGKILL):
-            raise Endless(
+            raise EndlessError(
                 f"{self.simulator} did not end a run within {processor} processor seconds: is there a combinational"
                 " loop in the design?"
             )

@@ -33,8 +33,8 @@ from .bench import (
     IDLE_CYCLES,
     Bench,
     Cancel,
-    Endless,
-    OverTime,
+    EndlessError,
+    OverTimeError,
     Run,
     Settings,
     Simulation,
@@ -552,9 +552,9 @@ class Session:
         settings = {**traffic.settings(0x3FF), **self.forced, "most": 100}
         try:
             simulation.run(script, settings, self.room / "settle", seconds=2 * _SECONDS, processor=_LOOP_SECONDS)
-        except OverTime:
+        except OverTimeError:
             return
-        except Endless:
+        except EndlessError:
             raise DesignError(
                 f"the design has a combinational loop: {simulation.simulator} did not end 100 cycles within"
                 f" {_LOOP_SECONDS} processor seconds",
@@ -828,7 +828,7 @@ class Play:
         limit = max(5.0, self.latest - time.monotonic() + 3)
         try:
             run = simulation.run(found.script, found.settings, folder, seconds=limit, cancel=cancel)
-        except OverTime:
+        except OverTimeError:
             if self.coverage.counts["runs"]:
                 return Played(found, simulation, None, Beats.none(session.design), [])
             raise
@@ -1211,10 +1211,9 @@ def _merge(words: Sequence[str]) -> int:
 
 
 def _named(kind: str) -> str:
-    from .judge import NAMES
-    from .traffic import OPCODES
+    from .traffic import REQUESTS
 
-    return NAMES["A"][OPCODES[kind]]
+    return REQUESTS[kind]
 
 
 # ---- the program

@@ -21,19 +21,9 @@ from dataclasses import dataclass, field
 from pathlib import Path
 from typing import Dict, Iterator, List, Mapping, Optional, Sequence, Set, Tuple
 
-CHANNELS = "ABCDE"
-FROM_CLIENT = "ACE"
-WIDTHS = (1, 2, 4, 8, 16, 32, 64, 128)
+from ..protocol import CHANNELS, FIELDS, FROM_CLIENT, WIDTHS
+
 MOST_SOURCE_BITS = 12
-# The fields of a beat on each channel, without valid and ready.
-_HEAD = ("opcode", "param", "size", "source")
-FIELDS: Dict[str, Tuple[str, ...]] = {
-    "A": (*_HEAD, "address", "mask", "data", "corrupt"),
-    "B": (*_HEAD, "address", "mask", "data", "corrupt"),
-    "C": (*_HEAD, "address", "data", "corrupt"),
-    "D": (*_HEAD, "sink", "denied", "data", "corrupt"),
-    "E": ("sink",),
-}
 _NEEDED = {
     "A": ("opcode", "size", "source", "address", "data"),
     "B": ("opcode", "size", "source", "address", "data"),

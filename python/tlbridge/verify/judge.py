@@ -14,16 +14,16 @@ from importlib.util import module_from_spec, spec_from_loader
 from pathlib import Path
 from typing import Any, Dict, Iterator, List, Optional, Sequence, Set, Tuple
 
-from ..protocol import CARRIES_DATA, beat_count
+from ..protocol import CARRIES_DATA, CHANNELS, FIELDS, FROM_CLIENT, OPCODES, beat_count
 from ..judge import find_program
 from .bench import Run, SimulatorError, version_of
-from .design import CHANNELS, FIELDS, FROM_CLIENT, Design, DesignError
+from .design import Design, DesignError
 
+# By channel and opcode, the name of the message.
 NAMES = {
-    "A": "PutFullData PutPartialData ArithmeticData LogicalData Get Intent AcquireBlock AcquirePerm".split(),
-    "B": "PutFullData PutPartialData ArithmeticData LogicalData Get Intent ProbeBlock ProbePerm".split(),
-    "C": "AccessAck AccessAckData HintAck ? ProbeAck ProbeAckData Release ReleaseData".split(),
-    "D": "AccessAck AccessAckData HintAck ? Grant GrantData ReleaseAck ?".split(),
+    channel: [kinds[opcode].name if opcode in kinds else "?" for opcode in range(8)]
+    for channel, kinds in OPCODES.items()
+    if channel != "E"
 }
 # The fields of a line, in order.
 _ORDER = ("opcode", "param", "size", "source", "sink", "denied", "address", "mask", "data", "corrupt")

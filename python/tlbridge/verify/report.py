@@ -7,11 +7,11 @@ from dataclasses import replace
 from pathlib import Path
 from typing import Any, Dict, List, Mapping, Optional, Sequence, Set, Tuple
 
-from ..protocol import beat_count
+from ..protocol import FIELDS, FROM_CLIENT, beat_count
 from .bench import Run, Settings, Simulation, channels_of, version_of
-from .design import FIELDS, FROM_CLIENT, Design
+from .design import Design
 from .judge import NAMES, Beats, Judge, is_near, is_unknown
-from .traffic import OPCODES, Limits, Message, Traffic
+from .traffic import REQUESTS, Limits, Message, Traffic
 
 Key = Tuple[
     str, str, str, int, int
@@ -154,7 +154,7 @@ class Coverage:
         for kind in limits.kinds:
             channel = {"release": "C", "probe": "B"}.get(kind, "A")
             names = {"release": ("Release", "ReleaseData"), "probe": ("ProbeBlock", "ProbePerm")}.get(kind)
-            for name in names or (NAMES["A"][OPCODES[kind]],):
+            for name in names or (REQUESTS[kind],):
                 near = "client" if channel in FROM_CLIENT else "manager"
                 sides = list(self.widths) if is_bridge else [near] if near in self.widths else []
                 missing += [f"{name} on the {side} link" for side in sides if not self.number(side, channel, name)]
@@ -174,7 +174,7 @@ class Coverage:
         for kind in limits.kinds:
             if kind == "probe":
                 continue
-            names = ("Release", "ReleaseData") if kind == "release" else (NAMES["A"][OPCODES[kind]],)
+            names = ("Release", "ReleaseData") if kind == "release" else (REQUESTS[kind],)
             channel = "C" if kind == "release" else "A"
             for size in range(min(limits.largest_of(kind), 64).bit_length()):
                 for offset in range(0, wide, 1 << size) if 1 << size < wide else (0,):

@@ -6,12 +6,22 @@ import random
 from dataclasses import dataclass, replace
 from typing import Dict, List, Optional, Sequence, Tuple
 
-from ..protocol import CARRIES_DATA
+from ..protocol import CARRIES_DATA, NUMBERS
 from ..traffic import Draws
 from .design import Design, DesignError
 
-# The kinds of messages that a script may have, with the opcode on A.
-OPCODES = {"put": 0, "partial": 1, "arithmetic": 2, "logical": 3, "get": 4, "intent": 5, "acquire": 6, "acquireperm": 7}
+# The kinds of requests that a script may have, with the message on A, and its opcode.
+REQUESTS = {
+    "put": "PutFullData",
+    "partial": "PutPartialData",
+    "arithmetic": "ArithmeticData",
+    "logical": "LogicalData",
+    "get": "Get",
+    "intent": "Intent",
+    "acquire": "AcquireBlock",
+    "acquireperm": "AcquirePerm",
+}
+OPCODES = {kind: NUMBERS["A", name] for kind, name in REQUESTS.items()}
 KINDS: Dict[str, Tuple[str, ...]] = {
     "UL": ("get", "put", "partial"),
     "UH": ("get", "put", "partial", "arithmetic", "logical", "intent"),

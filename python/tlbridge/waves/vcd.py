@@ -14,7 +14,7 @@ import tempfile
 import time
 import zlib
 from shutil import which
-from typing import IO, Callable, Collection, Dict, FrozenSet, Iterator, List, Optional, Sequence, Set, Tuple
+from typing import IO, Callable, Collection, Dict, FrozenSet, Iterator, List, Optional, Sequence, Set, Tuple, cast
 
 from ..run import FailureError, shown
 
@@ -92,7 +92,7 @@ def open_wave(path: str) -> Tuple[IO[bytes], Feeder, int]:
     except OSError as error:
         raise FailureError(f"{path}: {error.strerror}", 4) from error
     if head[:2] == b"\x1f\x8b":
-        return gzip.GzipFile(fileobj=file), None, 0  # type: ignore[return-value]
+        return cast(IO[bytes], gzip.GzipFile(fileobj=file)), None, 0
     if head[:1] == b"\0" or head[:9] == b"\xfe" + bytes(7) + b"\x01":
         file.close()
         if which("fst2vcd") is None:

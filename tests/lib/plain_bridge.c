@@ -5,6 +5,7 @@
  * It has whole messages: bytes are gathered by their number, and a far beat is laid out once its last byte has come (sections 3, 4 and 7).
  */
 #include "../../sv/tlbridge_calls.h"
+#include "protocol.h"
 #include <assert.h>
 #include <pthread.h>
 #include <stdio.h>
@@ -15,12 +16,8 @@ enum { SOURCES = 1 << 16, MOST_BYTES = 1 << 12, INBOX = 128, STAGE = 128 };
 
 /* ---- Messages: section 2 */
 
-static const uint8_t params_of[4][8] = {
-    {1, 1, 5, 4, 1, 2, 3, 3}, {1, 1, 5, 4, 1, 2, 3, 3}, {1, 1, 1, 0, 6, 6, 6, 6}, {1, 1, 1, 0, 3, 3, 1, 0}};
-static const char has_data[4][9] = {"11110000", "11110000", "01000101", "01000100"};
-
 static bool carries_data(int x, const tl_beat *beat) {
-    return x != TL_E && has_data[x][beat->opcode & 7] == '1';
+    return x != TL_E && tl_kinds[x][beat->opcode & 7].has_data;
 }
 
 static uint64_t bytes_per_beat(const tl_beat *head, unsigned width) {
@@ -109,8 +106,8 @@ static bool same_head(int x, const tl_beat *a, const tl_beat *b) {
 
 static uint8_t fault_of_first(const bridge *all, int x, const tl_beat *beat) {
     bool answers = x == TL_D && beat->opcode != 6;
-    if (beat->opcode > 7 || params_of[x][beat->opcode] == 0) return TL_OPCODE;
-    if (beat->param >= params_of[x][beat->opcode]) return TL_PARAM;
+    if (beat->opcode > 7 || tl_kinds[x][beat->opcode].params == 0) return TL_OPCODE;
+    if (beat->param >= tl_kinds[x][beat->opcode].params) return TL_PARAM;
     if (beat->size > 12) return TL_SIZE;
     if (x != TL_D && beat->address % ((uint64_t)1 << beat->size) != 0) return TL_UNALIGNED;
     if (!mask_fits(x, beat, beat, beat->address, all->of[x].near)) return TL_MASK;
@@ -328,7 +325,7 @@ static const struct {
     const char *name, *sentence;
 } answers[] = {
 #define SAYS(number, name, sentence) {number, name, sentence},
-#include "answers.h"
+#include "statuses.h"
 };
 
 static void status_text(uint8_t answer, tl_text *text) {
