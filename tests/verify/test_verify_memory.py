@@ -42,6 +42,14 @@ def words_of(tmp_path: Path, lines: List[str]) -> str:
 
 
 RIGHT = {
+    "after a corrupt atomic": [
+        *(put(0, 16, "00000001"), ack(0), atomic(1, 16, 2, 4, "00000001")[:-1] + "1", data(1, "00000001")),
+        *(get(2, 16), data(2, "12345678")),
+    ],
+    "an atomic that is offered": [
+        *(put(0, 16, "00000001"), ack(0), get(1, 16), data(1, "00000003")),
+        *(atomic(2, 16, 2, 4, "00000002"), data(2, "00000001")),
+    ],
     "read back": [put(0, 16, "44332211"), ack(0), get(1, 16), data(1, "44332211")],
     "one byte of it": [put(0, 16, "44332211"), ack(0), get(1, 18, 0), data(1, "00330000", 0)],
     "never written": [get(0, 16), data(0, "xx33xxxx"), get(0, 16), data(0, "00000000")],

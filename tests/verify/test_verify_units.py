@@ -129,7 +129,11 @@ def test_the_styles_have_their_settings() -> None:
     assert traffic.styled("full", 60)[1]["calm"] == 0x3FF
     assert traffic.styled("blocking", 60)[1]["blocking"] == 1
     assert traffic.styled("long stalls", 60)[1]["long_stalls"] == 1
-    assert 60 <= traffic.styled("reset", 60)[1]["reset_at"] <= 400
+    made = [traffic.styled("reset", 600) for _ in range(60)]
+    assert all(40 <= settings["reset_at"] <= 400 and len(script) == 150 for script, settings in made)
+    assert min(settings["reset_at"] for _, settings in made) < 60 and max(s["reset_at"] for _, s in made) > 300
+    assert all(20 <= s["client_held"] == s["manager_held"] < s["reset_at"] for _, s in made)
+    assert {0, 0x2, 0x80, 0x82} == {s["held"] for _, s in made}  # ready of A and of D
     script, settings = traffic.styled("all sources", 40)
     assert settings["gather"] >= 40 and {message.source for message in script[:4]} == {0, 1, 2, 3}
     assert max(1 << message.size for message in traffic.styled("large", 200)[0]) > 64
@@ -137,6 +141,19 @@ def test_the_styles_have_their_settings() -> None:
     assert sum(a == b for a, b in zip(sources, sources[1:])) > 120
     no_reset = replace(traffic.design, client=replace(traffic.design.links["client"], reset=""))
     assert "reset_at" not in traffic_of(no_reset).styled("reset", 60)[1]
+
+
+def test_a_reset_with_two_clocks_comes_after_the_first_one() -> None:
+    traffic = traffic_of(bridge(fields=UH, clock="other"), has_two=True)
+    for client, manager in ((5000, 5000), (2000, 20000), (20000, 2000), (3000, 7000)):
+        for _ in range(20):
+            made = traffic.reset({"client_half": client, "manager_half": manager})
+            begin = 2 * (40 + 40 * manager // client)  # the cycles of the client in the reset at the beginning
+            assert begin <= made["client_held"] < made["reset_at"] and made["reset_at"] >= begin + 20
+            assert abs(made["manager_held"] * manager - made["client_held"] * client) < manager
+    fields = {**C, "B": C["B"]}
+    held = [traffic_of(bridge(fields=fields), seed).reset({})["held"] for seed in range(60)]
+    assert {0x2, 0x8, 0x20, 0x80, 0x200, 0x2AA} <= set(held)
 
 
 def test_addresses_of_a_window() -> None:

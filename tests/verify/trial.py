@@ -1,5 +1,5 @@
 #!/usr/bin/env python3
-"""Plays each design of tests/verify/designs and tests/verify/blind, right and with each of its planted mistakes, and
+"""Plays each design of tests/verify/designs, blind and more, right and with each of its planted mistakes, and
 prints a table.
 
     tests/verify/trial.py [--jobs N] [DESIGN ..] [-- OPTION ..]
@@ -24,7 +24,7 @@ from typing import Dict, List, NamedTuple, Optional, Tuple
 
 HERE = Path(__file__).resolve().parent
 ROOT = HERE.parent.parent
-FOLDERS = (HERE / "designs", HERE / "blind")
+FOLDERS = (HERE / "designs", HERE / "blind", HERE / "more")
 MOST_SECONDS = 120
 # The mistakes that the defaults are known to miss, which docs/VERIFY.md explains.
 MISSED = {
@@ -32,17 +32,18 @@ MISSED = {
     "source_remapper": (7,),
     "serializer": (6,),
     "register_file": (5,),
-    "dma_copy": (5, 6, 7),
+    "dma_copy": (6,),
+    "mover": (4,),
 }
 
 
 def designs() -> Dict[str, Path]:
-    """The designs of both folders, by name."""
+    """The designs of the folders, by name."""
     return {path.stem: path for folder in FOLDERS for path in sorted(folder.glob("*.*v"))}
 
 
 def table() -> Dict[str, List[str]]:
-    """The options of each design: lines of FILE OPTION .. in the files options.txt of both folders."""
+    """The options of each design: lines of FILE OPTION .. in the files options.txt of the folders."""
     found: Dict[str, List[str]] = {}
     for folder in FOLDERS:
         for line in (folder / "options.txt").read_text().splitlines() if (folder / "options.txt").exists() else []:

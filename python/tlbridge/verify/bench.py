@@ -299,10 +299,8 @@ class Bench:
     def end(self) -> None:
         self.say("    // ---- the end")
         first = self.sides[0]
-        moves, works = (
-            f" {sign} ".join(f"{side}_{name}" for side in self.sides)
-            for sign, name in (("+", "moves"), ("||", "works"))
-        )
+        moves = " + ".join(f"{side}_moves" for side in self.sides)
+        works = " || ".join(f"{side}_works || (|{side}_rv) === 1'b1" for side in self.sides)
         faults = " + ".join(f"{side}_faults" for side in self.sides)
         self.say("    reg [31:0] idle = 0, moved = 0, most_idle, end_idle; integer cycles = 0, most, stop, faulty = 0;")
         self.say(f'    initial begin if (!$value$plusargs("idle=%d", most_idle)) most_idle = {IDLE_CYCLES};')
@@ -357,6 +355,7 @@ class Run:
     time: int = 0
     cycles: int = 0
     reset_time: int = -1  # of the reset in the middle
+    offers: bool = False  # at the end, the valid of a beat is 1
     stalls: Dict[Tuple[str, str], int] = field(default_factory=dict)
 
 
@@ -627,6 +626,7 @@ def _read_output(folder: Path, output: str) -> Run:
         if word[1] == "state":
             if word[9] != "0":
                 run.stalls[word[2], word[3]] = int(word[9])
+            run.offers |= word[5] != "0"
             if run.hang and word[5] != "0":
                 run.hang += f" {word[2]} {word[3]} has valid {word[5]} and ready {word[7]},"
         elif word[1] in ("hang", "end"):

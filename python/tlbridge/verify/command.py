@@ -44,6 +44,7 @@ from .bench import (
 )
 from .design import Choice, Design, DesignError, Source, described, modules_of, read_design, read_file_list
 from .explore import explored, held_largest, stated_largest
+from .host import REFERENCES, Reference
 from .judge import Beat, Beats, Judge, Problem, Rules, is_near, name_of, trace_of
 from .report import Coverage, not_compared, speed_of
 from .shrink import Shrinker, needs_of, options_of
@@ -76,7 +77,8 @@ _ALL_SECONDS = 112  # until a mistake is shrunk
 _LOOP_SECONDS = 5  # of processor time for a hundred cycles, which no design needs
 _LATE_SHARE = 0.3  # of the messages, with bits that arrive late at another clock
 _PATIENCE = 4  # a hang has to last this many times as long, when the round is played again
-_HOST_ROUNDS, _HOST_CYCLES = 6, 3000  # of a host, which sends by itself: rounds in Icarus, and their cycles
+_HOST_ROUNDS, _HOST_CYCLES = 10, 3000  # of a host, which sends by itself: rounds in Icarus, and their cycles
+_HOST_SILENCE = 2500  # cycles without a beat, after which a host does not go on
 
 
 # ---- the command line
@@ -410,7 +412,7 @@ class Session:
         if limits.window is None and self.rules.is_memory:
             span = 256 if not design.is_bridge else 4096
             span = min(span, 1 << min(link.bits("address") for link in design.links.values()))
-            limits = replace(limits, window=(0, span))
+            limits = replace(limits, window=(0, span), has_pages=design.is_bridge)
         if limits.window and limits.largest > limits.window[1]:
             if self.options.largest:
                 raise DesignError(f"--largest {limits.largest}: the window has {limits.window[1]} bytes")
@@ -449,6 +451,7 @@ class Session:
         if self.design.client is not None:
             stated = ", as a comment of the design says" if self.stated == limits.largest else ""
             where = f", at {limits.window[0]:#x} to {sum(limits.window) - 1:#x}" if limits.window else ""
+            where += " or one higher address bit away" if limits.has_pages else ""
             lines.append(
                 f"  traffic: TL-{level}, up to {limits.largest} bytes{stated}{where}: {', '.join(limits.kinds)}"
                 " (--level, --largest, --only)"
@@ -641,6 +644,7 @@ class Round:
     settings: Settings
     style: str = ""
     is_patient: bool = False  # it is played again, since it seemed to hang
+    is_reference: bool = False  # a calm run of a host
 
 
 @dataclass(frozen=True)
@@ -675,6 +679,8 @@ class Play:
         self.styles: Set[str] = set()  # that were played
         self.finished = 0  # messages of the scripts that were played
         self.begun = time.monotonic()  # of the rounds
+        compares = session.design.client is None and session.has_memory
+        self.reference = Reference(session.design) if compares else None
 
     def traffic(self, sequence: int) -> Traffic:
         """The maker of the rounds of one sequence."""
@@ -760,9 +766,12 @@ class Play:
             if self.is_over or self.sent >= most:
                 return
             length = _LONG if number and at >= begin + _FIRST_ROUNDS else length
+            is_reference = False
             if session.design.client is None:
-                style = HOST_STYLES[at % len(HOST_STYLES)]
-                script, settings = self.host_round(traffic, style, number > 0)
+                turn = at - begin - len(REFERENCES)
+                is_reference = turn < 0
+                style = "calm" if is_reference else HOST_STYLES[turn % len(HOST_STYLES)]
+                script, settings = self.host_round(traffic, style, turn, number > 0)
                 self.sent += self.most // 24 + 1
             else:
                 style = style_of(at)
@@ -778,14 +787,22 @@ class Play:
                 settings["withdraw"] = 1
             if number == 2:
                 settings["skew"] = 1
-            yield Round(name, script, {**settings, **session.forced}, style)
+            yield Round(name, script, {**settings, **session.forced}, style, is_reference=is_reference)
 
-    def host_round(self, traffic: Traffic, style: str, is_long: bool) -> Tuple[List[Message], Settings]:
+    def host_round(self, traffic: Traffic, style: str, turn: int, is_long: bool) -> Tuple[List[Message], Settings]:
+        """Returns a calm round if `turn` is below 0. Every other one after it, and those with a reset, deny nothing
+        and are compared as a whole."""
         size = self.session.limits.largest.bit_length() - 1
         has_probes = "B" in self.session.design.channels
         script = [traffic.message("probe", min(size, 6), 0) for _ in range(60)] if has_probes else []
+        cycles: Settings = {"most": _HOST_CYCLES * (6 if is_long else 1), "end": _HOST_SILENCE}
+        if turn < 0:
+            calm: Settings = dict(in_order=1, denied=0, corrupt=0, patient=0, serial=0)
+            return script, {**traffic.settings(0x3FF), **calm, **REFERENCES[turn], **cycles}
         _, settings = traffic.styled(style, 1)
-        return script, {**settings, "most": _HOST_CYCLES * (6 if is_long else 1)}
+        if turn % 2 or style == "reset":
+            settings.update(denied=0, corrupt=0)
+        return script, {**settings, **cycles}
 
     def aimed(self, name: str) -> Iterator[Round]:
         """A round for what no other round has sent."""
@@ -852,6 +869,11 @@ class Play:
                 break
             last = done.simulation
             problems = done.problems
+            if self.reference is not None and not problems:
+                if done.round.is_reference:
+                    self.reference.add(done.run, done.beats)
+                problems = self.reference.problems(done.run, done.beats)
+                session.judge.reference = self.reference if problems else None
             self.styles.add(done.round.style)
             self.finished += len(done.round.script)
             if is_first:
@@ -924,6 +946,10 @@ class Play:
             outcome.text.append(f"NO MISTAKE in {size}")
             outcome.notes = self.not_held(simulation)
             outcome.text += [f"  It does not hold {note}" for note in outcome.notes]
+        if self.reference is not None and not self.reference.is_used:
+            outcome.text.append(
+                f"  The values that it writes were not compared between the runs: {self.reference.why_not}"
+            )
         if self.not_played():
             outcome.text.append(f"  No time was left for these styles: {', '.join(self.not_played())} (--seconds)")
         if session.background is not None and session.is_mixed and "verilator" not in session.compiled:
@@ -1202,7 +1228,8 @@ def _merge(words: Sequence[str]) -> int:
     kinds = KINDS["C"] if set("BCE") <= set(coverage.channels) else KINDS["UH"]
     seen = {key[2] for key in coverage.messages}
     kinds = tuple(kind for kind in kinds if kind in ("release", "probe") or _named(kind) in seen)
-    print("\n".join(coverage.table(Limits(kinds, 64))))
+    largest = 1 << max([key[3] for key in coverage.messages if key[1] == "A"] + [0])
+    print("\n".join(coverage.table(Limits(kinds, largest))))
     if options.json:
         _written(options.json, json.dumps(coverage.as_json()) + "\n")
     if options.junit:

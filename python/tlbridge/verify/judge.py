@@ -12,12 +12,15 @@ from dataclasses import dataclass
 from importlib.machinery import SourceFileLoader
 from importlib.util import module_from_spec, spec_from_loader
 from pathlib import Path
-from typing import Any, Dict, Iterator, List, Optional, Sequence, Set, Tuple
+from typing import TYPE_CHECKING, Any, Dict, Iterator, List, Optional, Sequence, Set, Tuple
 
 from ..protocol import CARRIES_DATA, CHANNELS, FIELDS, FROM_CLIENT, OPCODES, beat_count
 from ..judge import find_program
 from .bench import Run, SimulatorError, version_of
 from .design import Design, DesignError
+
+if TYPE_CHECKING:
+    from .host import Reference
 
 # By channel and opcode, the name of the message.
 NAMES = {
@@ -108,7 +111,8 @@ class Beats:
     @staticmethod
     def _read(path: Path) -> Tuple[List[str], List[int]]:
         try:
-            return path.read_text().splitlines(), list(map(int, Path(f"{path}.times").read_text().split()))
+            lines, times = path.read_text().splitlines(), list(map(int, Path(f"{path}.times").read_text().split()))
+            return lines[: len(times)], times  # a run may end between the two writes of its last beat
         except (FileNotFoundError, NotADirectoryError):
             return [], []
         except (OSError, ValueError) as error:
@@ -300,6 +304,7 @@ class Judge:
     def __init__(self, design: Design, rules: Rules):
         self.design, self.rules = design, rules
         self.model = Model() if rules.is_bridge else None
+        self.reference: Optional["Reference"] = None  # what a host has to write
 
     @property
     def name(self) -> str:
@@ -322,6 +327,8 @@ class Judge:
                 from .corrupt import corrupt_problems
 
                 found += corrupt_problems(self.design, beats)
+        if self.reference is not None:
+            found += self.reference.problems(run, beats)
         if run.hang:
             found.append(Problem("hang", "", f"hang: {run.hang.rstrip(',:')}", run.time))
         # a hang comes after all others; of two at one time, the wrong beat says more than the rule that it breaks

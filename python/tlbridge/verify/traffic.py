@@ -30,6 +30,7 @@ KINDS: Dict[str, Tuple[str, ...]] = {
 MOST_MESSAGES = 8000  # of a script
 PLAIN_LARGEST = 64  # bytes: larger messages come after the others
 _MOST_BYTES = 4096
+_LONG_ROUND = 400  # messages, in a simulator for which a thousand cycles are nothing
 
 
 @dataclass(frozen=True)
@@ -65,6 +66,7 @@ class Limits:
     window: Optional[Tuple[int, int]] = None  # first address and bytes, or None for all addresses
     held: int = 0  # bytes at the beginning of the window that a device does not deny, or 0 if that is unknown
     atomic: int = _MOST_BYTES  # bytes of the largest atomic
+    has_pages: bool = False  # some addresses are in a window that is one higher address bit away
 
     def largest_of(self, kind: str) -> int:
         return min(self.largest, self.atomic) if kind in ("arithmetic", "logical") else self.largest
@@ -154,6 +156,8 @@ class Traffic:
         if self.limits.window:
             base, span = self.limits.window
             address = base + (address % span >> size << size)
+            if self.limits.has_pages and self.address_bits > 12 and draw.random() < 0.2:
+                address ^= 1 << draw.randrange(12, self.address_bits)
         if kind == "release":
             channel, opcode, param = "C", 6 + draw.randrange(2), 1
             param = draw.choice((0, 1, 3)) if opcode == 7 else draw.randrange(6)
@@ -290,7 +294,8 @@ class Traffic:
             return script[: max(length, min(all_sources, 2 * length))], settings
         if name == "slow":  # a response comes long after its request, while another request waits
             slower = settings.get("client_half", 1) // settings.get("manager_half", 1)
-            settings.update(slow=self.random.choice((140, 300, 600)) * max(1, slower), in_order=0)
+            cycles = self.random.choice((140, 300, 600) if length < _LONG_ROUND else (140, 300, 600, 1100))
+            settings.update(slow=cycles * max(1, slower), in_order=0)
             settings["idle"] = settings.get("idle", 2000) + 2 * settings["slow"] * scale
             return self.drawn(max(16, length // 10), self.random.choice((2, 3, all_sources)), "small"), settings
         if name == "blocking":  # ready waits for channels of higher priority
@@ -303,11 +308,25 @@ class Traffic:
             count = max(10, min(length, 60 * length // self.limits.largest))
             return self.drawn(count, all_sources, "large"), settings
         if name == "reset" and all(link.reset for link in self.design.links.values()):
-            settings["reset_at"] = self.random.randint(60, 400)
-            return self.drawn(length, all_sources), settings
+            settings.update(self.reset(settings))
+            return self.drawn(min(length, 150), all_sources), settings
         if name == "same cycle":
             settings["calm"] = self.random.choice((0x3FF, 0x2AA, 0))
         return self.drawn(length, self.random.choice((4, all_sources))), settings
+
+    def reset(self, settings: Dict[str, int]) -> Dict[str, int]:
+        """A reset in the middle. Shortly before it, some readys fall, so that beats wait in the design."""
+        draw = self.random
+        client, manager = settings.get("client_half", 1), settings.get("manager_half", 1)
+        first, second = (client, manager) if self.design.client is not None else (manager, manager)
+        begin = 2 * (40 + 40 * second // first) if self.has_two else 20  # the cycles of the reset at the beginning
+        slower = max(1, second // first)
+        at = begin + draw.randint(20, draw.choice((120, 380))) * slower
+        ready = [2 << 2 * number for number, channel in enumerate("ABCDE") if channel in self.design.channels]
+        some = [draw.choice(ready), draw.choice(ready), draw.getrandbits(10) & sum(ready), sum(ready)]
+        held = draw.choice([0, 0x80, *some])
+        since = max(begin, at - draw.choice((12, 30)) * slower)
+        return dict(reset_at=at, held=held, client_held=since, manager_held=since * first // second)
 
     def each_source(self) -> List[Message]:
         sources = list(range(self.sources))
@@ -318,7 +337,7 @@ class Traffic:
 # Each style once before any is repeated.
 STYLES = (
     *("all sources", "any", "again", "blocking", "reset", "slow", "long stalls", "full", "large"),
-    *("any", "reset", "any"),
+    *("reset", "any", "reset"),
 )
 HOST_STYLES = ("any", "full", "reset", "blocking", "all sources", "long stalls", "slow")
 
