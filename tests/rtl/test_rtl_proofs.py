@@ -17,15 +17,15 @@ from project import ROOT, RTL, needs_tools
 
 sys.path.insert(0, str(ROOT / "tools"))
 from rtl_proofs.given import step_model  # noqa: E402
-from rtl_proofs.rows import NOT_TRIED, ROWS, Refinement, Stage  # noqa: E402
-from rtl_proofs.run import Outcome, line_of, name_of, prove, recipe_of  # noqa: E402
+from rtl_proofs.rows import NOT_TRIED, OTHER_ROWS, ROWS, Bound, Refinement, Stage  # noqa: E402
+from rtl_proofs.run import HEADING, Outcome, line_of, name_of, prove, recipe_of  # noqa: E402
 
 from tlbridge.prove import engine  # noqa: E402
 from tlbridge.prove.model import build  # noqa: E402
 
 pytestmark = pytest.mark.simulator
 PAGE = ROOT / "docs" / "RTL_PROOFS.md"
-ROW = {row.name: row for row in ROWS}
+ROW = {row.name: row for row in (*ROWS, *OTHER_ROWS)}
 
 
 class Bug(NamedTuple):
@@ -39,7 +39,7 @@ class Bug(NamedTuple):
 
 
 FIFO, WIDEN, NARROW, CHANNEL, TABLE = "tl_fifo.sv", "tl_widen.sv", "tl_narrow.sv", "tl_channel.sv", "tl_outstanding.sv"
-ASYNC_FIFO, RESET = "tl_async_fifo.sv", "tl_reset.sv"
+ASYNC_FIFO, RESET, GATE, CROSSING = "tl_async_fifo.sv", "tl_reset.sv", "tl_gate.sv", "tl_crossing.sv"
 BUGS = (
     Bug("e.Invented", "E-2-2", FIFO, "assign r_valid = w_count != r_count;", "assign r_valid = 1'b1;"),
     Bug("e.Head", "E-2-2", FIFO, "words[w_count[LOG-1:0]] <= w_data;", "words[0] <= w_data;"),
@@ -111,8 +111,22 @@ BUGS = (
     ),
     Bug("Clear", "FIFO-2-two-clocks", RESET, "assign run = idle && !clear && !reset;", "assign run = idle && !reset;"),
     Bug("c.Head", "C-4-2", CHANNEL, "MASKED ? !far_opcode[2] : far_opcode[0]", "!far_opcode[2]"),
+    # only rows of one kind find each of these
+    Bug("e.Head", "E-4-2-depth-4", FIFO, "words[w_count[LOG-1:0]] <= w_data;", "words[w_count[0]] <= w_data;"),
+    Bug("a.Early", "A-2-4-depth-0", CROSSING, "assign r_valid = w_valid;", "assign r_valid = 1'b1;"),
+    Bug("d.Data0", "D-4-2-entries-2", TABLE, "~used & (used + 1'b1);", "{{(MAX_OUTSTANDING - 1) {1'b0}}, 1'b1};"),
+    Bug("a.Data0", "A-4-2-resets-of-manager", GATE, "discards <= !first;", "discards <= 1'b0;"),
+    Bug("a.Data0", "AD-1-4", WIDEN, "next_slot <= slot + 1'b1;", "next_slot <= '1;"),
+    Bug("Ready", "FIFO-4-two-clocks", ASYNC_FIFO, "{2'b11, {(LOG - 1) {1'b0}}}", "{(LOG + 1) {1'b1}}"),
+    Bug(
+        "far_rules.Rules",
+        "A-4-2-rules",
+        NARROW,
+        "assign out_mask    = in_mask[slot*NARROW+:NARROW];",
+        "assign out_mask    = '1;",
+    ),
 )
-QUICK = ("e.Invented", "e.Head")
+QUICK = [bug for bug in BUGS if bug.row == "E-2-2" and bug.assertion in ("e.Invented", "e.Head")]
 FRAMES, FRAMES_OF_REFINEMENT = 14, 40  # its reset takes 12
 
 
@@ -125,7 +139,7 @@ def found(bug: Bug, tmp_path: Path, seconds: int = 600) -> engine.Verdict:
     (rtl / bug.file).write_text(text.replace(bug.old, bug.new))
     row = ROW[bug.row]
     refines = isinstance(row, Refinement)
-    stage = Stage() if isinstance(row, Refinement) else next(one for one in row.stages if not one.cuts)
+    stage = next((one for one in row.stages if not one.cuts), Stage())
     model, _ = build(recipe_of(row, stage, rtl, tmp_path), None)
     names = [name_of(label) for label in model.labels]
     lemmas = [number for number, name in enumerate(names) if "Source" in name and "Source" not in bug.assertion]
@@ -141,7 +155,7 @@ def test_channel_e_is_proved(tmp_path: Path) -> None:
     needs_tools("yosys", "yosys-abc", "verilator")
     outcome = prove(ROW["E-2-2"], RTL, 2, 300, tmp_path)
     assert outcome.is_complete, outcome.verdicts
-    assert line_of(outcome).startswith("| E | 2:2 | 1 | 2 | all 5: Corrupt, Early, Head, Invented, Room |")
+    assert line_of(outcome).startswith("| E | 2:2 | 1 | 2 | - | all 5: Corrupt, Early, Head, Invented, Room | - |")
     assert sorted(outcome.proved) == ["e.Corrupt", "e.Early", "e.Head", "e.Invented", "e.Room"]
     assert outcome.reached == outcome.covers >= 3, outcome.not_reached
 
@@ -155,7 +169,7 @@ def test_fifo_keeps_its_contract(tmp_path: Path) -> None:
     assert outcome.reached == outcome.covers == 2, outcome.not_reached
 
 
-@pytest.mark.parametrize("bug", [bug for bug in BUGS if bug.assertion in QUICK], ids=QUICK)
+@pytest.mark.parametrize("bug", QUICK, ids=[one.assertion for one in QUICK])
 def test_planted_bug_fails_quickly(bug: Bug, tmp_path: Path) -> None:
     needs_tools("yosys", "yosys-abc", "verilator")
     assert found(bug, tmp_path).frames <= 6
@@ -174,7 +188,7 @@ def test_beats_come_on_e(tmp_path: Path) -> None:
     needs_tools("yosys", "yosys-abc", "verilator")
     outcome = prove(ROW["E-2-2-within-2"], RTL, 2, 300, tmp_path)
     assert outcome.is_complete and sorted(outcome.proved) == ["e.Late", "e.Ready"], outcome.verdicts
-    assert "| all 2: Late, Ready within 2; within 1 not Ready |" in line_of(outcome)
+    assert "| all 2: Late, Ready within 2; within 1 not Ready | - |" in line_of(outcome)
 
 
 @pytest.mark.long
@@ -191,36 +205,55 @@ def test_lemmas_and_data_of_d(tmp_path: Path) -> None:
 
 def outcome_of(kinds: Sequence[str], row: str = "A-4-2", tried_all: bool = True) -> Outcome:
     verdicts = {f"a.Data{number}": engine.Verdict(kind, 0, 1.0) for number, kind in enumerate(kinds)}
-    claimed = dataclasses.replace(ROW[row], claimed=True)
-    return Outcome(claimed, verdicts, 2.0, ("a.Data0", 1.0), 3, 4, ["SeesShort"], tried_all)
+    return Outcome(ROW[row], verdicts, 2.0, ("a.Data0", 1.0), 3, 4, ["SeesShort"], tried_all)
 
 
 def test_line_claims_no_more_than_was_proved() -> None:
     proved = [engine.PROVED] * 8
     assert line_of(outcome_of(proved)) == (
-        "| A | 4:2 | 1 | 2 | all 8: Data0 to Data7 | 3 of 4, not SeesShort | 2 | Data0 1 |"
+        "| A | 4:2 | 1 | 2 | - | all 8: Data0 to Data7 | - | 3 of 4, not SeesShort | 2 | Data0 1 |"
     )
     assert "| a part: Data0 to Data7 |" in line_of(outcome_of(proved, tried_all=False))
     assert "open: Data7" in line_of(outcome_of([*proved[1:], engine.BOUNDED]))
-    no_claim = dataclasses.replace(ROW["A-4-2"], claimed=False)
-    part = dataclasses.replace(outcome_of(proved, tried_all=False), row=no_claim)
-    assert "| **no claim**: Data0 to Data7 |" in line_of(part)
     assert not outcome_of([]).is_complete and not outcome_of([engine.OPEN]).is_complete
+
+
+def test_line_of_a_bound_is_no_proof() -> None:
+    """Only what has all cycles of the row's bound counts, and nothing of it is called proved."""
+    row = dataclasses.replace(ROW["A-4-2"], bound=Bound(9, "No invariant was found."))
+    enough, fewer = (engine.Verdict(engine.BOUNDED, frames, 1.0) for frames in (9, 8))
+    whole = Outcome(row, {"a.Head": enough, "a.Mask": enough}, 2.0, reached=4, covers=4)
+    assert whole.is_complete and not whole.proved
+    assert "| nothing | 9 cycles, all 2: Head, Mask. No invariant was found. | 4 of 4 | 2 | - |" in line_of(whole)
+    part = Outcome(row, {"a.Head": enough, "a.Mask": fewer}, 2.0, reached=4, covers=4)
+    assert not part.is_complete and "| a part: nothing; open: Mask | 9 cycles, 1 of 2: Head. " in line_of(part)
+    without = Outcome(ROW["A-4-2"], {"a.Head": enough}, 2.0, reached=4, covers=4)
+    assert not without.is_complete and "| a part: nothing; open: Head | - |" in line_of(without)
 
 
 # ---- the page
 
 
 def test_page_has_each_row() -> None:
-    """Each row of the script is in the table of the page or in its list of rows without a result, and the page names
-    what has no row.
+    """The table of the page has the line of each row of the script and no other line, and the page names what has no
+    row.
     """
     text = PAGE.read_text()
-    for row in ROWS:
-        start = line_of(Outcome(row)).split(" | a part")[0]
-        late = rf"[^|]*within {row.name[-1]}[ ;]" if "within" in row.name else r"(?![^|]*within)"
-        in_table = re.search(rf"^{re.escape(start)} \| {late}", text, re.M)
-        assert in_table or f"`{row.name}`" in text, row.name
+    table = text.partition("<!-- table: made by tools/prove-rtl -->\n")[2].partition("<!-- end -->")[0].splitlines()
+    assert table[:2] == list(HEADING)
+    assert len(table) == len(HEADING) + len(ROWS)
+    for row, line in zip(ROWS, table[2:]):
+        start = line_of(Outcome(row)).split(" | a part")[0] + " | "
+        assert line.startswith(start), row.name
+        proved, bound = line[len(start) :].split(" | ")[:2]
+        assert "a part" not in proved and "open" not in proved, row.name
+        assert (f" within {row.name[-1]}" in proved) == ("within" in row.name), row.name
+        if row.bound:
+            assert bound.startswith(f"{row.bound.cycles} cycles, ") and bound.endswith(row.bound.obstacle), row.name
+        else:
+            assert proved.startswith("all ") and bound == "-", row.name
+    for row in OTHER_ROWS:
+        assert f"`{row.name}`" in text, row.name
     for what, _ in NOT_TRIED:
         words = re.split(r"[ (,]", what)[0]
         assert words.lower() in text.lower(), what

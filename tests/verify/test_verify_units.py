@@ -9,7 +9,7 @@ import pytest
 
 from tlbridge.verify.bench import Run, Settings, Simulation
 from tlbridge.verify.design import Design, DesignError, Link, Signal, Source, modules_of
-from tlbridge.verify.explore import Explorer, Pair, stated_largest
+from tlbridge.verify.explore import Explorer, Pair, rules_out_atomics, stated_largest, stated_level
 from tlbridge.verify.judge import Beat, Beats, Judge, Problem, Rules, differing, homes_of, name_of, picture_of, trace_of
 from tlbridge.verify.report import Coverage, not_compared
 from tlbridge.verify.shrink import CALM, Shrinker, needs_of, options_of
@@ -177,6 +177,7 @@ STATED = {
     "/* Get and Put of\n * at most 32 bytes. */": 32,
     "// sizes up to 1 KiB": 1024,
     "// Cuts messages of up to 32 bytes into beats\n// of at most 4 bytes": 32,
+    "// Level TL-UL. Largest message 4 bytes.": 4,
     "// A memory of up to 4096 bytes": None,
     "// messages up to 48 bytes": None,
     "localparam n = 1; // a burst": None,
@@ -188,6 +189,38 @@ STATED = {
 def test_the_largest_message_that_a_comment_states(tmp_path: Path, text: str) -> None:
     (tmp_path / "design.sv").write_text(text + "\nmodule dut; endmodule\n")
     assert stated_largest([str(tmp_path / "design.sv"), str(tmp_path / "none.sv")]) == STATED[text]
+
+
+@pytest.mark.parametrize(
+    "text,highest,level",
+    [
+        ("// A narrower for TL-UL, one beat a message.", "UH", "UL"),
+        ("/* TL_UH\n * buffer */", "C", "UH"),
+        ("// a buffer for TL-UL\nmodule m; // TL-UL", "C", "UL"),
+        ("// TL-UH above, TL-UL below: a fragmenter", "UH", None),
+        ("// a TL-UH buffer", "UH", None),  # the ports say it
+        ("// a TL-C buffer", "UH", None),  # more than the ports have
+        ('localparam string NAME = "TL-UL";', "UH", None),
+        ("// no level", "UH", None),
+    ],
+)
+def test_the_level_that_comments_state(tmp_path: Path, text: str, highest: str, level: Optional[str]) -> None:
+    (tmp_path / "design.sv").write_text(text + "\nmodule dut; endmodule\n")
+    assert stated_level([str(tmp_path / "design.sv"), str(tmp_path / "none.sv")], highest) == level
+
+
+@pytest.mark.parametrize(
+    "text,is_said",
+    [
+        ("// TL-UH without atomics", True),
+        ("// no\n// atomics here", True),
+        ("// TL-UH with atomics", False),
+        ("wire no_atomics;", False),
+    ],
+)
+def test_whether_a_comment_rules_out_atomics(tmp_path: Path, text: str, is_said: bool) -> None:
+    (tmp_path / "design.sv").write_text(text + "\nmodule dut; endmodule\n")
+    assert rules_out_atomics([str(tmp_path / "design.sv")]) == is_said
 
 
 def pair(opcode: int, data: str, told: str, answer: int = 1, denied: str = "0", param: int = 0) -> Pair:

@@ -4,14 +4,20 @@ they read.
 from __future__ import annotations
 
 from dataclasses import dataclass, field
-from typing import Dict, List, Tuple
+from typing import Dict, List, Mapping, Tuple, Union
 
-from .rows import SIZES, Row
+from .rows import ADDRESS_BITS, SINK_BITS, SOURCE_BITS, Row
 
 HEAD_BITS = {"A": 8, "B": 8, "C": 8, "D": 5}  # of a word: the head without opcode and size
 SOURCE_BIT = {"A": 4, "D": 2}  # .. its bit with the source
 COUNT_BITS = 3
 RELEASE_ACK = 6
+WATCHED = {
+    "near_is_watched": "comes",
+    "near_has_byte": "has_byte",
+    "far_is_watched": "is_watched",
+    "far_has_byte": "here",
+}
 
 
 @dataclass
@@ -25,7 +31,9 @@ class Lines:
         self.lines.append(f"wire [{bits - 1}:0] {name};")
         self.probes[name] = inner
 
-    def instance(self, module: str, parameters: Dict[str, int], name: str, ports: Dict[str, str]) -> None:
+    def instance(
+        self, module: str, parameters: Mapping[str, Union[int, str]], name: str, ports: Dict[str, str]
+    ) -> None:
         sets = ", ".join(f".{key}({value})" for key, value in parameters.items())
         joined = ", ".join(f".{key}({value})" for key, value in ports.items())
         self.lines.append(f"{module} #({sets}) {name} (.clock(clock), .reset(reset), {joined});")
@@ -47,26 +55,44 @@ def place_of_crossing(row: Row, channel: str) -> str:
 
 
 def lemma_lines(row: Row) -> Lines:
-    """Returns the lemmas of a row."""
+    """Returns the lemmas of a row. A channel of wires has no words."""
     out = Lines()
     for channel in "AD" if row.channel == "D" else row.channel:
-        word_lemmas(out, row, channel)
+        watch_probes(out, row, channel)
+        if row.words(channel):
+            word_lemmas(out, row, channel)
+            if row.is_deep and channel == row.channel:
+                deep_lemmas(out, row)
+        else:
+            moves_of_wires(out, channel)
     if row.channel == "D":
         source_lemmas(out, row)
         lane_lemmas(out, row)
         aligned_lemmas(out, row)
+    if row.rules:
+        rule_lines(out, row)
     return out
+
+
+def watch_probes(out: Lines, row: Row, channel: str) -> None:
+    """Adds what the watch of a channel knows of its beats."""
+    letter = channel.lower()
+    watch = f"watch.{letter}.watch"
+    for name in ("near_begins", "far_begins"):
+        out.probe(f"{letter}_{name}", f"watch.a_{name}" if channel == "A" else f"watch.{letter}.{name}")
+    if channel == row.channel:
+        for name, inner in WATCHED.items():
+            out.probe(f"{letter}_{name}", f"{watch}.{inner}")
+        out.probe(f"{letter}_has_data", f"{watch}.has_data")
+        out.probe(f"{letter}_value", f"{watch}.value", 8)
 
 
 def word_lemmas(out: Lines, row: Row, channel: str) -> None:
     """Adds the lemmas about the words in the queue of a channel."""
-    letter, words, wide = channel.lower(), row.words, max(row.client, row.manager)
+    letter, words, wide = channel.lower(), row.words(channel), max(row.client, row.manager)
     near, far = sides(channel)
     width = {"client": row.client, "manager": row.manager}
-    watch = f"watch.{letter}.watch"
-    for name in ("near_begins", "far_begins"):
-        out.probe(f"{letter}_{name}", f"watch.a_{name}" if channel == "A" else f"watch.{letter}.{name}")
-    bits = 3 + SIZES["SIZE_BITS"] + HEAD_BITS[channel] + 1 + 8 * wide + (wide if channel in "AB" else 0)
+    bits = 3 + row.size_bits + HEAD_BITS[channel] + 1 + 8 * wide + (wide if channel in "AB" else 0)
     (words_of_contract if row.by_contracts else words_of_fifo)(out, row, channel, bits)
     ports = {
         "near_begins": f"{letter}_near_begins",
@@ -80,27 +106,39 @@ def word_lemmas(out: Lines, row: Row, channel: str) -> None:
         "first": f"{letter}_first",
     }
     out.lines.append(f"wire [{words - 1}:0] {letter}_first;")
-    watched = {
-        "near_is_watched": "comes",
-        "near_has_byte": "has_byte",
-        "far_is_watched": "is_watched",
-        "far_has_byte": "here",
-    }
     if channel == row.channel:
-        for name, inner in watched.items():
-            out.probe(f"{letter}_{name}", f"{watch}.{inner}")
-            ports[name] = f"{letter}_{name}"
-        out.probe(f"{letter}_has_data", f"{watch}.has_data")
+        ports.update({name: f"{letter}_{name}" for name in WATCHED})
         ports["near_has_byte"] += f" && {letter}_has_data"
-        out.probe(f"{letter}_value", f"{watch}.value", 8)
         side = "near" if width[near] >= width[far] else "far"
-        out.probe(f"{letter}_place", f"{watch}.{side}_place", 7)
+        out.probe(f"{letter}_place", f"watch.{letter}.watch.{side}_place", 7)
         bytes_of_words = ", ".join(f"{letter}_word_{number}[8*{letter}_place+:8]" for number in reversed(range(words)))
         ports.update({"value": f"{letter}_value", "bytes": f"{{{bytes_of_words}}}"})
     else:
-        ports.update({name: "1'b0" for name in watched})
+        ports.update({name: "1'b0" for name in WATCHED})
         ports.update({"value": "8'd0", "bytes": f"{8 * words}'d0"})
     out.instance("tl_word_lemmas", {"WORDS": words}, f"{letter}_words", ports)
+
+
+def deep_lemmas(out: Lines, row: Row) -> None:
+    """Adds the lemma about the marks of the words in a deep queue."""
+    letter, words = row.channel.lower(), row.words(row.channel)
+    byte_bits = row.largest.bit_length()
+    inner = {
+        f"{letter}_words": {"watched": words, "holds": words, "gathered": 1, "gathered_watched": 1, "gathered_byte": 1},
+        f"watch.{letter}.watch": {
+            **{name: 1 for name in ("picked", "begun", "done", "has_data")},
+            **{name: COUNT_BITS for name in ("held", "ahead_kept")},
+            **{name: byte_bits for name in ("near_left", "near_count_kept", "far_count", "number_kept")},
+            **{name: 3 for name in ("near_power", "far_power", "wide_power")},
+        },
+    }
+    ports = {"first": f"{letter}_first", "count": f"{letter}_count"}
+    for place, names in inner.items():
+        for name, bits in names.items():
+            out.probe(f"deep_{name}", f"{place}.{name}", bits)
+            ports[name.replace("_kept", "")] = f"deep_{name}"
+    sizes = {"WORDS": words, "COUNT_BITS": COUNT_BITS, "BYTE_BITS": byte_bits}
+    out.instance("tl_deep_lemmas", sizes, f"{letter}_words_deep_lemmas", ports)
 
 
 def words_of_contract(out: Lines, row: Row, channel: str, bits: int) -> None:
@@ -108,28 +146,101 @@ def words_of_contract(out: Lines, row: Row, channel: str, bits: int) -> None:
     letter, queue = channel.lower(), f"{place_of_crossing(row, channel)}.queue"
     for name in ("puts", "gets"):
         out.probe(f"{letter}_{name}", f"{queue}.{name}")
-    out.probe(f"{letter}_count", f"{queue}.count", row.words.bit_length())
-    for number in range(row.words):
+    out.probe(f"{letter}_count", f"{queue}.count", row.words(channel).bit_length())
+    for number in range(row.words(channel)):
         out.probe(f"{letter}_word_{number}", f"{queue}.words[{number}]", bits)
 
 
 def words_of_fifo(out: Lines, row: Row, channel: str, bits: int) -> None:
     """Adds the same of rtl/tl_fifo.sv."""
-    letter, fifo = channel.lower(), place_of_crossing(row, channel)
+    letter, fifo, words = channel.lower(), place_of_crossing(row, channel), row.words(channel)
     for end, moves in (("w", "puts"), ("r", "gets")):
         for name in ("valid", "ready"):
             out.probe(f"{letter}_{end}_{name}", f"{fifo}.{end}_{name}")
-        out.probe(f"{letter}_{end}_count", f"{fifo}.{end}_count", row.words.bit_length())
+        out.probe(f"{letter}_{end}_count", f"{fifo}.{end}_count", words.bit_length())
         out.lines.append(f"wire {letter}_{moves} = {letter}_{end}_valid && {letter}_{end}_ready;")
-    count = row.words.bit_length()
+    count = words.bit_length()
     out.lines.append(f"wire [{count - 1}:0] {letter}_count = {letter}_w_count - {letter}_r_count;")
-    for number in range(row.words):
+    for number in range(words):
         out.probe(f"{letter}_place_{number}", f"{fifo}.words[{number}]", bits)
-    places = ", ".join(f"{letter}_place_{number}" for number in reversed(range(row.words)))
-    for number in range(row.words):
+    places = ", ".join(f"{letter}_place_{number}" for number in reversed(range(words)))
+    for number in range(words):
         out.lines.append(f"wire [{count - 2}:0] {letter}_index_{number} = {letter}_r_count + {number};")
         word = f"{{{places}}} >> {bits} * {letter}_index_{number}"
         out.lines.append(f"wire [{bits - 1}:0] {letter}_word_{number} = {word};")
+
+
+def rule_lines(out: Lines, row: Row) -> None:
+    """Adds the rules of the far link."""
+    letter, (_, far) = row.channel.lower(), sides(row.channel)
+    link = f"{far}_{letter}"
+    sizes = {
+        "ADDRESS_BITS": ADDRESS_BITS,
+        "SIZE_BITS": row.size_bits,
+        "SOURCE_BITS": SOURCE_BITS,
+        "SINK_BITS": SINK_BITS,
+    }
+    fields = ["opcode", "param", "size", "source", "corrupt"]
+    fields += (["address"] if row.channel != "D" else ["sink", "denied"]) + (["mask"] if row.channel in "AB" else [])
+    ports = {name: "0" for name in ("address", "sink", "denied", "mask")}
+    ports.update({name: f"{link}_{name}" for name in fields})
+    ports.update({"has_request": "1'b1", "size_is_asked": "1'b1"})
+    if row.channel == "D":
+        out.probe("a_out", "watch.d.a_out")
+        out.probe("d_size", "watch.d.watch.size", row.size_bits)
+        out.lines.append(f"wire [{row.size_bits - 1}:0] d_size_asked;")
+        names = ("a_in", "a_out", "d_in", "d_out", "busy", "at_manager")
+        asked = {"asked_size": "client_a_size", "size": "d_size", "waits": "d_picked && d_has_data && !d_begun"}
+        out.instance(
+            "tl_request_lemmas",
+            {"SIZE_BITS": row.size_bits},
+            "request_lemmas",
+            {**{name: name for name in names}, **asked, "size_at_client": "d_size_asked"},
+        )
+        is_answer = f"(client_d_source == chosen && client_d_opcode != 3'd{RELEASE_ACK})"
+        ports["has_request"] = f"!{is_answer} || busy"
+        ports["size_is_asked"] = f"!{is_answer} || !d_has_data || client_d_size == d_size_asked"
+    ports["comes"] = f"{letter}_far_is_watched"
+    letters = {"LETTER": f'"{row.channel}"', "DATA_BYTES": getattr(row, far), **sizes}
+    out.instance("tl_far_rules", letters, "far_rules", ports)
+
+
+def gray_lines(depth: int, stages: int = 2) -> Lines:
+    """Returns the lemmas about the FIFO between two clocks in refines.sv, with words of one bit."""
+    out = Lines()
+    log = depth.bit_length() - 1
+    for name, inner, bits in (
+        ("w_gray", "fifo.w_gray", log + 1),
+        ("w_index", "fifo.w_index", log),
+        ("w_before", "fifo.to_r.before", log + 1),
+        ("w_seen", "fifo.to_r.stages", stages * (log + 1)),
+        ("r_gray", "fifo.r_gray", log + 1),
+        ("r_index", "fifo.r_index", log),
+        ("r_before", "fifo.to_w.before", log + 1),
+        ("r_seen", "fifo.to_w.stages", stages * (log + 1)),
+    ):
+        out.probe(f"at_{name}", f"dut.{inner}", bits)
+    out.probe("at_count", "queue.count", (depth + 1).bit_length())
+    for number in range(depth):
+        out.probe(f"place_{number}", f"dut.fifo.words[{number}]")
+    for number in range(depth + 1):
+        out.probe(f"word_{number}", f"queue.words[{number}]")
+    ports = {name[3:]: name for name in out.probes if name.startswith("at_")}
+    ports.update({"w_run": "w_run", "r_run": "r_run", "r_valid": "r_valid", "r_data": "r_data"})
+    ports["places"] = f"{{{', '.join(f'place_{number}' for number in reversed(range(depth)))}}}"
+    ports["words"] = f"{{{', '.join(f'word_{number}' for number in reversed(range(depth + 1)))}}}"
+    joined = ", ".join(f".{key}({value})" for key, value in ports.items())
+    out.lines.append(f"tl_gray_lemmas #(.LOG({log})) gray_lemmas (.clock(clock), .reset(!powered), {joined});")
+    return out
+
+
+def moves_of_wires(out: Lines, channel: str) -> None:
+    """Adds the moves of a channel without a FIFO, and one word that never has anything."""
+    letter, inside = channel.lower(), "dut.b_c_e" if channel in "BC" else "dut"
+    for name in ("valid", "ready"):
+        out.probe(f"{letter}_w_{name}", f"{inside}.{letter}.crossing.w_{name}")
+    out.lines.append(f"wire {letter}_puts = {letter}_w_valid && {letter}_w_ready;")
+    out.lines.append(f"wire {letter}_first = 1'b0;")
 
 
 def source_lemmas(out: Lines, row: Row) -> None:
@@ -140,14 +251,16 @@ def source_lemmas(out: Lines, row: Row) -> None:
         letter = channel.lower()
         out.probe(inside, f"watch.d.{inside}", COUNT_BITS)
         out.probe(f"{letter}_in", f"watch.d.{letter}_in")
-        top = 3 + SIZES["SIZE_BITS"] + HEAD_BITS[channel] + 8 * wide
-        chosen = []
-        for number in range(row.words):
+        top = 3 + row.size_bits + HEAD_BITS[channel] + 8 * wide
+        chosen, words = [], max(1, row.words(channel))
+        for number in range(row.words(channel)):
             word = f"{letter}_word_{number}"
             is_chosen = f"{word}[{1 + 8 * wide + SOURCE_BIT[channel]}] == chosen"
             answers = f" && {word}[{top}:{top - 2}] != 3'd{RELEASE_ACK}" if channel == "D" else ""
             chosen.append(f"({is_chosen}{answers})")
-        out.lines.append(f"wire [{row.words - 1}:0] {letter}_chosen = {{{', '.join(reversed(chosen))}}};")
+        out.lines.append(
+            f"wire [{words - 1}:0] {letter}_chosen = {{{', '.join(reversed(chosen)) or '1' + chr(39) + 'b0'}}};"
+        )
         ports = {
             "near_begins_chosen": f"{letter}_in",
             "puts": f"{letter}_puts",
@@ -155,16 +268,19 @@ def source_lemmas(out: Lines, row: Row) -> None:
             "is_chosen": f"{letter}_chosen",
             "inside": inside,
         }
-        out.instance("tl_source_lemmas", {"WORDS": row.words, "COUNT_BITS": COUNT_BITS}, f"{letter}_sources", ports)
+        out.instance("tl_source_lemmas", {"WORDS": words, "COUNT_BITS": COUNT_BITS}, f"{letter}_sources", ports)
 
 
 def lane_lemmas(out: Lines, row: Row) -> None:
-    """Adds the lemmas about the table of outstanding requests: the lanes of the watched response are its request's."""
-    at_client = row.manager > row.client
-    bits = max(row.client, row.manager).bit_length() - 1
-    table = f"dut.at_{'client' if at_client else 'manager'}.outstanding.places.lanes"
-    for number in range(2):
-        out.probe(f"lanes_{number}", f"{table}[{number}]", bits)
+    """Adds the lemmas about the table of outstanding requests: the lanes of the watched response are its request's.
+
+    A wide beat of four narrow ones or more needs its lane until it is complete.
+    """
+    at_client, gathers = row.manager > row.client, row.client >= 4 * row.manager
+    bits = max(1, max(row.client, row.manager).bit_length() - 1)
+    table = f"dut.at_{'client' if at_client else 'manager'}.outstanding"
+    for number in range(0 if row.outstanding else 2):
+        out.probe(f"lanes_{number}", f"{table}.places.lanes[{number}]", bits)
     out.probe("d_lane", "dut.d_lane", bits)
     out.probe("d_out", "watch.d.d_out")
     for name in ("busy", "at_manager"):
@@ -174,13 +290,26 @@ def lane_lemmas(out: Lines, row: Row) -> None:
     for name in ("picked", "picking", "begun"):
         out.probe(f"d_{name}", f"watch.d.watch.{name}")
     out.probe("d_watched_lane", "watch.d.watch.lane", 7)
+    asked = f"lane_at_{'client' if at_client else 'manager'}[{bits - 1}:0]"
+    lanes = {"asked": asked, "lane": "d_lane", "watched_lane": f"d_watched_lane[{bits - 1}:0]"}
+    outstanding, kept = "busy" if at_client else "at_manager", "chosen ? lanes_1 : lanes_0"
+    waits = "d_picked && d_has_data && !d_begun"
+    if gathers or row.outstanding:
+        out.probe("d_moves", "dut.d_moves")
+        out.lines.append("wire d_converts;")
+        ports = {"responds": "1'b0" if at_client else "d_in", "leaves": "d_moves", "converts": "d_converts"}
+        later = {"waits": waits, "comes": "d_picked && d_near_is_watched && d_has_data"}
+        out.instance("tl_converter_lemmas", {"BITS": bits}, "converter_lemmas", {**ports, **later, **lanes})
+        outstanding += " || d_converts"
+    if row.outstanding:
+        kept = entry_lemmas(out, row, f"{table}.entries", bits, outstanding)
     ports = {
-        "kept": "chosen ? lanes_1 : lanes_0",
-        "lane": "d_lane",
-        "watched_lane": f"d_watched_lane[{bits - 1}:0]",
-        "outstanding": "busy" if at_client else "at_manager",
-        "asked": f"lane_at_{'client' if at_client else 'manager'}[{bits - 1}:0]",
-        "waits": "d_picked && d_has_data && !d_begun",
+        "kept": kept,
+        "lane": lanes["lane"],
+        "watched_lane": lanes["watched_lane"],
+        "outstanding": outstanding,
+        "asked": asked,
+        "waits": waits,
         "comes": "d_out",
         "is_watched": "d_far_is_watched",
         "picks": "d_picking && d_has_data",
@@ -188,18 +317,33 @@ def lane_lemmas(out: Lines, row: Row) -> None:
     out.instance("tl_lane_lemmas", {"BITS": bits, "AT_FAR_LINK": int(at_client)}, "lane_lemmas", ports)
 
 
+def entry_lemmas(out: Lines, row: Row, entries: str, bits: int, outstanding: str) -> str:
+    """Adds the lemmas about a table of entries, and returns the lane of the watched source's entry."""
+    count = row.outstanding
+    for name, size in (("used", 1), ("sources", SOURCE_BITS), ("lanes", bits)):
+        out.probe(f"entry_{name}", f"{entries}.{name}", count * size)
+    chosen = [f"entry_sources[{number}] == chosen" for number in range(count)]
+    out.lines.append(f"wire [{count - 1}:0] entry_own = entry_used & {{{', '.join(reversed(chosen))}}};")
+    ports = {"own": "entry_own", "outstanding": outstanding}
+    out.instance("tl_entry_lemmas", {"ENTRIES": count}, "entry_lemmas", ports)
+    return " | ".join(
+        f"(entry_own[{number}] ? entry_lanes[{bits * number}+:{bits}] : {bits}'d0)" for number in range(count)
+    )
+
+
 def aligned_lemmas(out: Lines, row: Row) -> None:
     """Adds the lemmas about the alignment of the watched response."""
-    wide, size_bits = max(row.client, row.manager), SIZES["SIZE_BITS"]
+    wide, size_bits = max(row.client, row.manager), row.size_bits
     out.probe("size_at_manager", "watch.d.size_at_manager", size_bits)
-    words = [f"a_word_{number}" for number in reversed(range(row.words))]
+    words = [f"a_word_{number}" for number in reversed(range(row.words("A")))]
     address, size = 1 + 8 * wide, 1 + 8 * wide + HEAD_BITS["A"]
-    lanes = ", ".join(f"3'd0, {word}[{address + SIZES['ADDRESS_BITS'] - 1}:{address}]" for word in words)
+    lanes = [f"3'd0, {word}[{address + ADDRESS_BITS - 1}:{address}]" for word in words]
+    sizes = [f"{word}[{size + size_bits - 1}:{size}]" for word in words]
     ports = {
         "asks": "a_in",
         "asked_size": "client_a_size",
-        "sizes": f"{{{', '.join(f'{word}[{size + size_bits - 1}:{size}]' for word in words)}}}",
-        "lanes": f"{{{lanes}}}",
+        "sizes": f"{{{', '.join(sizes)}}}" if words else f"{size_bits}'d0",
+        "lanes": f"{{{', '.join(lanes)}}}" if words else "7'd0",
         "first": "a_first",
         "is_chosen": "a_chosen",
         **{name: name for name in ("busy", "lane_at_client", "at_manager", "lane_at_manager", "size_at_manager")},
@@ -207,4 +351,4 @@ def aligned_lemmas(out: Lines, row: Row) -> None:
         "lane": "d_watched_lane",
         "size": "manager_d_size",
     }
-    out.instance("tl_aligned_lemmas", {"WORDS": row.words, "SIZE_BITS": size_bits}, "aligned_lemmas", ports)
+    out.instance("tl_aligned_lemmas", {"WORDS": max(1, len(words)), "SIZE_BITS": size_bits}, "aligned_lemmas", ports)

@@ -2,12 +2,13 @@
 from __future__ import annotations
 
 import dataclasses
+import re
 from dataclasses import dataclass
-from typing import Dict, Tuple, Union
+from typing import Dict, Optional, Tuple, Union
 
-# Every model: addresses of 4 bits, messages of 1 to 8 bytes, sources and sinks of 1 bit.
-SIZES = {"ADDRESS_BITS": 4, "SIZE_BITS": 2, "SOURCE_BITS": 1, "SINK_BITS": 1}
-LARGEST = 8
+# Every model: addresses of 4 bits, sources and sinks of 1 bit.
+ADDRESS_BITS, SOURCE_BITS, SINK_BITS = 4, 1, 1
+LARGEST = 8  # bytes of the largest message, if no beat of the row has 8 bytes
 CHANNELS = "ABCDE"
 LEMMAS_ONE_PLACE = r"Source(One|Room)$"
 
@@ -34,12 +35,26 @@ class Stage:
 
 
 @dataclass(frozen=True)
+class Bound:
+    """What is not proved: the assertions whose names match `assertions` have no counterexample in the first `cycles`
+    steps of time, the reset among them. `obstacle` says why there is no proof.
+    """
+
+    cycles: int
+    obstacle: str
+    assertions: str = "."
+
+
+@dataclass(frozen=True)
 class Row:
-    """One channel of the bridge between a client's link of `client` bytes and a manager's of `manager`.
+    """One channel of the bridge, or some together (`AD`, `ABCDE`), between a client's link of `client` bytes and a
+    manager's of `manager`.
 
     With `by_lemmas` there are lemmas (lemmas.py). With `by_contracts` the FIFOs and the reset agreement are replaced by
-    their contracts (contracts.sv). With `within` the assertions `Late` and `Ready` have this bound. `claimed` is
-    whether the row has to be proved; a row without a claim is tried only if it is named.
+    their contracts (contracts.sv). With `rules` the far beats also keep the rules of their link. With `within` the
+    assertions `Late` and `Ready` have this bound. `outstanding` is MAX_OUTSTANDING. `resets` is whose reset comes again
+    at any time: both sides' together, or that of the client or of the manager alone. Without `same_cycle` the manager
+    never responds in the cycle in which it accepts the request.
     """
 
     channel: str
@@ -48,35 +63,73 @@ class Row:
     stages: Tuple[Stage, ...] = (Stage(),)
     clocks: int = 1
     depth: int = 2
+    outstanding: int = 0
+    resets: str = ""
+    same_cycle: bool = True
     by_lemmas: bool = False
     by_contracts: bool = False
+    rules: bool = False
     within: int = 0
-    claimed: bool = True
-    obstacle: str = ""
+    bound: Optional[Bound] = None
 
     @property
     def name(self) -> str:
         return (
-            f"{self.channel}-{self.client}-{self.manager}"
+            f"{'all' if self.channel == CHANNELS else self.channel}-{self.client}-{self.manager}"
             + ("-two-clocks" if self.clocks == 2 else "")
             + (f"-depth-{self.depth}" if self.depth != 2 else "")
+            + (f"-entries-{self.outstanding}" if self.outstanding else "")
+            + (f"-resets-of-{self.resets}" if self.resets else "")
+            + ("" if self.same_cycle else "-later")
+            + ("-rules" if self.rules else "")
             + (f"-within-{self.within}" if self.within else "")
         )
 
     @property
-    def words(self) -> int:
-        """The most words that the FIFO of a channel holds."""
+    def variant(self) -> str:
+        """What is not as in most rows, in words."""
+        words = [f"`MAX_OUTSTANDING` {self.outstanding}"] if self.outstanding else []
+        words += [] if self.same_cycle else ["`ALLOW_SAME_CYCLE_RESPONSE` 0"]
+        words += [f"messages up to {self.largest} bytes"] if self.largest != LARGEST else []
+        words += ["later resets of both sides"] if self.resets == "both" else []
+        words += [f"later resets of the {self.resets} alone"] if self.resets in ("client", "manager") else []
+        return ", ".join(words) or "-"
+
+    @property
+    def largest(self) -> int:
+        """The bytes of the largest message: two beats of the wider link or more."""
+        return 16 if max(self.client, self.manager) == 8 and self.channel != "E" else LARGEST
+
+    @property
+    def size_bits(self) -> int:
+        return (self.largest.bit_length() - 1).bit_length()
+
+    def words(self, channel: str) -> int:
+        """The most words in the FIFO of a channel: 0 if it is wires."""
+        near, far = (self.client, self.manager) if channel in "ACE" else (self.manager, self.client)
+        if self.depth == 0 and near > far and channel != "E":
+            return 2
         return self.depth + (self.clocks == 2)
+
+    @property
+    def is_deep(self) -> bool:
+        """Whether the queue of the channel has four words or more, so that the proof needs another lemma."""
+        return self.words(self.channel) >= 4
 
     @property
     def parameters(self) -> Dict[str, str]:
         values = {
-            **SIZES,
+            "ADDRESS_BITS": ADDRESS_BITS,
+            "SIZE_BITS": self.size_bits,
+            "SOURCE_BITS": SOURCE_BITS,
+            "SINK_BITS": SINK_BITS,
             "FIFO_DEPTH": self.depth,
             "ASYNC": int(self.clocks == 2),
             "CLIENT_BYTES": self.client,
             "MANAGER_BYTES": self.manager,
-            "HAS_B_C_E": int(self.channel in "BCE"),
+            "HAS_B_C_E": int(self.channel not in ("A", "D", "AD")),
+            **({"MAX_OUTSTANDING": self.outstanding} if self.outstanding else {}),
+            **({} if self.same_cycle else {"ALLOW_SAME_CYCLE_RESPONSE": 0}),
         }
         return {name: str(value) for name, value in values.items()}
 
@@ -90,12 +143,17 @@ class Refinement:
     clocks: int
     depth: int
     bits: int = 1  # of a word
-    claimed: bool = True
-    obstacle: str = ""
+    stages: Tuple[Stage, ...] = (Stage(),)
+    by_lemmas: bool = False
+    bound: Optional[Bound] = None
 
     @property
     def name(self) -> str:
         return f"FIFO-{self.depth}" + ("-two-clocks" if self.clocks == 2 else "")
+
+    @property
+    def variant(self) -> str:
+        return f"words of {self.bits} bit"
 
 
 def others(channel: str) -> str:
@@ -103,91 +161,159 @@ def others(channel: str) -> str:
     return rf"senders\.[{'abcde'.replace(channel.lower(), '')}]\.|watch\.\\d\."
 
 
-def row_of(channel: str, client: int, manager: int, clocks: int) -> Row:
-    """Returns the row of a channel: by lemmas, except for E, and with two clocks by contracts."""
+def unneeded(channels: str) -> str:
+    """Matches the assumptions that say nothing about these channels. D has those about its requests, too."""
+    needed = channels.lower() + ("a" if "D" in channels else "")
+    rest = "".join(letter for letter in "abcde" if letter not in needed)
+    found = ([rf"senders\.[{rest}]\."] if rest else []) + ([] if "D" in channels else [r"watch\.\\d\."])
+    return "|".join(found)
+
+
+LANES = r"_lemmas\.(Lane|Held|Aligned)$"
+
+
+def stages_of(channel: str, is_deep: bool) -> Tuple[Stage, ...]:
+    """Returns the stages of a proof by lemmas. Steps whose lemmas a row does not have are left out."""
     letter = channel.lower()
-    watch = Step(rf"^{letter}\.(?!Source)", rf"^{letter}_words\.|_lemmas\.(Lane|Aligned)$")
+    watch = Step(rf"^{letter}\.(?!Source)", rf"^{letter}_words\.|" + LANES)
+    rules = Step(r"^far_rules\.", rf"^{letter}\.|^request_lemmas\.")
     places = rf"^{letter}_words\.(Begins|Empty|Watched|Here)$"
-    words = (Step(places), Step(rf"^{letter}_words\.Value", places))
-    stages: Tuple[Stage, ...] = (Stage((*words, watch), others(channel)),)
+    first_and_count = rf"^{letter}_words\.(Begins|Empty)$"
+    marks: Tuple[Step, ...] = (Step(places),)
+    if is_deep:
+        places += r"|_words_deep_lemmas\.Marks$"
+        marks = (
+            Step(first_and_count),
+            Step(r"_words_deep_lemmas\.Marks$", first_and_count),
+            Step(rf"^{letter}_words\.(Watched|Here)$", first_and_count + r"|_words_deep_lemmas\."),
+        )
+    words = (*marks, Step(rf"^{letter}_words\.Value", places))
     if channel == "E":
-        stages = (Stage((Step(r"^e\."),), others(channel)),)
-    if channel == "D":
-        in_flight = tuple(
-            Stage(
-                (
-                    Step(rf"^{one}_words\.(Begins|Empty)$"),
-                    Step(rf"^{one}_sources\.Inside$", rf"^{one}_words\.(Begins|Empty)$"),
-                    Step(f"Source{one.upper()}$", rf"^{one}_"),
-                ),
-                others(one),
-                ("dut.d_lane",),
-            )
-            for one in "ad"
-        )
-        counts = r"Source|_sources\.Inside|_words\.(Begins|Empty)$"
-        lanes = Stage(
+        return (Stage((Step(r"^e\."),), others(channel)),)
+    if channel != "D":
+        return (Stage((*words, watch, rules), others(channel)),)
+    in_flight = tuple(
+        Stage(
             (
-                Step(LEMMAS_ONE_PLACE, r"Source(A|D)$|_sources\.Inside"),
-                Step(r"_lemmas\.(Table|Own|Words|AtClient)$", counts),
-                Step(r"_lemmas\.(Kept|AtManager|Asked)$", counts + r"|_lemmas\."),
-                Step(r"_lemmas\.(Lane|Aligned)$", counts + r"|_lemmas\."),
-            )
-        )
-        given = r"_lemmas\.(Lane|Aligned)$"
-        rest = Stage(
-            (
-                Step(r"^d_words\.(Watched|Here)$", given + r"|^d_words\.(Begins|Empty)$"),
-                Step(r"^d_words\.Value", given + "|" + places),
-                watch,
+                Step(rf"^{one}_words\.(Begins|Empty)$"),
+                Step(rf"^{one}_sources\.Inside$", rf"^{one}_words\.(Begins|Empty)$"),
+                Step(f"Source{one.upper()}$", rf"^{one}_"),
             ),
-            others("D"),
-            ("dut.d_lane", "watch.d.lane"),
+            others(one),
+            ("dut.d_lane",),
         )
-        stages = (*in_flight, lanes, rest)
-    return Row(channel, client, manager, stages, clocks, by_lemmas=channel != "E", by_contracts=clocks == 2)
+        for one in "ad"
+    )
+    counts = r"Source|_sources\.Inside|_words\.(Begins|Empty)$"
+    lanes = Stage(
+        (
+            Step(LEMMAS_ONE_PLACE, r"Source(A|D)$|_sources\.Inside"),
+            Step(r"_lemmas\.(One|Entry)$", counts),
+            Step(r"_lemmas\.(Table|Own|Words|AtClient)$", counts + r"|_lemmas\.(One|Entry)$"),
+            Step(r"_lemmas\.(Kept|Same|AtManager|Asked)$", counts + r"|_lemmas\."),
+            Step(LANES, counts + r"|_lemmas\."),
+            Step(r"^request_lemmas\.", counts + r"|_lemmas\."),
+        )
+    )
+    rest = Stage(
+        (
+            Step(r"_words_deep_lemmas\.Marks$", r"^d_words\.(Begins|Empty)$"),
+            Step(r"^d_words\.(Watched|Here)$", LANES + r"|^d_words\.(Begins|Empty)$|_words_deep_lemmas\."),
+            Step(r"^d_words\.Value", LANES + "|" + places),
+            watch,
+            rules,
+        ),
+        others("D"),
+        ("dut.d_lane", "watch.d.lane"),
+    )
+    return (*in_flight, lanes, rest)
 
 
-def within(channel: str, client: int, manager: int) -> Row:
-    """Returns the row of `Late` and `Ready`. A wide word of a channel that narrows leaves the FIFO in two cycles."""
-    near, far = (client, manager) if channel in "AC" else (manager, client)
-    cycles = 3 if near > far and channel != "E" else 2
-    return Row(channel, client, manager, (Stage((Step(r"Late$|Ready$"),), others(channel)),), within=cycles)
+ORDER = Stage(
+    (
+        Step(r"^(Run|Clear)$"),
+        Step(r"^gray_lemmas\.(Fresh|Rests)$", r"^(Run|Clear)$"),
+        Step(r"^gray_lemmas\.(Steps|Order)$", r"^(Run|Clear)$|^gray_lemmas\."),
+        Step(r"^gray_lemmas\.Count$", r"^(Run|Clear)$|^gray_lemmas\."),
+        Step(r"^gray_lemmas\.Words$", r"^(Run|Clear)$|^gray_lemmas\."),
+        Step(".", r"^(Run|Clear)$|^gray_lemmas\."),
+    )
+)
 
 
-PAIRS = ((4, 2), (2, 4), (2, 2))
-# No run of these has ended yet, so they claim nothing. They are tried if they are named.
-NOT_RUN = frozenset(
+NAME = re.compile(
+    r"([A-E]+|all)-([1248])-([1248])(-two-clocks)?(?:-depth-([048]))?(?:-entries-(\d))?(?:-resets-of-(\w+))?(-later)?"
+    r"(-rules)?(?:-within-(\d))?"
+)
+NAME_OF_FIFO = re.compile(r"FIFO-([248])(-two-clocks)?")
+
+
+def row_named(name: str) -> Union[Row, Refinement]:
+    """Returns the row of a name. Rows of one channel are proved by lemmas, except for E and `within`, and with two
+    clocks by contracts. Rows in BOUNDS are not proved.
     """
-    D-2-4 A-4-2-two-clocks A-2-4-two-clocks A-2-2-two-clocks B-4-2-two-clocks B-2-4-two-clocks B-2-2-two-clocks
-    C-2-4-two-clocks C-2-2-two-clocks D-4-2-two-clocks D-2-4-two-clocks D-2-2-two-clocks A-4-2-within-3
-    A-2-4-within-2 A-2-2-within-2 B-4-2-within-2 B-2-4-within-3 B-2-2-within-2 C-4-2-within-3 C-2-4-within-2
-    C-2-2-within-2 D-4-2-within-2 D-2-4-within-3 D-2-2-within-2
-    """.split()
+    bound = BOUNDS.get(name)
+    of_fifo = NAME_OF_FIFO.fullmatch(name)
+    if of_fifo:
+        depth, clocks = int(of_fifo[1]), 1 + bool(of_fifo[2])
+        if clocks == 2 and depth > 2:
+            return Refinement(clocks, depth, stages=(ORDER,), by_lemmas=True, bound=bound)
+        return Refinement(clocks, depth, bound=bound)
+    found = NAME.fullmatch(name)
+    assert found, name
+    channel = CHANNELS if found[1] == "all" else found[1]
+    row = Row(
+        channel,
+        int(found[2]),
+        int(found[3]),
+        clocks=1 + bool(found[4]),
+        depth=int(found[5] or 2),
+        outstanding=int(found[6] or 0),
+        resets=found[7] or "",
+        same_cycle=not found[8],
+        rules=bool(found[9]),
+        within=int(found[10] or 0),
+        bound=bound,
+    )
+    if row.within and row.bound:
+        return dataclasses.replace(row, stages=())
+    if row.within:
+        return dataclasses.replace(row, stages=(Stage((Step(r"Late$|Ready$"),), others(channel)),))
+    if len(channel) > 1:
+        return dataclasses.replace(row, stages=())
+    return dataclasses.replace(
+        row, stages=stages_of(channel, row.is_deep), by_lemmas=channel != "E", by_contracts=row.clocks == 2
+    )
+
+
+NAMES = """
+    A-4-2 A-2-4 A-2-2 B-4-2 B-2-4 B-2-2 C-4-2 C-2-4 C-2-2 D-4-2 D-2-4 D-2-2 E-4-2 E-2-4 E-2-2 FIFO-2
+    FIFO-2-two-clocks FIFO-4-two-clocks A-4-2-two-clocks A-2-4-two-clocks B-4-2-two-clocks C-4-2-two-clocks
+    D-4-2-two-clocks D-2-4-two-clocks E-4-2-two-clocks E-2-4-two-clocks E-2-2-two-clocks A-4-2-within-3
+    A-2-4-within-2 A-2-2-within-2 B-4-2-within-2 B-2-4-within-3 C-4-2-within-3 C-2-4-within-2 D-2-4-within-3
+    E-4-2-within-2 E-2-4-within-2 E-2-2-within-2 A-2-4-depth-0 C-2-4-depth-0 E-4-2-depth-4 D-4-2-entries-2
+    A-4-2-resets-of-manager E-4-2-resets-of-manager A-4-2-depth-0-later AD-8-8 FIFO-8-two-clocks D-4-2-within-2
+    C-2-4-two-clocks D-4-2-resets-of-client
+"""
+# No run of these has ended, so they claim nothing. They are tried if they are named.
+NOT_RUN = """
+    A-2-2-two-clocks B-2-4-two-clocks B-2-2-two-clocks C-2-2-two-clocks D-2-2-two-clocks B-2-2-within-2
+    C-2-2-within-2 D-2-2-within-2 E-2-2-two-clocks-within-5 D-2-4-depth-0 A-4-2-depth-4 A-4-2-entries-1
+    D-2-4-entries-1 D-4-1 A-4-2-rules AD-1-1 AD-1-2 AD-1-4 AD-1-8 AD-2-1 AD-2-8 AD-4-1 AD-4-4 AD-4-8 AD-8-1 AD-8-2
+    AD-8-4 AD-4-2-depth-8 AD-2-4-depth-8
+"""
+BOUNDS: Dict[str, Bound] = {
+    name: Bound(8 if "8" in name else 12, "No run of its proof has ended.")
+    for name in (NAMES + NOT_RUN).split()
+    if name.startswith("AD-")
+}
+# Here the FIFO and the reset agreement are those of rtl/.
+BOUNDS["E-2-2-two-clocks-within-5"] = Bound(
+    40,
+    "The contract allows any delay, so this has the FIFO itself, from the initial values of the registers. "
+    "Without `Ready`, since ready is 0 until both sides run.",
+    "Late$",
 )
-NO_RUN = "no run of this row has ended yet"
-ALL_ROWS: Tuple[Union[Row, Refinement], ...] = (
-    *(row_of(channel, *pair, 1) for channel in "ABCDE" for pair in PAIRS),
-    Refinement(1, 2),
-    Refinement(2, 2),
-    *(row_of(channel, *pair, 2) for channel in "ABCDE" for pair in PAIRS),
-    *(within(channel, *pair) for channel in "ABCDE" for pair in PAIRS),
-)
-ROWS = tuple(
-    dataclasses.replace(row, claimed=False, obstacle=NO_RUN) if row.name in NOT_RUN else row for row in ALL_ROWS
-)
-NOT_TRIED = (
-    (
-        "resets after the first one",
-        "the watch begins again at a reset; `tests/rtl/test_rtl_formal.py fifo` has them for the FIFO",
-    ),
-    (
-        "the FIFO between two clocks with `FIFO_DEPTH` = 4 or more",
-        "`Valid` of its refinement is open after 200 seconds, so no row with two clocks has it",
-    ),
-    ("liveness with two clocks", "the contract of the FIFO allows any delay"),
-    (
-        "user and echo bits, `MAX_OUTSTANDING`, widths above 4, messages above 8 bytes, wider ids",
-        "not modelled",
-    ),
-)
+ROWS: Tuple[Union[Row, Refinement], ...] = tuple(map(row_named, NAMES.split()))
+OTHER_ROWS: Tuple[Union[Row, Refinement], ...] = tuple(map(row_named, NOT_RUN.split()))
+NOT_TRIED = (("user and echo bits, wider ids and addresses, longer messages, widths above 8", "not modelled"),)

@@ -15,20 +15,20 @@ from typing import Dict, List, Optional, Sequence, Tuple, Union
 
 from tlbridge.prove import engine
 from tlbridge.prove.command import is_cover, proof_files
-from tlbridge.prove.engine import FAILS, PROVED, Verdict
+from tlbridge.prove.engine import BOUNDED, FAILS, PROVED, Verdict
 from tlbridge.prove.errors import ProveError
 from tlbridge.prove.harness import Options, write_harness
 from tlbridge.prove.model import Model, Recipe, build, cache_folder, short_name
 from tlbridge.verify.design import DesignError, Source, read_design
 
 from .given import step_model
-from .lemmas import lemma_lines, place_of_crossing, sides
-from .rows import LARGEST, NOT_TRIED, ROWS, Refinement, Row, Stage
+from .lemmas import gray_lines, lemma_lines, place_of_crossing, sides
+from .rows import NOT_TRIED, OTHER_ROWS, ROWS, Bound, Refinement, Row, Stage, unneeded
 
 ROOT = Path(__file__).resolve().parent.parent.parent
 HERE = Path(__file__).resolve().parent
 CONTRACTS = HERE / "contracts.sv"
-COVER_FRAMES = 16
+COVER_FRAMES, COVER_SECONDS = 16, 60  # at most
 REFINEMENT_COVER_FRAMES = 60  # the reset at power-up takes 12 cycles
 TICKS = {"client_clock": "client_tick", "manager_clock": "manager_tick"}
 SYNCHRONIZER = ROOT / "tests" / "rtl" / "formal" / "tl_synchronizer.sv"
@@ -51,7 +51,7 @@ class Outcome:
 
     @property
     def is_complete(self) -> bool:
-        """Whether each assertion of the row was tried and is proved."""
+        """Whether each assertion of the row was tried, and is proved or has its bound."""
         return bool(self.verdicts) and self.tried_all and not self.left
 
     @property
@@ -60,8 +60,19 @@ class Outcome:
         return [name for name, found in self.verdicts.items() if found.kind == PROVED]
 
     @property
+    def bounded(self) -> List[str]:
+        """The names of the assertions that have the bound of the row."""
+        bound = self.row.bound
+        return [
+            name
+            for name, found in self.verdicts.items()
+            if bound and found.kind == BOUNDED and found.frames >= bound.cycles and re.search(bound.assertions, name)
+        ]
+
+    @property
     def left(self) -> List[str]:
-        return [name for name, found in self.verdicts.items() if found.kind != PROVED]
+        """The names of the assertions that are neither proved nor have the bound."""
+        return [name for name in self.verdicts if name not in self.proved and name not in self.bounded]
 
 
 def design_files(rtl: Path) -> Tuple[str, ...]:
@@ -75,13 +86,16 @@ def recipe_of(row: Union[Row, Refinement], stage: Stage, rtl: Path, folder: Path
     if isinstance(row, Refinement):
         return recipe_of_refinement(row, rtl, path)
     files = design_files(rtl)
+    real = row.clocks == 2 and not row.by_contracts
     try:
         design = read_design(Source("tl_bridge", files, row.parameters))
     except DesignError as error:
         raise ProveError(str(error), error.status) from error
     options = Options(
         level="c",
-        largest=LARGEST,
+        largest=row.largest,
+        same_cycle_response=row.same_cycle,
+        later_resets=bool(row.resets),
         idle_lanes_zero=True,
         all_sources=False,
         free=(("address", 4), ("source", 1), ("sink", 1)),
@@ -95,10 +109,20 @@ def recipe_of(row: Union[Row, Refinement], stage: Stage, rtl: Path, folder: Path
         lemmas = lemma_lines(row)
         options, probes = dataclasses.replace(options, extra_lines=lemmas.text), lemmas.probes
         proof.insert(0, str(HERE / "lemmas.sv"))
+        if row.is_deep:
+            proof.insert(0, str(HERE / "deep.sv"))
+        if row.rules:
+            proof.append(str(HERE / "rules.sv"))
     if row.by_contracts:
         probes = {**probes, **ticks_of_queues(row)}
         files = (*(one for one in files if Path(one).name not in REPLACED), str(CONTRACTS), str(HERE / "replaced.sv"))
-    path.write_text(write_harness(design, options).text)
+    if real:
+        files = (*(one for one in files if Path(one).name != SYNCHRONIZER.name), str(SYNCHRONIZER))
+    text = write_harness(design, options).text
+    if row.resets in ("client", "manager"):
+        text = with_reset_of_one_side(text, row)
+        proof.insert(0, str(HERE / "cut.sv"))
+    path.write_text(text)
     return Recipe(
         "tlbridge_proof",
         files,
@@ -107,7 +131,40 @@ def recipe_of(row: Union[Row, Refinement], stage: Stage, rtl: Path, folder: Path
         probes=probes,
         forget=stage.forget,
         cuts=stage.cuts,
+        drop=r"^far_rules\.judge\." if row.rules else Recipe.drop,
+        free_initial="" if real else Recipe.free_initial,
+        zero_initial=real,
     )
+
+
+def with_reset_of_one_side(text: str, row: Row) -> str:
+    """Returns the harness of a row in which later resets are those of one side alone. The watch begins again at each,
+    and sees nothing of the rest of a burst that the reset has cut at the other side.
+    """
+    other = "manager" if row.resets == "client" else "client"
+    lines = [
+        "    logic at_power_up = 1'b1;\n    always @(posedge clock) if (!reset) at_power_up <= 1'b0;\n",
+        f"    wire {other}_reset = reset && at_power_up;\n",
+    ]
+    changes = [(f".{other}_reset(reset)", f".{other}_reset({other}_reset)")]
+    for channel in "AD" if row.channel == "D" else row.channel:
+        letter = channel.lower()
+        if sides(channel)[0] == other and channel != "E":
+            link = f"{other}_{letter}"
+            has_data = f"!{link}_opcode[2]" if channel in "AB" else f"{link}_opcode[0]"
+            lines.append(
+                f"    wire {link}_cut;\n"
+                f"    tl_cut #(.BYTES({getattr(row, other)}), .SIZE_BITS({row.size_bits})) {link}_rest (\n"
+                f"        .clock(clock), .at_power_up({other}_reset), .reset(reset), .valid({link}_valid), "
+                f".ready({link}_ready),\n        .has_data({has_data}), .size({link}_size), .cut({link}_cut));\n"
+            )
+            changes.append((f".{link}_valid({link}_valid),\n", f".{link}_valid({link}_valid && !{link}_cut),\n"))
+    for old, new in changes:
+        before, found, after = text.rpartition(old)
+        if not found:
+            raise ProveError(f"{row.name}: the harness has no {old.strip()}: nothing is proved")
+        text = before + new + after
+    return text.replace("    tl_bridge #(", "".join(lines) + "    tl_bridge #(", 1)
 
 
 def recipe_of_refinement(row: Refinement, rtl: Path, path: Path) -> Recipe:
@@ -115,11 +172,17 @@ def recipe_of_refinement(row: Refinement, rtl: Path, path: Path) -> Recipe:
     text = (HERE / "refines.sv").read_text()
     for name, value in (("FIFO_DEPTH", row.depth), ("BITS", row.bits)):
         text = re.sub(rf"(parameter int {name}) = \d+", rf"\1 = {value}", text)
+    proof, probes = [str(CONTRACTS), str(path)], {}
+    if row.by_lemmas:
+        lemmas = gray_lines(row.depth)
+        text = text.replace("endmodule\n\nmodule tl_same", f"{lemmas.text}endmodule\n\nmodule tl_same", 1)
+        proof.insert(0, str(HERE / "gray.sv"))
+        probes = lemmas.probes
     path.write_text(text)
     if row.clocks == 1:
         return Recipe("tl_refines_one_clock", (str(rtl / "tl_fifo.sv"),), (str(CONTRACTS), str(path)))
     files = (str(rtl / "tl_async_fifo.sv"), str(rtl / "tl_reset.sv"), str(SYNCHRONIZER))
-    return Recipe("tl_refines", files, (str(CONTRACTS), str(path)), ticks=TICKS)
+    return Recipe("tl_refines", files, tuple(proof), ticks=TICKS, probes=probes)
 
 
 def ticks_of_queues(row: Row) -> Dict[str, str]:
@@ -145,8 +208,7 @@ def prove(
     `build` and `ask`.
     """
     outcome = Outcome(row, tried_all=not only)
-    stages = (Stage(),) if isinstance(row, Refinement) else row.stages
-    for stage in stages:
+    for stage in row.stages:
         with tempfile.TemporaryDirectory(prefix="prove-rtl.") as folder:
             model, _ = build(recipe_of(row, stage, rtl, Path(folder)), cache)
             if not stage.cuts and not outcome.covers:
@@ -154,11 +216,37 @@ def prove(
             if not prove_steps(model, stage, outcome, Path(folder) / "steps", jobs, seconds, only):
                 outcome.tried_all = False
                 break
+    if row.bound:
+        prove_bound(row.bound, outcome, rtl, seconds, cache)
     if not outcome.covers:
         raise ProveError(f"{row.name}: nothing shows that a beat can arrive: nothing is proved")
-    if isinstance(row, Row) and row.within > 1:
+    if isinstance(row, Row) and row.within > 1 and not row.bound:
         outcome.fails_below = failures(dataclasses.replace(row, within=row.within - 1), rtl, seconds, cache)
     return outcome
+
+
+def prove_bound(bound: Bound, outcome: Outcome, rtl: Path, seconds: int, cache: Optional[Path]) -> None:
+    """Looks for a counterexample to what has a bound, in the bridge alone: without lemmas, and nothing assumed that was
+    proved.
+    """
+    row = outcome.row
+    stage = Stage(forget=unneeded(row.channel)) if isinstance(row, Row) else row.stages[0]
+    row = dataclasses.replace(row, by_lemmas=False)
+    with tempfile.TemporaryDirectory(prefix="prove-rtl.") as folder:
+        model, _ = build(recipe_of(row, stage, rtl, Path(folder)), cache)
+        if not outcome.covers:
+            reach(model, outcome, 1)
+        names = [name_of(label) for label in model.labels]
+        tried = [
+            number
+            for number, name in enumerate(names)
+            if not is_cover(model.labels[number]) and name not in outcome.verdicts and re.search(bound.assertions, name)
+        ]
+        part = step_model(model, tried, (), Path(folder) / "step")
+        found = engine.verdict(*engine.ask(part.small, [f"bmc3 -F {bound.cycles} -T {seconds}"], seconds))
+    outcome.seconds += found.seconds
+    outcome.verdicts.update({names[number]: found for number in tried})
+    print(f"  {outcome.row.name} all together: {words_of(found)}, {found.seconds:.1f} s", flush=True)
 
 
 def failures(row: Row, rtl: Path, seconds: int, cache: Optional[Path]) -> List[str]:
@@ -189,6 +277,7 @@ def prove_steps(model: Model, stage: Stage, outcome: Outcome, folder: Path, jobs
             for number in numbers
             if number not in given
             and re.search(step.proves, names[number])
+            and not (row.bound and re.search(row.bound.assertions, names[number]))
             and re.search(only, names[number])
             and names[number] not in outcome.verdicts
         ]
@@ -209,14 +298,21 @@ def prove_steps(model: Model, stage: Stage, outcome: Outcome, folder: Path, jobs
 
 
 def words_of(found: Verdict) -> str:
-    return {PROVED: "proved", FAILS: f"fails in frame {found.frames}"}.get(found.kind, "open")
+    words = {
+        PROVED: "proved",
+        FAILS: f"fails in frame {found.frames}",
+        BOUNDED: f"no counterexample in {found.frames} cycles",
+    }
+    return words.get(found.kind, "open")
 
 
 def reach(model: Model, outcome: Outcome, jobs: int) -> None:
     """Shows that the assumptions of the last step exclude no kind of beat. Errors: no beat can arrive (2)."""
     covers = [i for i, label in enumerate(model.labels) if is_cover(label)]
     frames = REFINEMENT_COVER_FRAMES if isinstance(outcome.row, Refinement) else COVER_FRAMES
-    questions = [(i, lambda i=i: engine.bounded(model, i, frames, 60)) for i in covers]
+    if outcome.row.bound:
+        frames = outcome.row.bound.cycles
+    questions = [(i, lambda i=i: engine.bounded(model, i, frames, COVER_SECONDS)) for i in covers]
     for index, found in engine.in_parallel(jobs, questions):
         name = model.labels[index].rpartition(".")[2]
         outcome.covers += 1
@@ -229,9 +325,9 @@ def reach(model: Model, outcome: Outcome, jobs: int) -> None:
 
 
 HEADING = (
-    "| Channel | Widths | Clocks | Depth | Proved for any number of cycles | Kinds of beats that arrive | Seconds | "
-    "Slowest |",
-    "|---|---|---|---|---|---|---|---|",
+    "| Channel | Widths | Clocks | Depth | Also | Proved for any number of cycles | Not proved: no counterexample in | "
+    "Kinds of beats that arrive | Seconds | Slowest |",
+    "|---|---|---|---|---|---|---|---|---|---|",
 )
 
 
@@ -242,26 +338,32 @@ def line_of(one: Outcome) -> str:
     proved = ", ".join(grouped([name for name in one.proved if name not in lemmas])) or "nothing"
     left = ", ".join(grouped(one.left))
     what = proved + (f"; open: {left}" if left else "")
-    if one.is_complete:
+    if one.is_complete and not one.bounded:
         what = f"all {len(one.verdicts) - len(lemmas)}: {what}"
-    elif not row.claimed:
-        what = f"**no claim**: {what}"
-    else:
+    elif not one.is_complete:
         what = f"a part: {what}"
     if lemmas:
         what += f"; by {len(lemmas)} lemmas"
     if isinstance(row, Row) and row.within:
         below = " and ".join(grouped(one.fails_below))
         what += f" within {row.within}" + (f"; within {row.within - 1} not {below}" if below else "")
+    bounded = "-"
+    if row.bound and one.bounded:
+        count = len(one.verdicts) - len(lemmas)
+        share = f"all {count}" if len(one.bounded) == count else f"{len(one.bounded)} of {count}"
+        bounded = f"{row.bound.cycles} cycles, {share}: {', '.join(grouped(one.bounded))}. {row.bound.obstacle}"
     kinds = f"{one.reached} of {one.covers}" + (f", not {', '.join(one.not_reached)}" if one.not_reached else "")
     name, slowest = one.slowest
-    slow = f"{name.rpartition('.')[2]} {slowest:.0f}"
-    if isinstance(row, Refinement):
-        part = "the FIFO" if row.clocks == 1 else "FIFO and reset"
-        place = f"{part} | words of {row.bits} bit | {row.clocks} | {row.depth}"
-    else:
-        place = f"{row.channel} | {row.client}:{row.manager} | {row.clocks} | {row.depth}"
-    return f"| {place} | {what} | {kinds} | {one.seconds:.0f} | {slow} |"
+    slow = f"{name.rpartition('.')[2]} {slowest:.0f}" if name else "-"
+    place = f"{letters(row.channel)} | {row.client}:{row.manager}" if isinstance(row, Row) else "FIFO | -"
+    if isinstance(row, Refinement) and row.clocks == 2:
+        place = "FIFO and reset | -"
+    place += f" | {row.clocks} | {row.depth} | {row.variant}"
+    return f"| {place} | {what} | {bounded} | {kinds} | {one.seconds:.0f} | {slow} |"
+
+
+def letters(channel: str) -> str:
+    return "A to E" if channel == "ABCDE" else ", ".join(channel)
 
 
 def is_lemma(name: str) -> bool:
@@ -280,10 +382,10 @@ def command_line() -> argparse.ArgumentParser:
     words = argparse.ArgumentParser(
         prog="prove-rtl",
         description="Proves rtl/tl_bridge.sv against the layout of messages, one channel and one pair of widths at a "
-        "time, and prints the table of docs/RTL_PROOFS.md. The status is 0 if each claimed row is proved, 1 if not, "
-        "2 to 4 as of tlbridge-prove.",
+        "time, and prints the table of docs/RTL_PROOFS.md. The status is 0 if each row is proved or has its bound, 1 "
+        "if not, 2 to 4 as of tlbridge-prove.",
     )
-    words.add_argument("rows", metavar="ROW", nargs="*", help="as A-4-2 [default: each claimed row]")
+    words.add_argument("rows", metavar="ROW", nargs="*", help="as A-4-2 [default: each row]")
     words.add_argument("--list", action="store_true", help="list the rows")
     words.add_argument("--rtl", metavar="FOLDER", type=Path, default=ROOT / "rtl", help="the bridge [default: rtl/]")
     words.add_argument("--jobs", metavar="N", type=int, default=2, help="assertions at once [default: 2]")
@@ -297,10 +399,12 @@ def command_line() -> argparse.ArgumentParser:
 
 def main(arguments: Optional[Sequence[str]] = None) -> int:
     words = command_line().parse_args(arguments)
-    known = {row.name: row for row in ROWS}
+    known = {row.name: row for row in (*ROWS, *OTHER_ROWS)}
     if words.list:
         for row in ROWS:
-            print(f"{row.name}" + ("" if row.claimed else f": no claim: {row.obstacle}"))
+            print(f"{row.name}" + (f": not proved: {row.bound.obstacle}" if row.bound else ""))
+        for row in OTHER_ROWS:
+            print(f"{row.name}: no claim: no run of this row has ended")
         for what, why in NOT_TRIED:
             print(f"no row: {what}: {why}")
         return 0
@@ -308,7 +412,7 @@ def main(arguments: Optional[Sequence[str]] = None) -> int:
     if unknown:
         print(f"prove-rtl: there is no row {unknown[0]}; --list names all", file=sys.stderr)
         return 2
-    chosen = [known[name] for name in words.rows] or [row for row in ROWS if row.claimed]
+    chosen = [known[name] for name in words.rows] or list(ROWS)
     outcomes = []
     began = time.monotonic()
     try:
@@ -330,4 +434,4 @@ def main(arguments: Optional[Sequence[str]] = None) -> int:
         return error.status
     print("\n".join(["", *HEADING, *map(line_of, outcomes), ""]))
     print(f"{time.monotonic() - began:.0f} s with {words.jobs} at once")
-    return 0 if all(one.is_complete for one in outcomes if one.row.claimed) else 1
+    return 0 if all(one.is_complete for one in outcomes) else 1

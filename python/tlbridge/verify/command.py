@@ -43,13 +43,13 @@ from .bench import (
     sv_folder,
 )
 from .design import Choice, Design, DesignError, Source, described, modules_of, read_design, read_file_list
-from .explore import explored, held_largest, stated_largest
+from .explore import explored, held_largest, rules_out_atomics, stated_largest, stated_level
 from .host import REFERENCES, Reference
 from .judge import Beat, Beats, Judge, Problem, Rules, is_near, name_of, trace_of
 from .report import Coverage, not_compared, speed_of
 from .shrink import Shrinker, needs_of, options_of
 from .skew import skewed
-from .traffic import HOST_STYLES, KINDS, PLAIN_LARGEST, STYLES, Limits, Message, Traffic, limits_of, style_of
+from .traffic import ATOMICS, HOST_STYLES, KINDS, PLAIN_LARGEST, STYLES, Limits, Message, Traffic, limits_of, style_of
 
 PROGRAM = "tlbridge-verify"
 RIGHT, MISTAKE, INCOMPLETE, FAILED = "right", "mistake", "incomplete", "failed"
@@ -354,7 +354,15 @@ class Session:
         self.is_bridge = self.design.is_bridge and not options.rules_only
         self.one_clock = options.one_clock
         window = _window_of(options.window)
-        self.limits = limits_of(self.design, self.is_bridge, options.level, options.largest, options.only, window)
+        by_ports = options.level is None and options.only is None
+        self.stated_level = stated_level(source.files, self.design.level) if by_ports else None
+        self.level: str = options.level or self.stated_level or self.design.level
+        self.limits = limits_of(self.design, self.is_bridge, self.level, options.largest, options.only, window)
+        has_atomics = not (by_ports and rules_out_atomics(source.files))
+        self.finds_atomics = by_ports and has_atomics and self.stated_level is None and self.design.has("A", "param")
+        if not has_atomics:
+            kinds = tuple(kind for kind in self.limits.kinds if kind not in ATOMICS)
+            self.limits = replace(self.limits, kinds=kinds)
         self.stated = stated_largest(source.files) if options.largest is None else None
         self.most_bytes = self.limits.largest  # that the size field can say, if nothing else is known
         if self.stated is not None:
@@ -447,7 +455,8 @@ class Session:
             lines.append(
                 f"  {self.late.bits} bits cross directly to a flip-flop of another clock: each may arrive late"
             )
-        limits, level = self.limits, self.options.level or self.design.level
+        limits = self.limits
+        level = f"{self.level}, as a comment of the design says" if self.stated_level else self.level
         if self.design.client is not None:
             stated = ", as a comment of the design says" if self.stated == limits.largest else ""
             where = f", at {limits.window[0]:#x} to {sum(limits.window) - 1:#x}" if limits.window else ""
@@ -569,9 +578,8 @@ class Session:
         options, before = self.options, self.limits
         if not self.rules.is_memory or self.design.is_bridge:
             return
-        finds_kinds = options.level is None and options.only is None and self.design.has("A", "param")
         room = self.room / "explore"
-        limits = explored(self.design, self.simulation(first), before, room, options.window is None, finds_kinds)
+        limits = explored(self.design, self.simulation(first), before, room, options.window is None, self.finds_atomics)
         self.limits = limits
         self._limit_window()
         if limits.window != before.window and limits.window:

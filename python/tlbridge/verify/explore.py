@@ -25,10 +25,13 @@ _MOST_PLACES = 300
 Pair = Tuple[Dict[str, str], Optional[Dict[str, str]]]  # the fields of a request, and of its response if one came
 _MESSAGES = re.compile(r"\b(?:messages?|bursts?|access(?:es)?|transfers?|sizes?|requests?|gets?|puts?|blocks?)\b", re.I)
 _STATED = re.compile(
-    r"\b(?:up to|at most|maximum(?: size)?(?: of| is)?|max\.?|no (?:more|larger) than)\s+"
+    r"\b(?:up to|at most|(?:maximum|largest)(?: size)?(?: of| is)?|max\.?|no (?:more|larger) than)\s+"
     r"(?:\w+\s+){0,2}?([\d,]+)[\s-]*(ki?)?b(?:ytes?)?\b",
     re.I,
 )
+_LEVEL = re.compile(r"\bTL[-_ ]?(UL|UH|C)\b")
+_NO_ATOMICS = re.compile(r"\b(?:without|no|excluding|except(?: for)?) (?:any )?atomics?\b", re.I)
+_LEVELS = ("UL", "UH", "C")  # each has all messages of those before it
 
 
 class Explorer:
@@ -122,21 +125,39 @@ class Explorer:
         return new == after != old
 
 
-def stated_largest(files: Sequence[str]) -> Optional[int]:
-    """Returns the largest message that a comment of a design speaks of, as in `messages of up to 64 bytes`, since the
-    width of the size field does not tell it. None: no comment does."""
-    found = []
+def _comments(files: Sequence[str]) -> Iterator[str]:
+    """The comments of a design, each on one line."""
     for name in files:
         try:
             text = Path(name).read_text(errors="replace")
         except OSError:
             continue
-        comments = re.findall(r"/\*(.*?)\*/|((?:^[ \t]*//[^\n]*\n?)+)|//([^\n]*)", text, re.DOTALL | re.MULTILINE)
-        for comment in comments:
-            for sentence in re.split(r"[.;:]\s", re.sub(r"[\s/*]+", " ", " ".join(comment))):
-                if _MESSAGES.search(sentence):
-                    for number, unit in _STATED.findall(sentence):
-                        found.append(int(number.replace(",", "") or "0") * (1024 if unit else 1))
+        for comment in re.findall(r"/\*(.*?)\*/|((?:^[ \t]*//[^\n]*\n?)+)|//([^\n]*)", text, re.DOTALL | re.MULTILINE):
+            yield re.sub(r"[\s/*]+", " ", " ".join(comment))
+
+
+def stated_level(files: Sequence[str], highest: str) -> Optional[str]:
+    """Returns the level that the comments of a design name, since many designs for TL-UL have the ports of TL-UH. None:
+    they name none, several, or none below `highest`, the level of the ports."""
+    named = {level for comment in _comments(files) for level in _LEVEL.findall(comment)}
+    lower = _LEVELS[: _LEVELS.index(highest)]
+    return named.pop() if len(named) == 1 and named <= set(lower) else None
+
+
+def rules_out_atomics(files: Sequence[str]) -> bool:
+    """Whether a comment of a design says that it has no atomics."""
+    return any(_NO_ATOMICS.search(comment) for comment in _comments(files))
+
+
+def stated_largest(files: Sequence[str]) -> Optional[int]:
+    """Returns the largest message that a comment of a design speaks of, as in `messages of up to 64 bytes`, since the
+    width of the size field does not tell it. None: no comment does."""
+    found = []
+    for comment in _comments(files):
+        for sentence in re.split(r"[.;:]\s", comment):
+            if _MESSAGES.search(sentence):
+                for number, unit in _STATED.findall(sentence):
+                    found.append(int(number.replace(",", "") or "0") * (1024 if unit else 1))
     powers = [number for number in found if number and not number & (number - 1)]
     return max(powers, default=None)
 

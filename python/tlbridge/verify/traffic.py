@@ -22,6 +22,7 @@ REQUESTS = {
     "acquireperm": "AcquirePerm",
 }
 OPCODES = {kind: NUMBERS["A", name] for kind, name in REQUESTS.items()}
+ATOMICS = ("arithmetic", "logical")
 KINDS: Dict[str, Tuple[str, ...]] = {
     "UL": ("get", "put", "partial"),
     "UH": ("get", "put", "partial", "arithmetic", "logical", "intent"),
@@ -69,7 +70,7 @@ class Limits:
     has_pages: bool = False  # some addresses are in a window that is one higher address bit away
 
     def largest_of(self, kind: str) -> int:
-        return min(self.largest, self.atomic) if kind in ("arithmetic", "logical") else self.largest
+        return min(self.largest, self.atomic) if kind in ATOMICS else self.largest
 
 
 def limits_of(
