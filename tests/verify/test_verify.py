@@ -12,7 +12,7 @@ from typing import Dict, List, Tuple
 import pytest
 from project import EXAMPLES, ROOT, needs_tools
 
-from tlbridge.verify import command
+from tlbridge.verify import command, options, session
 
 pytestmark = pytest.mark.simulator
 START = str(EXAMPLES / "start" / "adapter.sv")
@@ -66,7 +66,7 @@ def test_a_combinational_loop(
 ) -> None:
     needs_tools("verilator", "iverilog")
     (tmp_path / "loop.v").write_text(LOOP)
-    monkeypatch.setattr(command, "_LOOP_SECONDS", 1)
+    monkeypatch.setattr(session, "_LOOP_SECONDS", 1)
     assert command.main([str(tmp_path / "loop.v"), "--simulator", "icarus", "--out", str(tmp_path / "out")]) == 3
     assert "the design has a combinational loop: icarus did not end 100 cycles" in capsys.readouterr().err
     assert files_of(tmp_path) == ["loop.v"]
@@ -203,7 +203,7 @@ def test_a_simulator_that_dies(tmp_path: Path) -> None:
 def test_every_option_is_read() -> None:
     """Each option of the command line is used somewhere in the program."""
     text = "".join(path.read_text() for path in Path(command.__file__).parent.glob("*.py"))
-    for action in command._arguments()._actions:
+    for action in options.arguments()._actions:
         if action.dest not in ("help",) and action.option_strings:
             uses = text.count(f"options.{action.dest}") + text.count(f'"{action.dest}"')
             is_pair = action.dest.endswith(("_clock", "_reset")) and action.dest.split("_")[0] in ("client", "manager")
@@ -214,7 +214,7 @@ def test_the_pages_name_every_option() -> None:
     guide = (ROOT / "docs" / "VERIFY.md").read_text()
     manual = (ROOT / "packaging" / "tlbridge-verify.1").read_text().replace("\\-", "-")
     completion = (ROOT / "packaging" / "completion.bash").read_text()
-    for action in command._arguments()._actions:
+    for action in options.arguments()._actions:
         for option in action.option_strings:
             if option.startswith("--") and option != "--help":
                 assert option in manual and option in completion, option
