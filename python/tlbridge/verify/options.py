@@ -153,7 +153,8 @@ def _pairs(words: Sequence[str], option: str) -> Dict[str, str]:
 
 
 def source_of(options: argparse.Namespace) -> Source:
-    """Returns the files, parameters and macros of the design. Errors: a file list cannot be read, or no module is named."""
+    """Returns the files, parameters and macros of the design. Errors: a file list cannot be read, or no module is
+    named."""
     lists = [read_file_list(Path(name)) for name in options.lists]
     files = tuple(options.files) + tuple(name for made in lists for name in made.files)
     if not files:
