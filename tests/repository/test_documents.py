@@ -14,8 +14,8 @@ the library are skipped.
   block, except commands.
 - A block of docs/SPECIFICATION.md with the lines of a trace and of its answer shows what `run` gives at some pair of
   widths.
-- Each link to a file or to a heading leads somewhere, and no section ends with a colon. Each page that a source names is
-  there.
+- Each link to a file or to a heading leads somewhere, and no section ends with a colon. Each page that a source names
+  is there.
 - docs/FAULTS.md has a heading and a sentence for each line of `tlexplain --faults`, and no other.
 """
 

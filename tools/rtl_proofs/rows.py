@@ -87,7 +87,7 @@ class Row:
 
     @property
     def variant(self) -> str:
-        """What is not as in most rows, in words."""
+        """The differences from most rows, in words."""
         words = [f"`MAX_OUTSTANDING` {self.outstanding}"] if self.outstanding else []
         words += [] if self.same_cycle else ["`ALLOW_SAME_CYCLE_RESPONSE` 0"]
         words += [f"messages up to {self.largest} bytes"] if self.largest != LARGEST else []

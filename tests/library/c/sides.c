@@ -150,7 +150,7 @@ typedef struct {
 } player;
 
 /* Takes what is there, and compares it. */
-static bool take_all(player *p) {
+static bool take_inboxes(player *p) {
     tl_beat beat;
     uint8_t lanes[MAX_LANES];
     bool some = false;
@@ -206,7 +206,7 @@ static void *play(void *argument) {
             some |= CALL(pump_client)(p->handle) + CALL(fetch_client)(p->handle) > 0;
         else
             some |= CALL(pump_manager)(p->handle) + CALL(fetch_manager)(p->handle) > 0;
-        some |= take_all(p);
+        some |= take_inboxes(p);
         if (!some) sched_yield();
     }
     return NULL;
@@ -233,7 +233,7 @@ static void in_two_threads(size_t ring) {
     /* nothing more comes */
     CHECK(CALL(pump_client)(&bridge.client) + CALL(fetch_client)(&bridge.client) == 0);
     CHECK(CALL(pump_manager)(&bridge.manager) + CALL(fetch_manager)(&bridge.manager) == 0);
-    CHECK(!take_all(&one) && !take_all(&other));
+    CHECK(!take_inboxes(&one) && !take_inboxes(&other));
     printf("rings of %zu: %zu far beats arrived, an offer waited %ld times\n", ring, arrived, one.waits + other.waits);
     free_both(&bridge);
 }
