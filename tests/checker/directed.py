@@ -187,7 +187,7 @@ CASES = [
                 for wrong in [response not in ANSWERS[request]]
                 for cycle in (
                     ({"A": Beat(opcode=number, size=2, source=5, address=0x1004, mask=0xF0)}, {"A"}, NONE, None),
-                    ({"D": replace(DATA, opcode=code)}, {"D"}, (0, 0, 0, 11 if wrong else 0), None),
+                    ({"D": replace(DATA, opcode=code)}, {"D"}, (0, 0, 0, 27 if wrong else 0), None),
                 )
             ],
         )
@@ -198,7 +198,7 @@ CASES = [
         Settings(MATCH_OPCODES=1, RESYNC_AFTER_FAULT=0),
         [
             ({"A": GET}, {"A"}, NONE, 0),
-            (both(OTHER, replace(DATA, opcode=2)), {"A", "D"}, (8, 0, 0, 11), 2),
+            (both(OTHER, replace(DATA, opcode=2)), {"A", "D"}, (8, 0, 0, 27), 2),
             ({"D": DATA}, {"D"}, NONE, 2),
         ],
     ),
@@ -207,7 +207,7 @@ CASES = [
         Settings(MATCH_OPCODES=1),
         [
             ({"A": GET}, {"A"}, NONE, 0),
-            (both(OTHER, replace(DATA, opcode=2)), {"A", "D"}, (0, 0, 0, 11), 1),
+            (both(OTHER, replace(DATA, opcode=2)), {"A", "D"}, (0, 0, 0, 27), 1),
             ({"D": DATA}, {"D"}, NONE, 1),
         ],
     ),

@@ -30,21 +30,21 @@ ANSWERS = {
     "AcquireBlock": ["Grant", "GrantData"],
     "AcquirePerm": ["Grant"],
 }
-FAULTS = (
-    "",
-    "Opcode",
-    "Param",
-    "Size",
-    "Unaligned",
-    "Mask",
-    "Corrupt",
-    "HeadChanged",
-    "SourceBusy",
-    "NoRequest",
-    "SizeMismatch",
-    "OpcodeMismatch",
-)
-NUMBER = {name: number for number, name in enumerate(FAULTS)}
+FAULTS = {
+    0: "",
+    1: "Opcode",
+    2: "Param",
+    3: "Size",
+    4: "Unaligned",
+    5: "Mask",
+    6: "Corrupt",
+    7: "HeadChanged",
+    8: "SourceBusy",
+    9: "NoRequest",
+    10: "SizeMismatch",
+    27: "OpcodeMismatch",
+}
+NUMBER = {name: number for number, name in FAULTS.items()}
 CHANNELS = "ABCD"
 
 
