@@ -12,7 +12,7 @@
 
 typedef struct {
     tl_beat beat;
-    uint8_t link, channel, lanes[TL_WIDEST];
+    uint8_t link, channel, lanes[TL_MAX_LANES];
 } record;
 
 static double now(void) {
@@ -46,7 +46,7 @@ static uint64_t pass(const record *records, size_t count, tlbridge_sides *bridge
     uint64_t failures = 0;
     tl_standings all;
     tl_beat beat;
-    uint8_t lanes[TL_WIDEST];
+    uint8_t lanes[TL_MAX_LANES];
     for (size_t i = 0; i < count; i++) {
         int channel = records[i].channel;
         if (tlbridge_from_client(channel) == (records[i].link == TL_CLIENT_LINK)) {

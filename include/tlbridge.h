@@ -105,7 +105,7 @@ enum {
 #define TL_INBOX 128
 
 /* The number of lanes of the widest link. */
-#define TL_WIDEST 128
+#define TL_MAX_LANES 128
 
 /* A source or a sink. */
 typedef uint16_t tl_id;

@@ -27,7 +27,7 @@ typedef struct {
     int channel;
     bool was_refused; /* it came as `original`; `beat` is the corrected beat, which waits */
     tl_beat original;
-    uint8_t lanes[TL_WIDEST];
+    uint8_t lanes[TL_MAX_LANES];
 } board_entry;
 
 /* `count` entries from `first` on, in a ring whose capacity is a power of two. */

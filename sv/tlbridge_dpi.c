@@ -116,7 +116,7 @@ READY_AND_CLOSE(d, TL_D)
 READY_AND_CLOSE(e, TL_E)
 
 /* Data has eight bits for each lane and a mask has one, lane 0 lowest, in words of 32 bits. */
-enum { DATA_WORDS = TL_WIDEST / 4, MASK_WORDS = TL_WIDEST / 32 };
+enum { DATA_WORDS = TL_MAX_LANES / 4, MASK_WORDS = TL_MAX_LANES / 32 };
 
 static uint64_t two_words(const svBitVecVal *words) {
     return words[0] | (uint64_t)words[1] << 32;
@@ -125,14 +125,14 @@ static uint64_t two_words(const svBitVecVal *words) {
 /* Offers a beat on a channel. `mask` and `data` are NULL if the channel does not have them. */
 static uint8_t offer(void *bridge, int x, tl_beat *beat, const svBitVecVal *mask, const svBitVecVal *data) {
     tlbridge_sides *b = (tlbridge_sides *)bridge;
-    uint8_t lanes[TL_WIDEST] = {0};
+    uint8_t lanes[TL_MAX_LANES] = {0};
     if (b->calls == NULL) return TL_NOT_OPEN;
     unsigned width = tlbridge_from_client(x) ? b->calls->client : b->calls->manager;
     if (mask != NULL) {
         beat->mask = two_words(mask);
         beat->mask_high = two_words(mask + 2);
     }
-    for (unsigned i = 0; data != NULL && i < TL_WIDEST; i++) {
+    for (unsigned i = 0; data != NULL && i < TL_MAX_LANES; i++) {
         lanes[i] = (uint8_t)(data[i / 4] >> (8 * (i % 4)));
         if (i >= width && lanes[i] != 0) return OTHER_WIDTH;
     }
@@ -142,7 +142,7 @@ static uint8_t offer(void *bridge, int x, tl_beat *beat, const svBitVecVal *mask
 /* Takes a far beat of a channel. Without one it returns 0 and writes zeros. */
 static svBit take(void *bridge, int x, tl_beat *beat, svBitVecVal *mask, svBitVecVal *data) {
     tlbridge_sides *b = (tlbridge_sides *)bridge;
-    uint8_t lanes[TL_WIDEST] = {0};
+    uint8_t lanes[TL_MAX_LANES] = {0};
     memset(beat, 0, sizeof *beat);
     bool some = b->calls != NULL && tlbridge_take_on(b, x, beat, lanes);
     for (int i = 0; mask != NULL && i < MASK_WORDS; i++) mask[i] = (svBitVecVal)((i < 2 ? beat->mask : beat->mask_high) >> (32 * (i % 2)));

@@ -96,7 +96,7 @@ static void compare(tl_scoreboard *board, int channel, const board_entry *came, 
     if (channel == TL_D) say_number(&line, "denied", 1, got->denied != 0, due->denied != 0);
     if (channel != TL_E) say_number(&line, "corrupt", 1, got->corrupt != 0, due->corrupt != 0);
     if (!is_same) {
-        bool compared[TL_WIDEST] = {false};
+        bool compared[TL_MAX_LANES] = {false};
         compared_lanes(board, channel, due, home_of(board, channel, due), compared);
         tl_board_say(&line, "; data got ");
         say_lanes(&line, came->lanes, compared, width);
@@ -240,7 +240,7 @@ static void leave_out(tl_scoreboard *board, int channel, const board_entry *near
 /* Skips a message that cannot be corrected. A request or a response goes through the bridge as another one without data, so that the bridge
  * has the same outstanding requests as the two links. */
 static void pass_over(tl_scoreboard *board, int channel, const board_entry *near) {
-    static const uint8_t no_lanes[TL_WIDEST];
+    static const uint8_t no_lanes[TL_MAX_LANES];
     tl_beat other = {.source = near->beat.source, .opcode = GET, .size = near->beat.size <= MOST_SIZE ? near->beat.size : MOST_SIZE};
     if (channel == TL_A) {
         other.address = near->beat.address & ~(((uint64_t)1 << other.size) - 1);
@@ -309,7 +309,7 @@ static void recover(tl_scoreboard *board, int channel, board_entry *near, uint8_
 /* Offers one beat for the rest of a truncated burst. Returns whether there was one to offer and the bridge was ready. */
 static bool fill_up(tl_scoreboard *board, int channel) {
     board_message *message = &board->messages[channel];
-    static const uint8_t no_lanes[TL_WIDEST];
+    static const uint8_t no_lanes[TL_MAX_LANES];
     if (message->fill == 0 || !is_ready(board, channel)) return false;
     tl_beat filler = message->head, head = message->head;
     filler.mask = filler.mask_high = UINT64_MAX;
@@ -373,7 +373,7 @@ static bool is_due_next(const tl_scoreboard *board, int channel, const tl_beat *
 static bool is_passed_over(tl_scoreboard *board, int channel, board_expected *next) {
     board_queue *far = &board->far[channel];
     tl_beat due;
-    uint8_t lanes[TL_WIDEST];
+    uint8_t lanes[TL_MAX_LANES];
     if (next->is_due && !take(board, channel, &due, lanes)) return false;
     next->is_due = false;
     for (; next->most > 0 && far->count > 0; next->most--, tl_board_queue_drop(far)) {
@@ -389,7 +389,7 @@ static bool judge(tl_scoreboard *board, int channel) {
     board_queue *far = &board->far[channel];
     bool moved = false;
     tl_beat due;
-    uint8_t lanes[TL_WIDEST];
+    uint8_t lanes[TL_MAX_LANES];
     for (board_expected *next; (next = next_expected(board, channel)) != NULL; moved = true) {
         if (!next->is_judged) {
             if (!is_passed_over(board, channel, next)) break;
@@ -511,7 +511,7 @@ void tl_scoreboard_reset(tl_scoreboard *board, int link, bool asserted, uint64_t
 
 static void not_come(tl_scoreboard *board, int channel) {
     tl_beat due, first = {0};
-    uint8_t lanes[TL_WIDEST];
+    uint8_t lanes[TL_MAX_LANES];
     uint64_t count = 0;
     for (board_expected *next; (next = next_expected(board, channel)) != NULL; drop_expected(board, channel)) {
         if (next->is_due && !take(board, channel, &due, lanes)) break;
@@ -713,7 +713,7 @@ static uint64_t bits_of(double time) {
 void tlbridge_scoreboard_beat(void *board, uint8_t link, uint8_t channel, double time, uint8_t opcode, uint8_t param, uint8_t size, uint16_t source,
                          uint16_t sink, uint64_t address, uint8_t denied, uint8_t corrupt, const uint32_t *mask, const uint32_t *data) {
     tl_beat beat = {0};
-    uint8_t lanes[TL_WIDEST];
+    uint8_t lanes[TL_MAX_LANES];
     beat.address = address;
     beat.mask = mask[0] | (uint64_t)mask[1] << 32;
     beat.source = source;
@@ -724,7 +724,7 @@ void tlbridge_scoreboard_beat(void *board, uint8_t link, uint8_t channel, double
     beat.denied = denied;
     beat.corrupt = corrupt;
     beat.mask_high = mask[2] | (uint64_t)mask[3] << 32;
-    for (int lane = 0; lane < TL_WIDEST; lane++) lanes[lane] = (uint8_t)(data[lane / 4] >> (8 * (lane % 4)));
+    for (int lane = 0; lane < TL_MAX_LANES; lane++) lanes[lane] = (uint8_t)(data[lane / 4] >> (8 * (lane % 4)));
     tl_scoreboard_beat(board, link, (char)channel, bits_of(time), &beat, lanes);
 }
 

@@ -35,7 +35,7 @@ static uint64_t beats_of_message(int x, const tl_beat *head, unsigned width) {
 
 typedef struct {
     tl_beat beat;
-    uint8_t lanes[TL_WIDEST];
+    uint8_t lanes[TL_MAX_LANES];
     bool begins; /* a message */
 } far_beat;
 
@@ -91,10 +91,10 @@ static bool mask_bit(const tl_beat *beat, unsigned lane) {
 }
 
 static bool mask_fits(int x, const tl_beat *head, const tl_beat *beat, uint64_t home, unsigned width) {
-    bool active[TL_WIDEST] = {false}, partial = head->opcode == 1;
+    bool active[TL_MAX_LANES] = {false}, partial = head->opcode == 1;
     if (x > TL_B) return true;
     for (uint64_t i = 0; i < bytes_per_beat(head, width); i++) active[(home + i) % width] = true;
-    for (unsigned lane = 0; lane < TL_WIDEST; lane++)
+    for (unsigned lane = 0; lane < TL_MAX_LANES; lane++)
         if (partial ? mask_bit(beat, lane) && !active[lane] : mask_bit(beat, lane) != active[lane]) return false;
     return true;
 }

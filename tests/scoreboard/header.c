@@ -35,7 +35,7 @@ AT(tl_answer, impl, 24);
 AT(tl_answer, is_open, 32);
 AT(tl_answer, all_done, 33);
 static_assert(sizeof(tl_beat) == 40 && sizeof(tl_standings) == 120 && sizeof(tl_text) == 160 && sizeof(tl_answer) == 40, "sizes");
-static_assert(TL_MAX_RING == 4096 && TL_WIDEST == 128, "limits");
+static_assert(TL_MAX_RING == 4096 && TL_MAX_LANES == 128, "limits");
 static_assert(TL_CLIENT_LINK == 0 && TL_MANAGER_LINK == 1 && TL_COMPARE_UNMASKED == 1 && TL_ALLOW_NO_BEATS == 2, "the scoreboard's numbers");
 
 TLBRIDGE(8, 4)
@@ -116,11 +116,11 @@ static bool sees_each_place(void) {
 
 /* Whether a mask has the lanes that were added, and no others. */
 static bool has_each_lane(void) {
-    for (unsigned lane = 0; lane < TL_WIDEST; lane++) {
+    for (unsigned lane = 0; lane < TL_MAX_LANES; lane++) {
         tl_beat beat;
         memset(&beat, 0, sizeof beat);
         tl_mask_add(&beat, lane);
-        for (unsigned other = 0; other < TL_WIDEST; other++)
+        for (unsigned other = 0; other < TL_MAX_LANES; other++)
             if (tl_mask_has(&beat, other) != (other == lane)) return false;
         if (beat.mask != (lane < 64 ? (uint64_t)1 << lane : 0) || beat.mask_high != (lane < 64 ? 0 : (uint64_t)1 << (lane - 64))) return false;
     }

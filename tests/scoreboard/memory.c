@@ -54,7 +54,7 @@ static unsigned read_lines(tl_scoreboard *board) {
 
 /* Hundreds of beats, far ones first, some of them wrong unless the traffic is lawful; a refused one; a reset of one link with beats of the other; and an end. */
 static void beats(tl_scoreboard *board, bool is_lawful) {
-    uint8_t lanes[TL_WIDEST] = {0};
+    uint8_t lanes[TL_MAX_LANES] = {0};
     for (unsigned i = 0; i < 300; i++) {
         tl_beat ack = {.sink = (tl_id)i};
         tl_scoreboard_beat(board, TL_MANAGER_LINK, 'E', i, &ack, NULL);

@@ -297,7 +297,7 @@ static void refusals(void) {
     client_handle *client = &bridge.client;
     manager_handle *manager = &bridge.manager;
     uint8_t lanes[MAX_LANES] = {0};
-    CHECK(open_both(&bridge, TL_WIDEST) == TL_OK);
+    CHECK(open_both(&bridge, TL_MAX_LANES) == TL_OK);
     /* a PutFullData of two near beats */
     uint8_t size = 1;
     while (1 << size < 2 * CLIENT) size++;
@@ -322,7 +322,7 @@ static void refusals(void) {
     CHECK(offer_a(client, &put, lanes) == TL_NOT_READY);
     CHECK(close_a(client) == TL_OK && !ready_a(client));
 
-    CHECK(open_both(&bridge, TL_WIDEST) == TL_OK);
+    CHECK(open_both(&bridge, TL_MAX_LANES) == TL_OK);
     tl_beat response = {.size = size, .source = 7};
     CHECK(offer_d(manager, &response, lanes) == TL_NO_REQUEST);
     CHECK(offer_a(client, &put, lanes) == TL_OK);
@@ -393,7 +393,7 @@ static void last_lanes(both_sides *bridge) {
     for (int x = A; x <= B; x++) {
         int near_last = near_width[x] - 1, far_last = far_width[x] - 1;
         /* PutPartialData of the byte at an address that has the last lane of every width */
-        tl_beat put = {.opcode = 1, .source = 0x0011, .address = TL_WIDEST - 1}, beat;
+        tl_beat put = {.opcode = 1, .source = 0x0011, .address = TL_MAX_LANES - 1}, beat;
         tl_mask_add(&put, (unsigned)near_last);
         for (int lane = near_width[x]; lane < MAX_LANES; lane++) {
             beat = put;
@@ -476,7 +476,7 @@ static void meetings(void) {
             /* nothing more can move: the ring is empty, or the inbox is full */
             CHECK(CALL(settle)(client, manager, &all) == TL_OK);
             size_t waiting = staged + in_ring + inbox;
-            inbox = waiting < TL_WIDEST ? waiting : TL_WIDEST;
+            inbox = waiting < TL_MAX_LANES ? waiting : TL_MAX_LANES;
             in_ring = waiting - inbox < 4 ? waiting - inbox : 4;
             staged = waiting - inbox - in_ring;
             CHECK(all.e.staged == staged && all.e.in_ring == in_ring && all.e.inbox == inbox);
@@ -556,7 +556,7 @@ static void random_calls(int count) {
             bool pumps = what % 2;
             moved = pumps ? CALL(pump_client)(&bridge->client) + CALL(pump_manager)(&bridge->manager)
                           : CALL(fetch_client)(&bridge->client) + CALL(fetch_manager)(&bridge->manager);
-            CHECK(moved <= (size_t)5 * TL_WIDEST);
+            CHECK(moved <= (size_t)5 * TL_MAX_LANES);
             if (standings(bridge, &after)) {
                 for (int y = A; y < CHANNELS; y++) {
                     tl_counts b = counts_of(&before, y), a = counts_of(&after, y);

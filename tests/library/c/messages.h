@@ -30,7 +30,7 @@ enum { A, B, C, D, E, CHANNELS };
 static const int near_width[] = {CLIENT, MANAGER, CLIENT, MANAGER, CLIENT};
 static const int far_width[] = {MANAGER, CLIENT, MANAGER, CLIENT, MANAGER};
 
-enum { MAX_LANES = TL_WIDEST, MAX_BYTES = 4096 };
+enum { MAX_LANES = TL_MAX_LANES, MAX_BYTES = 4096 };
 
 /* A message, and its layout at a width: docs/SPECIFICATION.md, sections 3 and 4, over the home of its bytes. */
 typedef struct {
