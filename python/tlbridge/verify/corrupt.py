@@ -25,9 +25,11 @@ def _bytes_of(lines: List[str], width: int) -> Iterator[_Byte]:
     address, left = {"A": 0, "D": 0}, {"A": 0, "D": 0}
     for at, line in enumerate(lines):
         channel = line[0]
-        if channel not in "AD" or is_unknown(line):
+        if channel not in "AD":
             continue
         values = values_of(line)
+        if any(is_unknown(values.get(name, "")) for name in ("opcode", "size", "source", "address")):
+            continue  # it has another mistake. Unknown data are no mistake in a corrupt beat, which still has its place
         opcode, size = int(values["opcode"], 16), int(values["size"], 16)
         beats = beat_count(channel, opcode, size, width)
         if left[channel] == 0:
@@ -44,9 +46,9 @@ def _bytes_of(lines: List[str], width: int) -> Iterator[_Byte]:
         if opcode not in ((0, 1) if channel == "A" else (1,)):
             continue
         is_bad = values["corrupt"] != "0" or values.get("denied", "0") != "0"
-        mask = int(values["mask"], 16) if channel == "A" else -1
+        mask = -1 if channel == "D" else 0 if is_unknown(values["mask"]) else int(values["mask"], 16)
         for lane, value in enumerate(lanes_of(values["data"])):
-            if mask >> lane & 1 and first <= base + lane < first + (1 << size):
+            if mask >> lane & 1 and first <= base + lane < first + (1 << size) and not is_unknown(value):
                 yield _Byte(channel, (base + lane, value), is_bad, at)
 
 
