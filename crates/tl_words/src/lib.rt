@@ -72,11 +72,11 @@ fn run_command<'a>(alloc: Global) -> Result<Command<'a>, AllocError>
     ensures { IfOk result (HasShape run_shape) }
 {
     let ring =
-        "Number of beats that the ring of each channel holds, 1 to 4096; does not change the answer";
+        "Number of beats that the ring of each channel holds, 1 to 4096; the output does not depend on it";
     let turns =
-        "Number of turns of each side between two meetings of the threads, 1 to 1000; does not change the answer";
+        "Number of turns of each side between two meetings of the threads, 1 to 1000; the output does not depend on it";
     let about =
-        "Prints the beats that arrive across the bridge, and a report line for each channel. Each side runs in its own thread. On a long trace, use --turns 1000 --ring 4096: the defaults are slow.";
+        "Prints the beats that arrive across the bridge, and a report line for each channel. Each side runs in its own thread. On a long trace, use --sync, which is faster.";
     let arguments = vec![in alloc;
         number_option(alloc, "ring", "16", ring),
         number_option(alloc, "turns", "4", turns),

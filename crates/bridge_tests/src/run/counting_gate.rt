@@ -1,4 +1,5 @@
-//! A gate that counts its calls: a run in two threads calls each gate once in each round.
+//! A gate that counts its calls: a run in two threads calls each gate as many times as there
+//! are rounds.
 #![tactic(auto, using(tl_lanes::proofs::Widths::width_4))]
 
 ghost use Rattle.std.specs.Prelude.{◌≡◌, ◌<◌, IsOkAnd, IfSome};
@@ -51,7 +52,7 @@ fn rounds_in(ended: &Result<Outcome<4, 4>, RunFault>) -> Option<u64>
 /// client's gate and the manager's were called.
 fn count_calls<R: Threads>(rt: &R, alloc: Global, script: &Script<4, 4>) -> Option<(u64, u64, u64)>
     requires short { HasShortLists script.now }
-    // each gate was called once in each round
+    // each gate was called as many times as there were rounds
     ensures counts { IfSome result (λ n. (n.1 ≡ n.0) × (n.2 ≡ n.0)) }
 {
     let mut client = CountingGate { calls: 0 };
@@ -85,7 +86,7 @@ fn count_short<R: Threads>(
 
 /// Two requests by one source and two responses take more than one round.
 #[test]
-fn each_gate_is_called_once_in_each_round(rt: HostRuntime) {
+fn each_gate_is_called_once_for_each_round(rt: HostRuntime) {
     let mut script = empty::<4, 4>(rt.alloc());
     let is_made = use_twice(&mut script);
     let counts = count_short(&rt, rt.alloc(), &script);
