@@ -43,7 +43,8 @@ pub fn use_twice(script: &mut Script<4, 4>) -> bool {
     asks.is_ok() & script.d.extend_from_slice(&answers).is_ok()
 }
 
-/// Returns whether neither side waits in vain, and each calls its gate as many times as there are rounds.
+/// Returns whether neither side waits in vain, and each calls its gate as many times as there are
+/// rounds.
 fn meet_in_each_round<R: Threads>(rt: &R, alloc: Global, script: &Script<4, 4>) -> bool {
     let there = AtomicU64::new(0);
     let back = AtomicU64::new(0);
