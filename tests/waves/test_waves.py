@@ -19,7 +19,7 @@ from project import ROOT, needs_program
 from small_waves import LOW, Wave, simple
 from tlbridge import run as runs
 from tlbridge.flow import LinkFlow
-from tlbridge.waves import command, links, page, vcd
+from tlbridge.waves import chosen, command, links, page, vcd
 from tlbridge.waves.sampling import active_lanes, hexadecimal
 
 NEAR = ["tilelink-trace 1 client 8 manager 4", LOW, "D 1 0 2 07 00 0 ddccbbaa 0"]
@@ -1006,7 +1006,7 @@ class Malformed(Case):
         text = simple().text().encode()
         for good in (10, len(text) - 50):
             with self.subTest(good=good), mock.patch.object(
-                command, "open_wave", return_value=(io.BufferedReader(Failing(text[:good])), None, 0)
+                chosen, "open_wave", return_value=(io.BufferedReader(Failing(text[:good])), None, 0)
             ):
                 self.assertEqual(
                     self.refused(text, "", "--client", "in", "--manager", "out", status=4).splitlines()[-1],
@@ -1928,7 +1928,7 @@ class Page(Case):
 
     def test_no_program(self):
         """It is missed before the dump is read."""
-        with mock.patch.object(command, "open_wave", side_effect=AssertionError):
+        with mock.patch.object(chosen, "open_wave", side_effect=AssertionError):
             for words in ((str(self.folder / "none"),), (str(self.folder),), ("no-such-tlexplain",)):
                 self.refused(
                     "",
