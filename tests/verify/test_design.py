@@ -1,5 +1,7 @@
 """The links that the reader of ports finds in small designs, and what it says of those that it cannot use."""
 
+import re
+import subprocess
 from pathlib import Path
 from typing import Dict, Tuple
 
@@ -7,6 +9,8 @@ import pytest
 from project import EXAMPLES, RTL, needs_tools
 
 from tlbridge.verify.design import Choice, Design, DesignError, Signal, Source, described, read_design, read_file_list
+from tlbridge.verify.plain import plain
+from tlbridge.verify.skew import skewed
 
 pytestmark = pytest.mark.simulator
 A = "opcode:3 size:2 source:2 address:16 mask:{lanes} data:{bits}"
@@ -244,3 +248,158 @@ def test_the_designs_of_this_project() -> None:
     files = tuple(str(path) for path in sorted(RTL.glob("tl_*.sv")))
     design = read_design(Source("tl_bridge_rocket", files))
     assert design.client and design.level == "C" and design.has_two_clocks and design.client.name == "auto_in"
+
+
+# ---- what yosys gets
+
+
+def dense(text: str) -> str:
+    """A text without spaces."""
+    return "".join(text.split())
+
+
+HEAD = "function automatic logic [3:0] f(input logic [3:0] x);"
+FORMS = {
+    "return": (f"{HEAD} return x + 1; endfunction : f", f"{HEAD} f = x + 1 ; endfunction"),
+    "an early one": (
+        f"{HEAD} if (x < 2) return x; x = x + 1; return 3; endfunction",
+        f"{HEAD} if (x < 2) begin f = x ; end else begin x = x + 1; f = 3 ; end endfunction",
+    ),
+    "one in each branch": (
+        f"{HEAD} if (x == 1) begin return 2; end else return 3; endfunction",
+        f"{HEAD} if (x == 1) begin begin f = 2 ; end end else begin f = 3 ; end endfunction",
+    ),
+    "a case without a default": (
+        f"{HEAD} case (x) 1, 2: return 7; 3: x = 4; endcase return x; endfunction",
+        f"{HEAD} case (x) 1, 2 : begin f = 7 ; end 3 : begin x = 4; f = x ; end default : begin f = x ; end endcase"
+        " endfunction",
+    ),
+    "a loop before it": (
+        f"{HEAD} for (int i = 0; i < 4; i++) x = x + i; return x; endfunction",
+        f"{HEAD} for (int i = 0; i < 4; i++) begin x = x + i; end f = x ; endfunction",
+    ),
+    "one in a loop stays": (
+        f"{HEAD} for (int i = 0; i < 4; i++) if (x[i]) return i; return 0; endfunction",
+        f"{HEAD} for (int i = 0; i < 4; i++) if (x[i]) return i; return 0; endfunction",
+    ),
+    "no value": (
+        "function automatic void f(input logic x); y = x; endfunction",
+        "task automatic f(input logic x); y = x; endtask",
+    ),
+    "a first value": (
+        f"{HEAD} logic [3:0] k = x + 1; return k; endfunction",
+        f"{HEAD} logic [3:0] k ; k = x + 1; f = k ; endfunction",
+    ),
+    "a local variable": (
+        "always_comb begin automatic int i; automatic logic t = d; q = t; end",
+        "always_comb begin int i; logic t ; t = d; q = t; end",
+    ),
+    "a package": (
+        "package p; localparam N = 3; endpackage : p\n"
+        "module m import p::*; (input a); import p::N; assign b = p::N + N;",
+        "localparam N = 3; module m (input a); assign b = N + N;",
+    ),
+    "a foreign package stays": ("module m import q::*; (input a);", "module m import q::*; (input a);"),
+    "inside": ("assign y = r.op[1] inside {4'd1, N};", "assign y = (r.op[1] == (4'd1 ) || r.op[1] == ( N ) );"),
+    "inside a range stays": ("assign y = x inside {[1:3]};", "assign y = x inside {[1:3]};"),
+    "an array whose indices choose stays": (
+        "module m; logic [1:0][3:0] a; assign b = a[c ? 1 : 0]; endmodule",
+        "module m; logic [1:0][3:0] a; assign b = a[c ? 1 : 0]; endmodule",
+    ),
+    "a pattern of zeros": ("s = '{default: '0}; t = '{default: 1};", "s = '0; t = '{default: 1};"),
+    "unique if": (
+        "always_comb unique if (a) b = 1; unique case (a) 1: b = 0; endcase",
+        "always_comb if (a) b = 1;" " unique case (a) 1: b = 0; endcase",
+    ),
+    "assertions": (
+        'x: assert property (@(posedge c) disable iff (r) a |-> b) else $error("no"); assert (a); cover property (b);'
+        " property p; a; endproperty b = 1;",
+        "assert (a); b = 1;",
+    ),
+    "text and comments": (
+        '/* return */ s = "return // x"; // import p::*;\n c <= d >>> 2;',
+        '/* return */ s = "return // x"; // import p::*;\n c <= d >>> 2;',
+    ),
+}
+
+
+@pytest.mark.parametrize("case", FORMS)
+def test_forms_that_yosys_does_not_read(case: str) -> None:
+    """Each is replaced by one that means the same, in the copy that yosys gets, or stays as it is."""
+    before, after = FORMS[case]
+    assert dense(plain(before)) == dense(after)
+
+
+EARLY = """package p; localparam N = 3;
+  function automatic logic [3:0] twice(input logic [3:0] x); return x + x; endfunction
+endpackage
+module dut import p::*; (input logic [3:0] d, output logic [3:0] q);
+  function automatic logic [3:0] f(input logic [3:0] x, input logic z);
+    logic [3:0] k = 4'd1;
+    if (x == 4'd2) return 4'd9;
+    if (x inside {4'd3, 4'd4}) begin k = k + 4'd1; if (z) return k; k = k + 4'd2; end
+    unique case (x) 4'd5, 4'd6: return 4'd1; 4'd7: k = 4'd7; default: if (z) return 4'd2; else k = k + 4'd3; endcase
+    for (int i = 0; i < 2; i++) k = k + 4'd1;
+    return k + p::N;
+  endfunction
+  assign q = f(twice(d) >> 1, d[0]);
+endmodule
+"""
+
+
+ARRAYS = """module dut #(parameter W = 4) (input logic [3:0] d, output logic [3:0] q);
+  logic [1:0][W-1:0] s, u;
+  logic [2:0][1:0] v;
+  assign s[0] = d;
+  assign s[1] = {s[0][2:0], s[0][3]};
+  always_comb begin for (int i = 0; i < 2; i++) u[i] = s[1 - i]; end
+  assign v = {2'd1, 2'd2, 2'd3};
+  assign q = u[d[0]] ^ {2'd0, v[d[1]]};
+endmodule
+"""
+# By text, the value of q for each value of d from 0 on.
+COMPUTED = {"functions": (EARLY, [9, 2, 9, 2, 12, 1, 1, 12, 9]), "arrays": (ARRAYS, [3, 2, 6, 1, 11, 6, 14, 5])}
+
+
+@pytest.mark.parametrize("case", COMPUTED)
+def test_rewritten_text_computes_the_same(tmp_path: Path, case: str) -> None:
+    needs_tools("yosys")
+    text, values = COMPUTED[case]
+    (tmp_path / "plain.sv").write_text(plain(text))
+    steps = "".join(f"eval -set d {d} -show q; " for d in range(len(values)))
+    words = f"read_verilog -sv {tmp_path / 'plain.sv'}; hierarchy -auto-top; proc; flatten; opt; {steps}"
+    done = subprocess.run(["yosys", "-p", words], capture_output=True, text=True, check=True)
+    assert [int(bits, 2) for bits in re.findall(r"Eval result: \\q = 4'([01]+)", done.stdout)] == values
+
+
+CROSSING = """module dut(input clock, reset, fast, input [7:0] d, output reg [7:0] q, output y);
+  function automatic logic [3:0] gray(input logic [3:0] b); return b ^ (b >> 1); endfunction
+  reg [3:0] g, g1, g2, h1; reg [15:0] word, wide;
+  always @(posedge clock) begin g <= gray(d[3:0]); word <= {d, d}; end
+  always @(posedge fast) begin g1 <= g; g2 <= g1; h1 <= {3'd0, g[0]}; wide <= word; q <= {g2, 4'd0} ^ {4'd0, READ}
+    ^ wide[15:8]; end
+  assign y = LONE;
+endmodule
+"""
+
+
+def test_flip_flops_alone_between_two_clocks(tmp_path: Path) -> None:
+    """A bit that crosses is read after two of them. Words that are wider than a pointer are taken for data."""
+    needs_tools("yosys", "verilator")
+    for name, lone_bit, read, expected in (
+        ("two", "g2[0]", "g2", []),
+        ("one", "h1[0]", "g2", ["h1"]),
+        ("pointer", "g2[0]", "g1", ["g1"]),
+    ):
+        path = tmp_path / f"{name}.sv"
+        path.write_text(CROSSING.replace("LONE", lone_bit).replace("READ", read))
+        design = Design(Source("dut", (str(path),)), {})
+        _, bits, single = skewed(design, tmp_path)
+        assert single == expected and bits >= 4 + 16, name
+
+
+def test_what_yosys_cannot_read_at_all(tmp_path: Path) -> None:
+    needs_tools("yosys", "verilator")
+    (tmp_path / "design.sv").write_text("module dut(input a, output b); assign b = {<<{a}}; endmodule\n")
+    with pytest.raises(DesignError, match="yosys cannot read the design: .*design.sv:1: ERROR"):
+        skewed(Design(Source("dut", (str(tmp_path / "design.sv"),)), {}), tmp_path)

@@ -42,6 +42,8 @@ def test_the_trial(design: str, bug: int) -> None:
     result = trial.played(design, bug)
     print(trial.line_of(result))
     assert result.is_right, trial.line_of(result)
+    is_under = bug in trial.UNDER.get(design, ())
+    assert result.status == int(bug > 0 and not is_under) and (result.conditions or not is_under)
 
 
 @pytest.mark.parametrize("is_async", [0, 1])

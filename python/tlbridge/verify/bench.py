@@ -147,9 +147,10 @@ class Bench:
             f" {side} ("
         )
         beats = ", ".join(f".{way}_{number}({side}_{way}_{number})" for way in "sr" for number in range(5))
+        other = next((f"{name}_reset" for name in self.sides if name != side), "1'b0")
         self.say(
-            f"        .clock({self.clock_of[side]}), .reset({side}_hold), .s_valid({side}_sv), .s_ready({side}_sr),"
-            f" {beats},"
+            f"        .clock({self.clock_of[side]}), .reset({side}_hold), .other_reset({other}),"
+            f" .s_valid({side}_sv), .s_ready({side}_sr), {beats},"
         )
         self.say(f"        .r_valid({side}_rv), .r_ready({side}_rr), .moves({side}_moves), .works({side}_works));")
         self.judges(side)
@@ -280,21 +281,21 @@ class Bench:
             self.say(f"        forever begin #({name}_half) {clock} = 1; #({name}_half) {clock} = 0; end end")
         cycles = 40 if self.has_two else 5
         first, last = self.clock_of[self.sides[0]], self.clock_of[self.sides[-1]]
-        self.say("    integer reset_at;")
+        self.say("    integer reset_at, at_once;")
         self.say('    initial if (!$value$plusargs("reset_at=%d", reset_at)) reset_at = 0;')
+        self.say('    initial if (!$value$plusargs("at_once=%d", at_once)) at_once = 0;  // no pause after a reset')
         for side in self.sides:
             clock = self.clock_of[side]
             wait = f"repeat ({cycles}) @(posedge {first}); repeat ({cycles}) @(posedge {last});"
+            pause = f"if (at_once == 0) begin {wait} @(negedge {clock}); end"
             self.say(f"    initial begin {wait} @(negedge {clock}) {side}_reset = 0;")
-            self.say(
-                f'        {wait} @(negedge {clock}) {side}_hold = 0; $fwrite({side}.log, "9 %0d\\n", {side}.cycle);'
-            )
+            self.say(f'        {pause} {side}_hold = 0; $fwrite({side}.log, "9 %0d\\n", {side}.cycle);')
             self.say(
                 f"        if (reset_at != 0) begin wait ({self.sides[0]}.cycle >= reset_at); @(negedge {clock})"
                 f" {side}_reset = 1; {side}_hold = 1;"
             )
             self.say(f'        {wait} @(negedge {clock}) {side}_reset = 0; $display("VERIFY reset %0t", $time);')
-            self.say(f"        {wait} @(negedge {clock}) {side}_hold = 0; end end")
+            self.say(f"        {pause} {side}_hold = 0; end end")
 
     def end(self) -> None:
         self.say("    // ---- the end")

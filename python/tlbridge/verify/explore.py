@@ -43,6 +43,7 @@ class Explorer:
         self.width = design.client.width
         self.address_bits = design.client.bits("address")
         self.word = self.width.bit_length() - 1
+        self.far = 0  # an address above the window at which it answers, though it denies what is between
 
     def responses(self, script: Sequence[Message]) -> List[Pair]:
         """Plays single beats one after the other. Returns the fields of each, with those of its response."""
@@ -92,6 +93,7 @@ class Explorer:
         most = next((step for step in steps if base + step in tried and base + step not in held), 0)
         if not most:
             return None if base == 0 else ((base, PLAIN), 0)
+        self.far = next((place for place in found if place >= base + 2 * most), 0)
         return (base, min(2 * most, (1 << self.address_bits) - base)), most
 
     def atomics(self, base: int) -> List[str]:
@@ -149,6 +151,18 @@ def rules_out_atomics(files: Sequence[str]) -> bool:
     return any(_NO_ATOMICS.search(comment) for comment in _comments(files))
 
 
+def stated_bits(files: Sequence[str]) -> Tuple[int, ...]:
+    """Returns the address bits from 12 on that a design looks at one by one, as in `a_address[12]`."""
+    found = set()
+    for name in files:
+        try:
+            text = Path(name).read_text(errors="replace")
+        except OSError:
+            continue
+        found |= {int(digits) for digits in re.findall(r"addr\w*\s*\[\s*(\d+)\s*\]", text, re.I)}
+    return tuple(sorted(bit for bit in found if 12 <= bit < 64))
+
+
 def stated_largest(files: Sequence[str]) -> Optional[int]:
     """Returns the largest message that a comment of a design speaks of, as in `messages of up to 64 bytes`, since the
     width of the size field does not tell it. None: no comment does."""
@@ -190,7 +204,7 @@ def explored(
     explorer = Explorer(design, simulation, room)
     try:
         if finds_window and (found := explorer.window()):
-            limits = replace(limits, window=found[0], held=found[1])
+            limits = replace(limits, window=found[0], held=found[1], far=explorer.far)
         if finds_kinds and limits.window and not set(limits.kinds) & set(_PARAMS):
             limits = replace(limits, kinds=(*limits.kinds, *explorer.atomics(limits.window[0])))
     except DesignError:

@@ -36,6 +36,7 @@ class Reference:
         self.runs = 0
         self.is_steady = True  # the calm runs wrote the same
         self.goes_on = True  # no calm run ended because the host stopped
+        self.first: Set[str] = set()  # the first requests of the calm runs
 
     @property
     def is_used(self) -> bool:
@@ -53,6 +54,7 @@ class Reference:
         """Adds a calm run."""
         written = self._written(run, beats)
         self.runs += 1
+        self.first |= {self._head(line) for line in beats.of("manager", "A")[:1]}
         self.goes_on &= not written.is_silent
         for address, found in written.values.items():
             known = self.values.setdefault(address, [])
@@ -62,8 +64,9 @@ class Reference:
 
     def problems(self, run: Run, beats: Beats) -> List[Problem]:
         """Returns the first byte that differs from the calm runs, or that the host has stopped."""
-        if not self.is_used:
-            return []
+        wrong_first = self._wrong_first(run, beats)
+        if wrong_first or not self.is_used:
+            return wrong_first
         written = self._written(run, beats)
         wrong = []
         for address, found in written.values.items():
@@ -82,6 +85,25 @@ class Reference:
             words = "the host has stopped, with nothing outstanding, and goes on in runs without stalls"
             return [Problem("hang", "", words, run.time)]
         return []
+
+    @staticmethod
+    def _head(line: str) -> str:
+        """A request without its source: all that it asks for."""
+        return f"{name_of(line).partition(', source')[0]} at 0x{values_of(line)['address'].lstrip('0') or '0'}"
+
+    def _wrong_first(self, run: Run, beats: Beats) -> List[Problem]:
+        """After a reset, a host begins as it did in all calm runs: nothing has come yet that may differ."""
+        lines = beats.of("manager", "A")[:1]
+        if run.reset_time < 0 or self.runs < len(REFERENCES) or len(self.first) != 1:
+            return []
+        if not lines or is_unknown(lines[0]):
+            return []
+        (expected,), got = self.first, self._head(lines[0])
+        if got == expected:
+            return []
+        beat = Beat(beats.times_of("manager", "A")[0], "manager", lines[0])
+        words = f"manager link: the first request after a reset is {got}, and in runs without one {expected}"
+        return [Problem("memory", "A", words, beat.time, beat=beat)]
 
     def _written(self, run: Run, beats: Beats) -> _Written:
         """Returns what a run wrote until a value may depend on time: after a denied or corrupt response, after a

@@ -296,6 +296,7 @@ class Rules:
 
     is_bridge: bool  # the far beats of each link follow from the near beats of both
     is_memory: bool  # reads on the link to the client return what was written
+    strict: Tuple[str, ...] = ()  # the rules of verify/strict.py that count as mistakes
 
 
 class Judge:
@@ -329,6 +330,8 @@ class Judge:
                 found += corrupt_problems(self.design, beats)
         if self.reference is not None:
             found += self.reference.problems(run, beats)
+        if self.rules.strict:
+            found += [problem for name, problem in self.broken_rules(beats).items() if name in self.rules.strict]
         if run.hang:
             found.append(Problem("hang", "", f"hang: {run.hang.rstrip(',:')}", run.time))
         # a hang comes after all others; of two at one time, the wrong beat says more than the rule that it breaks
@@ -336,6 +339,12 @@ class Judge:
         rank = {"wrong": 0, "unknown": 0, "invented": 1}
         found.sort(key=lambda problem: (group.get(problem.kind, 0), problem.time, rank.get(problem.kind, 2)))
         return found
+
+    def broken_rules(self, beats: Beats) -> Dict[str, Problem]:
+        """Returns the first beat that breaks a strict rule, by the name of the rule."""
+        from .strict import broken_rules
+
+        return {} if self.rules.is_bridge else broken_rules(self.design, beats)
 
     @staticmethod
     def _complaint(time: int, side: str, channel: str, words: str) -> Problem:

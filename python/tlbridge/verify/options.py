@@ -19,7 +19,7 @@ from .traffic import KINDS
 
 STATUSES = """
 exit status:
-  0  no mistake was found, and each kind of message that should pass has arrived
+  0  no mistake was found, and each kind of message that should pass has arrived; conditions do not change this
   1  a mistake; or some kind of message never arrived, so that the design is not called right
   2  a wrong command line, or two readings of the ports are possible: the message names the option that decides
   3  the design does not compile, or has a combinational loop
@@ -105,7 +105,17 @@ def arguments() -> argparse.ArgumentParser:
         help="no side refuses beats because it has work on a channel of higher priority",
     )
     traffic.add_argument("--no-reset", action="store_true", help="no reset while messages are under way")
-    traffic.add_argument("--same-cycle", action="store_true", help="also responses in the cycle of their request")
+    traffic.add_argument(
+        "--same-cycle",
+        action="store_true",
+        help="also answers in the cycle of their request [only tried at the end, which changes no verdict]",
+    )
+    traffic.add_argument("--no-same-cycle", action="store_true", help="answers in the cycle of a request are not tried")
+    traffic.add_argument(
+        "--after-reset",
+        action="store_true",
+        help="also requests in the first cycles after a reset [only tried at the end, which changes no verdict]",
+    )
     traffic.add_argument("--withdraw", action="store_true", help="also a valid that falls before ready")
     traffic.add_argument(
         "--skew",
@@ -125,6 +135,15 @@ def arguments() -> argparse.ArgumentParser:
     judging.add_argument("--no-memory", action="store_true", help="reads need not return what was written")
     judging.add_argument(
         "--may-withdraw", action="store_true", help="the design may take back a valid, or change a beat, before ready"
+    )
+    judging.add_argument(
+        "--denied-is-corrupt", action="store_true", help="denied data that are not corrupt are a mistake of a device"
+    )
+    judging.add_argument(
+        "--corrupt-stays", action="store_true", help="data that a host read as corrupt must not be written as good data"
+    )
+    judging.add_argument(
+        "--copies-all", action="store_true", help="a host that copies memory must not write anything else in between"
     )
     running = words.add_argument_group("running")
     running.add_argument("--simulator", choices=("auto", "icarus", "verilator"), default="auto")

@@ -4,7 +4,7 @@ from __future__ import annotations
 import os
 import shutil
 import tempfile
-from dataclasses import dataclass, field
+from dataclasses import asdict, dataclass, field
 from pathlib import Path
 from typing import Any, Dict, List
 
@@ -13,6 +13,21 @@ from .design import DesignError
 
 PROGRAM = "tlbridge-verify"
 RIGHT, MISTAKE, INCOMPLETE, FAILED = "right", "mistake", "incomplete", "failed"
+
+
+@dataclass
+class Condition:
+    """Something that a right design does not hold, and need not hold: it is right, unless .."""
+
+    unless: str
+    words: str  # what goes wrong then
+    option: str = ""  # that makes it a mistake, if there is one
+    folder: str = ""  # of the smallest run, in that of the verdict, if a run shows it
+    messages: int = 0  # of the smallest run
+
+    @property
+    def line(self) -> str:
+        return f"unless {self.unless}: {self.words}"
 
 
 @dataclass
@@ -29,15 +44,16 @@ class Outcome:
     found_processor_seconds: float = 0
     seconds: float = 0
     messages: int = 0  # of the shrunk run
-    notes: List[str] = field(default_factory=list)  # what the design does not hold, and need not hold
+    conditions: List[Condition] = field(default_factory=list)  # of a right design
     coverage: Dict[str, Any] = field(default_factory=dict)
     text: List[str] = field(default_factory=list)  # for a reader
 
     def as_json(self) -> Dict[str, Any]:
         counted = ("seed", "verdict", "words", "judge", "beats", "cycles")
-        timed = ("found_seconds", "found_processor_seconds", "seconds", "messages", "notes")
+        timed = ("found_seconds", "found_processor_seconds", "seconds", "messages")
         names = (*counted, *timed)
-        return {name: getattr(self, name) for name in names}
+        conditions = [asdict(condition) for condition in self.conditions]
+        return {**{name: getattr(self, name) for name in names}, "conditions": conditions}
 
 
 def written(path: Path, text: str) -> None:

@@ -13,17 +13,17 @@ import subprocess
 import time
 from dataclasses import dataclass, replace
 from pathlib import Path
-from typing import Deque, Generator, Iterator, List, Optional, Set, Tuple
+from typing import Deque, Dict, Generator, Iterator, List, NamedTuple, Optional, Set, Tuple
 
 from ..judge import find_program
 from .bench import Cancel, IDLE_CYCLES, OverTimeError, Run, Settings, Simulation, SimulatorError, repeat_text
 from .design import DesignError
 from .host import REFERENCES, Reference
-from .judge import Beat, Beats, Problem, is_near, name_of, trace_of
-from .options import DEFAULT_MESSAGES, SECONDS
-from .outcome import INCOMPLETE, MISTAKE, Outcome, RIGHT
+from .judge import Beat, Beats, Judge, Problem, is_near, name_of, trace_of
+from .options import DEFAULT_MESSAGES, SECONDS, seeds_of
+from .outcome import Condition, INCOMPLETE, MISTAKE, Outcome, RIGHT
 from .report import Coverage, speed_of
-from .session import FIRST_ROUNDS, LONG, MIDDLE, SHORT, Session, Voice
+from .session import FIRST_ROUNDS, LONG, Late, MIDDLE, SHORT, Session, Voice
 from .shrink import Shrinker, needs_of, options_of
 from .traffic import HOST_STYLES, Message, STYLES, Traffic, style_of
 
@@ -34,6 +34,11 @@ _LEAST_MESSAGES = 30  # of a shorter round
 _ALL_SECONDS = 112  # until a mistake is shrunk
 _LATE_SHARE = 0.3  # of the messages, with bits that arrive late at another clock
 _PATIENCE = 4  # a hang has to last this many times as long, when the round is played again
+# What is tried of a right design when all else is over: rounds and seconds for each.
+_TRIED_ROUNDS, _TRIED_SECONDS = 16, 2
+_MORE_RESETS = 3  # short rounds with a reset, beside each one in the list of styles
+_UNLESS_SECONDS = 6  # in which a run is shrunk that fails under a condition
+_LEAST_TRIED = 2000  # messages: a shorter run tries no more
 _HOST_ROUNDS, _HOST_CYCLES = 10, 3000  # of a host, which sends by itself: rounds in Icarus, and their cycles
 _HOST_SILENCE = 2500  # cycles without a beat, after which a host does not go on
 
@@ -48,6 +53,44 @@ class Round:
     style: str = ""
     is_patient: bool = False  # it is played again, since it seemed to hang
     is_reference: bool = False  # a calm run of a host
+
+
+class Unless(NamedTuple):
+    """A condition that a right design need not hold. Its run has the setting, or is judged by the strict rule of its
+    name."""
+
+    name: str
+    unless: str
+    option: str  # that makes it a mistake
+    setting: str = ""
+    style: str = ""  # of its rounds
+
+
+UNLESS = {
+    kind.name: kind
+    for kind in (
+        Unless("same-cycle", "an answer comes in the cycle of its request", "--same-cycle", "same_cycle", "same cycle"),
+        Unless(
+            "after-reset",
+            "a request comes in the first cycles after a reset",
+            "--after-reset",
+            "at_once",
+            "after reset",
+        ),
+        Unless("denied-is-corrupt", "denied data have to be corrupt", "--denied-is-corrupt"),
+        Unless("corrupt-stays", "data that it read as corrupt have to be written as corrupt", "--corrupt-stays"),
+        Unless("copies-all", "all that it writes has to be what it read", "--copies-all"),
+    )
+}
+
+
+class Kept(NamedTuple):
+    """A run that failed, in its smallest form, with what a reader gets."""
+
+    script: List[Message]
+    settings: Settings
+    problems: List[Problem]
+    text: List[str]
 
 
 @dataclass(frozen=True)
@@ -84,6 +127,7 @@ class Play:
         self.begun = time.monotonic()  # of the rounds
         compares = session.design.client is None and session.has_memory
         self.reference = Reference(session.design) if compares else None
+        self.broken: Dict[str, Round] = {}  # the first round that breaks a strict rule, by its name
 
     def traffic(self, sequence: int) -> Traffic:
         """The maker of the rounds of one sequence."""
@@ -181,9 +225,13 @@ class Play:
                 if style == "large" and self.until != math.inf:
                     session.explore_sizes(session.simulation(name), self.say)
                     traffic.limits = session.limits
+                if style == "reset" and number:
+                    yield from itertools.islice(self.resets(traffic, name, number), _MORE_RESETS)
                 script, settings = traffic.round(at, min(length, self.most - self.sent))
                 script = (script if number or at < 2 else self.fitting(script))[: self.most - self.sent]
                 self.sent += len(script)
+            if options.after_reset and style == "reset":
+                settings["at_once"] = 1
             if options.same_cycle and at % 2:
                 settings["same_cycle"] = 1
             if options.withdraw and at % 3 == 1:
@@ -191,6 +239,17 @@ class Play:
             if number == 2:
                 settings["skew"] = 1
             yield Round(name, script, {**settings, **session.forced}, style, is_reference=is_reference)
+
+    def resets(self, traffic: Traffic, name: str, number: int) -> Iterator[Round]:
+        """Short rounds with a reset: a state that no reset clears shows only after a few of them."""
+        while not self.is_over and self.sent < self.most:
+            script, settings = traffic.styled("reset", SHORT)
+            self.sent += len(script)
+            if self.session.options.after_reset:
+                settings["at_once"] = 1
+            yield Round(
+                name, script, {**settings, **self.session.forced, **({"skew": 1} if number == 2 else {})}, "reset"
+            )
 
     def host_round(self, traffic: Traffic, style: str, turn: int, is_long: bool) -> Tuple[List[Message], Settings]:
         """Returns a calm round if `turn` is below 0. Every other one after it, and those with a reset, deny nothing
@@ -243,7 +302,14 @@ class Play:
             finally:
                 cancel.set()
 
-    def judged(self, found: Round, simulation: Simulation, folder: Path, cancel: Optional[Cancel] = None) -> Played:
+    def judged(
+        self,
+        found: Round,
+        simulation: Simulation,
+        folder: Path,
+        cancel: Optional[Cancel] = None,
+        judge: Optional[Judge] = None,
+    ) -> Played:
         session = self.session
         limit = max(5.0, self.latest - time.monotonic() + 3)
         try:
@@ -253,7 +319,7 @@ class Play:
                 return Played(found, simulation, None, Beats.none(session.design), [])
             raise
         beats = Beats(session.design, run)
-        problems = session.judge.problems(run, beats)
+        problems = (judge or session.judge).problems(run, beats)
         if problems and problems[0].kind == "hang" and not found.is_patient:
             idle = _PATIENCE * found.settings.get("idle", IDLE_CYCLES)
             patient = replace(found, settings={**found.settings, "idle": idle}, is_patient=True)
@@ -297,6 +363,8 @@ class Play:
             if problems:
                 rounds.close()
                 return self.failed(done, problems[0], out)
+            for name in session.judge.broken_rules(done.beats):
+                self.broken.setdefault(name, done.round)
         rounds.close()
         return self.passed(last, out)
 
@@ -333,7 +401,15 @@ class Play:
     def passed(self, simulation: Simulation, out: Path) -> Outcome:
         session, coverage = self.session, self.coverage
         unseen = coverage.unseen(session.limits, session.is_bridge)
+        conditions: List[Condition] = []
+        for kind, done in self.under_conditions() if not unseen else ():
+            if kind.setting and not done.round.settings.get(kind.setting):
+                return self.failed(done, done.problems[0], out)
+            kept = self.kept_under(kind, done, out)
+            conditions.append(Condition(kind.unless, kept.problems[0].words, kind.option, kind.name, len(kept.script)))
+        conditions += self.seen() if not unseen else ()
         outcome = self.base(INCOMPLETE if unseen else RIGHT, "; ".join(unseen))
+        outcome.conditions = conditions
         seconds = max(outcome.seconds, 0.01)
         processor = sum(os.times()[:4])
         size = (
@@ -347,8 +423,13 @@ class Play:
             outcome.text.append("  More --messages may bring them; --only leaves out what the design need not pass.")
         else:
             outcome.text.append(f"NO MISTAKE in {size}")
-            outcome.notes = self.not_held(simulation)
-            outcome.text += [f"  It does not hold {note}" for note in outcome.notes]
+        for condition in conditions:
+            outcome.text.append(f"RIGHT, {condition.line}")
+            if condition.folder:
+                outcome.text.append(
+                    f"  The smallest run has {condition.messages} messages: {session.options.out}/{condition.folder}."
+                    f" With {condition.option} it is a mistake."
+                )
         if self.reference is not None and not self.reference.is_used:
             outcome.text.append(
                 f"  The values that it writes were not compared between the runs: {self.reference.why_not}"
@@ -369,21 +450,95 @@ class Play:
         self.store(outcome, out)
         return outcome
 
-    def not_held(self, simulation: Simulation) -> List[str]:
-        """Returns what a right design does not hold of that which many right designs do not hold. It changes no
-        verdict."""
-        session = self.session
-        if session.options.same_cycle or session.design.manager is None or self.until == math.inf:
-            return []
-        traffic = self.traffic(5)
-        for _ in range(2):
-            script, settings = traffic.styled("same cycle", SHORT)
-            found = Round("", script, {**settings, **session.forced, "same_cycle": 1})
-            done = self.judged(found, simulation, self.room / "same-cycle")
+    def under_conditions(self) -> Iterator[Tuple[Unless, Played]]:
+        """Yields what a right design does not hold of that which many right designs do not hold, each with a run that
+        fails."""
+        session, options = self.session, self.session.options
+        if options.seeds is not None and self.seed != seeds_of(options)[0] or self.most < _LEAST_TRIED:
+            return
+        for name, found in self.broken.items():
+            judge = Judge(session.design, replace(session.rules, strict=(name,)))
+            done = self.judged(found, session.simulation(found.name), self.room / "again", judge=judge)
             if done.problems:
-                words = done.problems[0].words
-                return [f"responses in the cycle of their request, which --same-cycle calls a mistake: {words}"]
-        return []
+                yield UNLESS[name], done
+        tried = []
+        if session.design.manager is not None and not (options.same_cycle or options.no_same_cycle):
+            tried.append(UNLESS["same-cycle"])
+        has_resets = all(link.reset for link in session.design.links.values())
+        if session.design.client is not None and has_resets and not (options.after_reset or options.no_reset):
+            tried.append(UNLESS["after-reset"])
+        for kind in tried:
+            failing = self.failing_with(kind)
+            if failing is not None:
+                yield kind, failing
+
+    def failing_with(self, kind: Unless) -> Optional[Played]:
+        """Plays a few rounds with what a right design need not hold, until one fails. If it also fails without that,
+        that run is returned."""
+        session = self.session
+        long = session.long_simulator("icarus" if "icarus" in session.compiled else "verilator")
+        simulation = session.compiled.get(long) or session.compiled.get("icarus")
+        begun, traffic = time.monotonic(), self.traffic(5 + list(UNLESS).index(kind.name))
+        for turn in range(_TRIED_ROUNDS if simulation else 0):
+            if self.until != math.inf and time.monotonic() - begun > _TRIED_SECONDS:
+                break
+            assert simulation
+            if session.design.client is None:
+                script, settings = self.host_round(traffic, kind.style, turn, False)
+            else:
+                script, settings = traffic.styled(kind.style, SHORT)
+            found = Round("", script, {**settings, **session.forced, kind.setting: 1})
+            failing = self.judged_as_all(found, simulation, self.room / kind.name)
+            if failing.problems:
+                calm = replace(found, settings={**found.settings, kind.setting: 0})
+                without = self.judged_as_all(calm, simulation, self.room / f"no-{kind.name}")
+                return without if without.problems else failing
+        return None
+
+    def judged_as_all(self, found: Round, simulation: Simulation, folder: Path) -> Played:
+        """Plays and judges a round, also by what a host wrote in calm runs."""
+        self.session.judge.reference = None
+        done = self.judged(found, simulation, folder)
+        if done.run is not None and not done.problems and self.reference is not None:
+            problems = self.reference.problems(done.run, done.beats)
+            self.session.judge.reference = self.reference if problems else None
+            return replace(done, problems=problems)
+        return done
+
+    def netlist(self) -> Optional[Late]:
+        """The netlist with late bits, if the design has one, also if there was no time to play it."""
+        session = self.session
+        try:
+            return session.netlist() if session.has_late else session.late
+        except DesignError:
+            return None
+
+    def seen(self) -> Iterator[Condition]:
+        """Yields conditions that no run shows."""
+        limits = self.session.limits
+        if limits.far and limits.window:
+            words = f"it answers at {limits.far:#x}, and denies what is right above its own addresses"
+            yield Condition("all bits of an address count", words)
+        late = self.netlist() if self.most >= _LEAST_TRIED else None
+        if late and late.single:
+            more = f" and {len(late.single) - 3} more" if len(late.single) > 3 else ""
+            words = f"logic reads {', '.join(late.single[:3])}{more} after one"
+            yield Condition("a bit that crosses to another clock has to pass two flip-flops", words)
+
+    def kept_under(self, kind: Unless, done: Played, out: Path) -> Kept:
+        """Shrinks a run that fails under a condition, and writes it into a folder of its own."""
+        session = self.session
+        strict = () if kind.setting else (kind.name,)
+        judge = Judge(session.design, replace(session.rules, strict=strict)) if strict else session.judge
+        folder = out / kind.name
+        most = min(session.options.shrink_seconds, _UNLESS_SECONDS)
+        if self.until != math.inf:
+            most = min(most, max(2.0, self.start + _ALL_SECONDS - time.monotonic()))
+        kept = self.kept(done, done.problems[0], judge, folder, most, kind.setting)
+        text = [f"RIGHT, unless {kind.unless}: {kept.problems[0].words}", *kept.text[1:]]
+        (folder / "report.txt").write_text("\n".join(text) + "\n")
+        session.judge.reference = None
+        return kept
 
     def store(self, outcome: Outcome, out: Path) -> None:
         out.mkdir(parents=True, exist_ok=True)
@@ -395,64 +550,73 @@ class Play:
             raise SimulatorError(f"{out} cannot be written: {error.strerror}") from error
 
     def failed(self, done: Played, problem: Problem, out: Path) -> Outcome:
-        session, simulation, run = self.session, done.simulation, done.run
-        script, settings = done.round.script, done.round.settings
-        assert run
+        session = self.session
         found = self.base(MISTAKE, problem.words)
         self.say(f"  found after {found.seconds:.1f} s, {found.beats} beats: {problem.words}", "  shrinking ..")
         most = session.options.shrink_seconds
         if self.until != math.inf and session.options.seconds is None:
             most = min(most, max(5.0, self.start + _ALL_SECONDS - time.monotonic()))
-        shrinker = Shrinker(simulation, session.judge, self.room / "shrink", most, problem)
+        kept = self.kept(done, problem, session.judge, out, most)
+        outcome = self.base(MISTAKE, kept.problems[0].words)
+        outcome.found_seconds, outcome.messages = found.seconds, len(kept.script)
+        outcome.found_processor_seconds = found.found_processor_seconds
+        outcome.text = kept.text
+        written = ["trace", *(f"{side}.beats" for side in session.design.links), "repeat.sh"]
+        written += [name for name in ("waves.vcd", "page.html") if (out / name).exists()]
+        outcome.text.append(f"Written: {session.options.out}: {', '.join(written)}. Judged by {session.judge.name}.")
+        self.store(outcome, out)
+        return outcome
+
+    def kept(
+        self, done: Played, problem: Problem, judge: Judge, out: Path, most: float, needed: Optional[str] = None
+    ) -> Kept:
+        """Shrinks a run that fails, and writes its smallest form into `out`. `needed` is a setting that stays as it is,
+        or empty. If it is None, nothing comes after this run, and time is spent on its waveform."""
+        session, simulation, run = self.session, done.simulation, done.run
+        script, settings = done.round.script, done.round.settings
+        assert run
+        begun, is_last = time.monotonic(), needed is None
+        shrinker = Shrinker(simulation, judge, self.room / "shrink", most, problem)
+        shrinker.needed = needed or ""
         if simulation.simulator == "icarus" and session.options.simulator == "auto":
             shrinker.faster = lambda: session.compiled.get("verilator")
         before = len(script)
         script, settings = shrinker.shrink(script, settings, run.folder)
         simulation = shrinker.simulation
-        session.cancel_background()
-        waver = self.with_waves(simulation, settings)
+        if is_last:
+            session.cancel_background()
+        waver = self.with_waves(simulation, settings, is_last)
         out.mkdir(parents=True, exist_ok=True)
         run = waver.run(script, settings, out, waves=not session.options.no_waves)
         beats = Beats(session.design, run)
-        problems = session.judge.problems(run, beats)
+        problems = judge.problems(run, beats)
         if not problems:  # the last run is no longer than the one that failed, and must fail as it did
             run = simulation.run(script, settings, out)
             beats = Beats(session.design, run)
-            problems = session.judge.problems(run, beats) or [problem]
+            problems = judge.problems(run, beats) or [problem]
         (out / "trace").write_text(trace_of(session.design, beats.near()))
         shutil.copy(simulation.bench, out / simulation.bench.name)
         repeat = out / "repeat.sh"
-        repeat.write_text(
-            repeat_text(
-                waver,
-                script,
-                settings,
-                session.options.out.resolve() if session.options.seeds is None else out.resolve(),
-            )
-        )
+        place = session.options.out.resolve() / ("" if is_last else out.name)
+        place = place if session.options.seeds is None else out.resolve()
+        repeat.write_text(repeat_text(waver, script, settings, place))
         repeat.chmod(0o755)
-        outcome = self.base(MISTAKE, problems[0].words)
-        outcome.found_seconds, outcome.messages = found.seconds, len(script)
-        outcome.found_processor_seconds = found.found_processor_seconds
-        outcome.text = self.explained(problems, beats.all(), script, settings, shrinker, before, outcome)
         self.page(out)
-        written = ["trace", *(f"{side}.beats" for side in session.design.links), "repeat.sh"]
-        written += [name for name in ("waves.vcd", "page.html") if (out / name).exists()]
-        outcome.text.append(f"Written: {session.options.out}: {', '.join(written)}. Judged by {session.judge.name}.")
         for name in out.glob("*.sent"):
             name.unlink()
-        self.store(outcome, out)
-        return outcome
+        seconds = time.monotonic() - begun
+        text = self.explained(problems, beats.all(), script, settings, shrinker, before, seconds)
+        return Kept(script, settings, problems, text)
 
-    def with_waves(self, simulation: Simulation, settings: Settings) -> Simulation:
+    def with_waves(self, simulation: Simulation, settings: Settings, may_compile: bool) -> Simulation:
         """The simulation that writes waves: Icarus if it can compile the bench, or Verilator compiled again."""
         session = self.session
         if session.options.no_waves or simulation.simulator == "icarus":
             return simulation
         is_late = bool(settings.get("skew"))
         made = session.build("icarus late" if is_late else "icarus") if shutil.which("iverilog") else None
-        if made is not None:
-            return made
+        if made is not None or not may_compile:
+            return made or simulation
         if time.monotonic() - self.start + session.build_seconds > _ALL_SECONDS - 10:
             self.say("  no waves.vcd, since Verilator would have to compile again: repeat.sh writes it")
             return simulation
@@ -477,7 +641,7 @@ class Play:
         settings: Settings,
         shrinker: Shrinker,
         before: int,
-        outcome: Outcome,
+        seconds: float,
     ) -> List[str]:
         """The text of a mistake: one line, the lanes, what it needs, and the shrunk run."""
         design, problem = self.session.design, problems[0]
@@ -497,10 +661,7 @@ class Play:
             lines.append(f"It may need: {needs}. Not all was tried: --shrink-seconds.")
         else:
             lines.append(f"It needs: {needs}.")
-        lines.append(
-            f"The shrunk run has {len(script)} of {before} messages ({shrinker.runs} runs,"
-            f" {outcome.seconds - outcome.found_seconds:.1f} s):"
-        )
+        lines.append(f"The shrunk run has {len(script)} of {before} messages ({shrinker.runs} runs, {seconds:.1f} s):")
         last = sum(beat.time <= problem.time for beat in beats)
         first = max(0, last - 30) if len(beats) > 40 else 0
         if first:

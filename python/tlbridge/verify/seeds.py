@@ -12,7 +12,7 @@ from pathlib import Path
 from typing import Any, Dict, List, Mapping, Optional, Sequence
 
 from .design import DesignError
-from .outcome import FAILED, Folder, INCOMPLETE, MISTAKE, Outcome, PROGRAM, RIGHT, written
+from .outcome import Condition, FAILED, Folder, INCOMPLETE, MISTAKE, Outcome, PROGRAM, RIGHT, written
 from .play import Play
 from .report import Coverage
 from .session import Session, Voice
@@ -51,7 +51,9 @@ def run_seeds(session: Session, seeds: Sequence[int], first: str) -> List[Outcom
         for future in concurrent.futures.as_completed(waiting):
             outcome = future.result()
             outcomes.append(outcome)
-            print(f"seed {outcome.seed}: {outcome.verdict}{': ' if outcome.words else ''}{outcome.words}", flush=True)
+            more = "".join(f", {condition.line}" for condition in outcome.conditions)
+            more = more or (f": {outcome.words}" if outcome.words else "")
+            print(f"seed {outcome.seed}: {outcome.verdict}{more}", flush=True)
     return sorted(outcomes, key=lambda outcome: outcome.seed)
 
 
@@ -68,13 +70,23 @@ def junit(path: Path, top: str, outcomes: Sequence[Mapping[str, Any]]) -> None:
         )
         if outcome["verdict"] != RIGHT:
             tag = "error" if outcome["verdict"] == FAILED else "failure"
-            words = "".join(letter if letter.isprintable() else "?" for letter in str(outcome["words"]))
-            tree.SubElement(case, tag, message=words, type=str(outcome["verdict"]))
+            tree.SubElement(case, tag, message=_printable(outcome["words"]), type=str(outcome["verdict"]))
+        elif conditions_of(outcome):
+            tree.SubElement(case, "system-out").text = _printable("right, " + "; ".join(conditions_of(outcome)))
     written(path, '<?xml version="1.0" encoding="utf-8"?>\n' + tree.tostring(suite, encoding="unicode") + "\n")
 
 
+def _printable(words: Any) -> str:
+    return "".join(letter if letter.isprintable() else "?" for letter in str(words))
+
+
+def conditions_of(outcome: Mapping[str, Any]) -> List[str]:
+    """Returns the conditions under which a right design is not right, in words."""
+    return [Condition(**made).line for made in outcome.get("conditions", [])]
+
+
 def summary(outcomes: Sequence[Mapping[str, Any]]) -> List[str]:
-    """Returns lines with the number of each verdict, and with the seeds of each mistake."""
+    """Returns lines with the number of each verdict, and with the seeds of each mistake and of each condition."""
     counts = {
         verdict: sum(o["verdict"] == verdict for o in outcomes) for verdict in (RIGHT, MISTAKE, INCOMPLETE, FAILED)
     }
@@ -85,8 +97,9 @@ def summary(outcomes: Sequence[Mapping[str, Any]]) -> List[str]:
     ]
     said: Dict[str, List[int]] = {}
     for outcome in outcomes:
-        if outcome["verdict"] != RIGHT:
-            key = re.sub(r"beat \d+ of", "a beat of", re.sub(r"\b[0-9a-f]{2,}\b", "..", str(outcome["words"])))[:110]
+        right = [f"right, {line}" for line in conditions_of(outcome)]
+        for words in right if outcome["verdict"] == RIGHT else [str(outcome["words"])]:
+            key = re.sub(r"beat \d+ of", "a beat of", re.sub(r"\b[0-9a-f]{2,}\b", "..", words))[:160]
             said.setdefault(key, []).append(int(outcome["seed"]))
     for key, seeds in sorted(said.items(), key=lambda item: -len(item[1]))[:20]:
         more = f" and {len(seeds) - 6} more" if len(seeds) > 6 else ""
@@ -120,6 +133,7 @@ def merge(words: Sequence[str]) -> int:
         for path in found:
             try:
                 outcomes.append(json.loads(path.read_text()))
+                conditions_of(outcomes[-1])
                 coverage.merge(json.loads((path.parent / "coverage.json").read_text()))
             except (OSError, ValueError, KeyError, TypeError) as error:
                 raise DesignError(f"{path.parent} has no verdict of this program: {error}") from error

@@ -12,7 +12,7 @@ from typing import Dict, List, Optional, Sequence
 
 from .bench import Bench, Cancel, EndlessError, OverTimeError, Settings, Simulation, sv_folder
 from .design import Design, DesignError, described, read_design
-from .explore import explored, held_largest, rules_out_atomics, stated_largest, stated_level
+from .explore import explored, held_largest, rules_out_atomics, stated_bits, stated_largest, stated_level
 from .judge import Judge, Rules
 from .options import SECONDS, choice_of, source_of, window_of
 from .report import not_compared
@@ -59,7 +59,12 @@ class Session:
             self.limits = replace(self.limits, largest=min(self.most_bytes, PLAIN_LARGEST))
         plain = not set(self.limits.kinds) & {"acquire", "acquireperm", "release", "probe"}
         self.has_memory = not self.is_bridge and plain
-        self.rules = Rules(self.is_bridge, self.has_memory and self.design.client is not None and not options.no_memory)
+        strict = [name for name in ("denied_is_corrupt", "corrupt_stays", "copies_all") if getattr(options, name)]
+        self.rules = Rules(
+            self.is_bridge,
+            self.has_memory and self.design.client is not None and not options.no_memory,
+            tuple(name.replace("_", "-") for name in strict),
+        )
         if self.has_memory and self.design.client is not None:  # a memory computes what fits into a beat
             self.limits = replace(self.limits, atomic=min(self.design.client.width, 8))
         self._limit_window()
@@ -68,6 +73,7 @@ class Session:
         self.bench.level = options.level or ""
         self.bench.text()
         self.late: Optional[Late] = None
+        self.netlist_lock = threading.Lock()
         self.has_late = self.bench.has_two and not options.no_skew and bool(options.skew or shutil.which("yosys"))
         if options.skew and not self.netlist().bits:
             raise DesignError("--skew: no bit of the design crosses directly to a flip-flop of another clock")
@@ -91,6 +97,14 @@ class Session:
             raise DesignError("--rules-only: a design with one link is judged so anyway")
         if options.no_memory and design.is_bridge and not options.rules_only:
             raise DesignError("--no-memory is for a design with one link, or with --rules-only")
+        if options.same_cycle and options.no_same_cycle:
+            raise DesignError("--same-cycle and --no-same-cycle exclude each other")
+        if options.denied_is_corrupt and (design.client is None or design.is_bridge and not options.rules_only):
+            raise DesignError("--denied-is-corrupt is for a device, or with --rules-only")
+        if (options.corrupt_stays or options.copies_all) and design.client is not None:
+            raise DesignError("--corrupt-stays and --copies-all are for a host")
+        if options.after_reset and options.no_reset:
+            raise DesignError("--after-reset and --no-reset exclude each other")
         if options.no_memory and design.client is None:
             raise DesignError("--no-memory: a host has no link on which memory is judged")
         if options.jobs is not None and options.seeds is None:
@@ -107,7 +121,8 @@ class Session:
         if limits.window is None and self.rules.is_memory:
             span = 256 if not design.is_bridge else 4096
             span = min(span, 1 << min(link.bits("address") for link in design.links.values()))
-            limits = replace(limits, window=(0, span), has_pages=design.is_bridge)
+            bits = stated_bits(design.source.files)
+            limits = replace(limits, window=(0, span), has_pages=design.is_bridge, page_bits=bits)
         if limits.window and limits.largest > limits.window[1]:
             if self.options.largest:
                 raise DesignError(f"--largest {limits.largest}: the window has {limits.window[1]} bytes")
@@ -167,12 +182,13 @@ class Session:
     def netlist(self) -> "Late":
         """Returns the netlist with late bits, which is made once. Errors: there is no yosys, or it cannot read the
         design."""
-        if self.late is None:
-            design, bits = skewed(self.design, self.room)
-            bench = Bench(design, self.is_bridge, self.one_clock, self.has_memory)
-            bench.level = self.bench.level
-            self.late = Late(design, bench, bits)
-        return self.late
+        with self.netlist_lock:  # a thread in the background makes it, too
+            if self.late is None:
+                design, bits, single = skewed(self.design, self.room)
+                bench = Bench(design, self.is_bridge, self.one_clock, self.has_memory)
+                bench.level = self.bench.level
+                self.late = Late(design, bench, bits, single)
+            return self.late
 
     def build(self, name: str, cancel: Optional[Cancel] = None) -> Optional[Simulation]:
         """Compiles the bench once: for `icarus` or `verilator`, with ` late` after it for the netlist with late bits.
@@ -309,6 +325,7 @@ class Late:
     design: Design
     bench: Bench
     bits: int
+    single: List[str]  # registers that a bit from another clock enters, and that logic reads without a second one
 
 
 class Voice:

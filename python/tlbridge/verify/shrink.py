@@ -32,6 +32,7 @@ CALM = {
     "long_stalls": 0,
     "reset_at": 0,
     "held": 0,
+    "at_once": 0,
     "same_cycle": 0,
     "withdraw": 0,
     "skew": 0,
@@ -52,6 +53,7 @@ _NEEDS = {
     "long_stalls": "stalls of hundreds of cycles",
     "reset_at": "a reset while messages are under way",
     "held": "beats that wait in the design when the reset comes",
+    "at_once": "a request in the first cycles after a reset",
     "same_cycle": "responses in the cycle of their request",
     "withdraw": "a valid that falls before ready",
     "skew": "bits that cross to another clock and arrive one edge late",
@@ -87,6 +89,7 @@ class Shrinker:
         self.faster: Optional[
             Callable[[], Optional[Simulation]]
         ] = None  # another simulation of the design, once it is compiled
+        self.needed = ""  # a setting that stays as it is
         self.best: Tuple[Script, Settings] = ([], {})  # the last run that failed
         self.is_cut = False  # time was over before all was tried
 
@@ -251,7 +254,7 @@ class Shrinker:
             clocks = {"client_half": 5000, "manager_half": 5000, "client_phase": 0, "manager_phase": 2500}
             settings = attempt({**clocks, "idle": 2000, "end": 200})
         for name, value in CALM.items():
-            if settings.get(name, _DEFAULTS.get(name, 0)) != value:
+            if name != self.needed and settings.get(name, _DEFAULTS.get(name, 0)) != value:
                 settings = attempt({name: value})
         for calm in (0x3FF, 0x155, 0x2AA):  # all, the valids, the readies
             if settings["calm"] | calm != settings["calm"]:

@@ -31,6 +31,7 @@ KINDS: Dict[str, Tuple[str, ...]] = {
 MOST_MESSAGES = 8000  # of a script
 PLAIN_LARGEST = 64  # bytes: larger messages come after the others
 _MOST_BYTES = 4096
+_FAR_CLOCKS = ((2000, 20000), (20000, 2000), (4000, 12000), (12000, 4000))  # half periods, for resets
 _LONG_ROUND = 400  # messages, in a simulator for which a thousand cycles are nothing
 
 
@@ -68,6 +69,8 @@ class Limits:
     held: int = 0  # bytes at the beginning of the window that a device does not deny, or 0 if that is unknown
     atomic: int = _MOST_BYTES  # bytes of the largest atomic
     has_pages: bool = False  # some addresses are in a window that is one higher address bit away
+    page_bits: Tuple[int, ...] = ()  # of these, those that the source of the design names
+    far: int = 0  # an address above the window at which a device answers, which denies what is between; or 0
 
     def largest_of(self, kind: str) -> int:
         return min(self.largest, self.atomic) if kind in ATOMICS else self.largest
@@ -139,6 +142,10 @@ class Traffic:
         self.kinds = limits.kinds
         self.tag = 0
         self.share_held = 0.85  # of the addresses are those that a device does not deny
+        self.spots: Tuple[float, ...] = (1.0,)  # of a window, as parts of it: some addresses are just below them
+        self.share_near = 0.0  # are among the first of it, so that almost each read meets a write
+        self.share_paged = 0.2  # of the addresses are a higher bit away
+        self.page_bit: Optional[int] = None  # the only one of a round
 
     @property
     def largest_size(self) -> int:
@@ -157,8 +164,9 @@ class Traffic:
         if self.limits.window:
             base, span = self.limits.window
             address = base + (address % span >> size << size)
-            if self.limits.has_pages and self.address_bits > 12 and draw.random() < 0.2:
-                address ^= 1 << draw.randrange(12, self.address_bits)
+            if self.limits.has_pages and self.address_bits > 12 and draw.random() < self.share_paged:
+                bit = draw.randrange(12, self.address_bits)
+                address ^= 1 << (bit if self.page_bit is None else self.page_bit)
         if kind == "release":
             channel, opcode, param = "C", 6 + draw.randrange(2), 1
             param = draw.choice((0, 1, 3)) if opcode == 7 else draw.randrange(6)
@@ -175,12 +183,17 @@ class Traffic:
         return Message(channel, opcode, param, size, source, address, self.tag, *seeds)
 
     def offset(self) -> int:
-        """An offset in the window: mostly near its beginning, so that reads meet writes, or one bit away from there."""
+        """An offset in the window: mostly near its beginning, so that reads meet writes, or one bit away from there, or
+        near one of a few other places, of which one is the end."""
         draw = self.random
         assert self.limits.window
         span = self.limits.window[1]
         if self.limits.held and draw.random() < self.share_held:
             span = self.limits.held
+        if draw.random() < self.share_near:
+            return draw.getrandbits(6) % span
+        if draw.random() < 0.2:
+            return (int(span * draw.choice(self.spots)) - 1 - draw.getrandbits(5)) % span
         offset = draw.getrandbits(draw.choice((5, 8, 8))) % span
         if span > 256 and draw.random() < 0.35:
             offset ^= 1 << draw.randrange(8, (span - 1).bit_length())
@@ -256,12 +269,14 @@ class Traffic:
                 (5050, 5000),
             ]
             ratios += [(2000, 20000), (20000, 2000), (500 * draw.randint(4, 18), 500 * draw.randint(4, 18))]
-            client, manager = draw.choice(ratios)
-            settings.update(client_half=client, manager_half=manager)
-            settings.update(client_phase=draw.randrange(2 * client), manager_phase=draw.randrange(2 * manager))
-            ratio = max(1, manager // client)
-            settings.update(idle=2000 * ratio, end=200 * ratio)
+            settings.update(self.clocks(*draw.choice(ratios)))
         return settings
+
+    def clocks(self, client: int, manager: int) -> Dict[str, int]:
+        """Settings of two clocks with these half periods in ps, and random phases."""
+        draw, ratio = self.random, max(1, manager // client)
+        phases = dict(client_phase=draw.randrange(2 * client), manager_phase=draw.randrange(2 * manager))
+        return dict(client_half=client, manager_half=manager, **phases, idle=2000 * ratio, end=200 * ratio)
 
     def round(self, number: int, length: int) -> Tuple[List[Message], Dict[str, int]]:
         """Returns the script and the settings of a round. The first two are directed; the others repeat the list of
@@ -271,10 +286,24 @@ class Traffic:
         script, settings = self.styled(style_of(number), length)
         return script[:MOST_MESSAGES], settings
 
+    def draw_page(self) -> None:
+        """Chooses the higher bits of the addresses of a round. A design may treat all that have one of them in its own
+        way, so in some rounds it is the same bit in many addresses: one that the source names, or a low one."""
+        draw = self.random
+        self.share_paged, self.page_bit = 0.2, None
+        if self.limits.has_pages and self.address_bits > 12 and draw.random() < 0.6:
+            low = min(12 + draw.choice((0, 0, 1, 2, 4)), self.address_bits - 1)
+            stated = [bit for bit in self.limits.page_bits if bit < self.address_bits]
+            self.page_bit = draw.choice(stated) if stated and draw.random() < 0.7 else low
+            self.share_paged = draw.choice((0.2, 0.5, 0.5))
+
     def styled(self, name: str, length: int) -> Tuple[List[Message], Dict[str, int]]:
         """A round of one style."""
         all_sources = self.sources
         self.share_held = self.random.choice((0.95, 0.85, 0.85, 0.3))
+        self.spots = (1.0, self.random.random(), self.random.random())
+        self.share_near = 0.8 if name == "full" else 0.0
+        self.draw_page()
         settings = self.settings()
         scale = settings.get("idle", 2000) // 2000
         if name == "any":
@@ -283,7 +312,7 @@ class Traffic:
         if name == "again":  # a source is used again while its response is under way
             settings.update(reuse=1, calm=self.random.choice((0x3FF, 0x55, 0x2AA, 0)))
             return (self.drawn(length, self.random.choice((1, 1, 2)), "mixed", 0.8), settings)
-        if name == "full":  # no stalls at all, and long, so that counters run over
+        if name == "full":  # no stalls at all, and long, so that counters run over, and near, so that it shows
             settings.update(calm=0x3FF, in_order=self.random.randrange(2))
             return self.drawn(3 * length, all_sources, "width", 0), settings
         if name == "all sources":  # as many outstanding as there are sources
@@ -295,7 +324,7 @@ class Traffic:
             return script[: max(length, min(all_sources, 2 * length))], settings
         if name == "slow":  # a response comes long after its request, while another request waits
             slower = settings.get("client_half", 1) // settings.get("manager_half", 1)
-            cycles = self.random.choice((140, 300, 600) if length < _LONG_ROUND else (140, 300, 600, 1100))
+            cycles = self.random.choice((140, 300, 600) if length < _LONG_ROUND else (140, 300, 600, 1100, 2200))
             settings.update(slow=cycles * max(1, slower), in_order=0)
             settings["idle"] = settings.get("idle", 2000) + 2 * settings["slow"] * scale
             return self.drawn(max(16, length // 10), self.random.choice((2, 3, all_sources)), "small"), settings
@@ -308,21 +337,27 @@ class Traffic:
         if name == "large" and self.limits.largest > PLAIN_LARGEST:
             count = max(10, min(length, 60 * length // self.limits.largest))
             return self.drawn(count, all_sources, "large"), settings
-        if name == "reset" and all(link.reset for link in self.design.links.values()):
-            settings.update(self.reset(settings))
+        if name in ("reset", "after reset") and all(link.reset for link in self.design.links.values()):
+            if self.has_two and (name == "after reset" or self.random.random() < 0.3):
+                settings.update(self.clocks(*self.random.choice(_FAR_CLOCKS)))
+            settings.update(self.reset(settings, 60 if name == "after reset" else 0))
+            if name == "after reset":
+                settings.update(at_once=1, held=0, calm=self.random.choice((0x3FF, 0x3FF, 0)))
+                return self.drawn(min(length, 60), all_sources), settings
             return self.drawn(min(length, 150), all_sources), settings
         if name == "same cycle":
             settings["calm"] = self.random.choice((0x3FF, 0x2AA, 0))
         return self.drawn(length, self.random.choice((4, all_sources))), settings
 
-    def reset(self, settings: Dict[str, int]) -> Dict[str, int]:
-        """A reset in the middle. Shortly before it, some readys fall, so that beats wait in the design."""
+    def reset(self, settings: Dict[str, int], cycles: int = 0) -> Dict[str, int]:
+        """A reset in the middle, at most this number of cycles after the first request, or 120 or 380. Shortly before
+        it, some readys fall, so that beats wait in the design."""
         draw = self.random
         client, manager = settings.get("client_half", 1), settings.get("manager_half", 1)
         first, second = (client, manager) if self.design.client is not None else (manager, manager)
         begin = 2 * (40 + 40 * second // first) if self.has_two else 20  # the cycles of the reset at the beginning
         slower = max(1, second // first)
-        at = begin + draw.randint(20, draw.choice((120, 380))) * slower
+        at = begin + draw.randint(20, cycles or draw.choice((120, 380))) * slower
         ready = [2 << 2 * number for number, channel in enumerate("ABCDE") if channel in self.design.channels]
         some = [draw.choice(ready), draw.choice(ready), draw.getrandbits(10) & sum(ready), sum(ready)]
         held = draw.choice([0, 0x80, *some])
