@@ -35,6 +35,7 @@ def words_of(folder: Path, client: List[str], manager: List[str]) -> str:
         (folder / f"{side}.beats.times").write_text("".join(f"{10 * at}\n" for at in range(len(lines))))
     design = Design(Source("remapper", ()), {}, client=link(), manager=link())
     problems = corrupt_problems(design, Beats(design, Run(folder, "")))
+    assert len(problems) == len({problem.channel for problem in problems})  # the first one of each direction
     return problems[0].words if problems else ""
 
 
@@ -59,6 +60,14 @@ RIGHT = {
             *(get(0, 32), data(0, "22222222", 1), get(0, 96), data(0, "22222222")),
         ],
     ),
+    "bytes outside a mask": (
+        [put(5, 32, "44332211", 1), put(6, 32, "00000099").replace("A 0", "A 1").replace(" f ", " 1 ")],
+        [put(0, 32, "44332211", 1), put(1, 32, "44332299").replace("A 0", "A 1").replace(" f ", " 1 ")],
+    ),
+    "one value as good data and as corrupt data": (
+        [get(5, 16), data(5, "44332211"), get(6, 16), data(6, "44332211", 1)],
+        [get(0, 16), data(0, "44332211"), get(1, 16), data(1, "44332211", 1)],
+    ),
     "corrupt spreads": ([put(5, 16, "44332211"), get(6, 16)], [put(0, 16, "44332211", 1), get(1, 16)]),
 }
 WRONG = {
@@ -71,6 +80,11 @@ WRONG = {
         [put(5, 32, "44332211", 1)],
         [put(0, 32, "44332211")],
         "has 11 at 0x20 as a good byte, which is corrupt on the client link",
+    ),
+    "a put with a mask loses corrupt": (
+        [put(5, 32, "44332211", 1).replace("A 0", "A 1").replace(" f ", " 8 ")],
+        [put(0, 32, "44332211").replace("A 0", "A 1").replace(" f ", " 8 ")],
+        "has 44 at 0x23 as a good byte, which is corrupt on the client link",
     ),
     "behind a response with unknown data": (
         [get(5, 16), data(5, "xxxxxxxx", 1), get(6, 64), data(6, "44332211")],

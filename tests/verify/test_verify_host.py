@@ -125,7 +125,7 @@ def test_only_calm_runs_that_agree_count(tmp_path: Path) -> None:
 def test_a_host_that_stops(tmp_path: Path) -> None:
     stopped = "the host has stopped, with nothing outstanding, and goes on in runs without stalls"
     assert words_of(tmp_path, CALM, WRITES, silence=801) == stopped
-    assert words_of(tmp_path, CALM, WRITES, silence=799) == ""
+    assert words_of(tmp_path, CALM, WRITES, silence=800) == "" == words_of(tmp_path, CALM, WRITES, silence=799)
     assert words_of(tmp_path, CALM, WRITES, silence=801, offers=True) == ""
     assert words_of(tmp_path, CALM, WRITES[:-1], silence=801) == ""  # a response is missing
     assert words_of(tmp_path, CALM, [*WRITES, get(0, 0), data(0, "0", denied=1)], silence=801) == ""

@@ -8,7 +8,7 @@ import pytest
 from tlbridge.verify.bench import Run
 from tlbridge.verify.design import Design, Link, Signal, Source
 from tlbridge.verify.judge import Beats
-from tlbridge.verify.memory import memory_problems
+from tlbridge.verify.memory import computed, memory_problems
 
 
 def get(source: int, address: int, size: int = 2) -> str:
@@ -42,6 +42,10 @@ def words_of(tmp_path: Path, lines: List[str]) -> str:
 
 
 RIGHT = {
+    "beats with an unknown head": [
+        *(put(0, 16, "00000001"), ack(0), get(1, 16).replace("A 4", "A x"), data(1, "00000009").replace("D 1", "D X")),
+        *(get(0, 16), data(0, "00000001")),
+    ],
     "after a corrupt atomic": [
         *(put(0, 16, "00000001"), ack(0), atomic(1, 16, 2, 4, "00000001")[:-1] + "1", data(1, "00000001")),
         *(get(2, 16), data(2, "12345678")),
@@ -271,3 +275,19 @@ def test_right(tmp_path: Path, case: str) -> None:
 def test_wrong(tmp_path: Path, case: str) -> None:
     lines, words = WRONG[case]
     assert words in words_of(tmp_path, lines)
+
+
+def test_what_an_atomic_leaves() -> None:
+    """MIN, MAX, MINU, MAXU and ADD, then XOR, OR, AND and SWAP, of bytes."""
+
+    def signed(value: int) -> int:
+        return value - 256 if value > 127 else value
+
+    for old in (0, 1, 2, 3, 126, 127, 128, 129, 254, 255):
+        for new in (0, 1, 2, 3, 126, 127, 128, 129, 254, 255):
+            least, most = sorted((old, new), key=signed)
+            left = [least, most, min(old, new), max(old, new), (old + new) % 256]
+            assert [computed(2, param, 0, old, new) for param in range(5)] == left
+            left = [old ^ new, old | new, old & new, new]
+            assert [computed(3, param, 0, old, new) for param in range(4)] == left
+    assert computed(2, 4, 3, 1 << 63, 1 << 63) == 0

@@ -100,6 +100,13 @@ def test_each_round_is_lawful(fields: Mapping[str, str]) -> None:
     assert {message.channel for number in (0, 1) for message in traffic.round(number, 1)[0]} <= set("ABC")
 
 
+def test_the_permissions_of_a_release() -> None:
+    traffic = traffic_of(bridge(fields=C))
+    made = [traffic.message("release", 2, 0) for _ in range(200)]
+    assert {message.param for message in made if message.opcode == 7} == {0, 1, 3}  # with data: from T, or B to N
+    assert {message.param for message in made if message.opcode == 6} == set(range(6))
+
+
 def test_rounds_depend_on_the_seed_only() -> None:
     made = [traffic_of(bridge(fields=UH), seed).round(5, 100) for seed in (3, 3, 4)]
     assert made[0] == made[1] != made[2]
@@ -136,6 +143,7 @@ def test_the_styles_have_their_settings() -> None:
     assert {0, 0x2, 0x80, 0x82} == {s["held"] for _, s in made}  # ready of A and of D
     script, settings = traffic.styled("all sources", 40)
     assert settings["gather"] >= 40 and {message.source for message in script[:4]} == {0, 1, 2, 3}
+    assert settings["calm"] == 0x15F  # all but the readies of C, D and E
     assert max(1 << message.size for message in traffic.styled("large", 200)[0]) > 64
     sources = [message.source for message in traffic.styled("again", 200)[0]]
     assert sum(a == b for a, b in zip(sources, sources[1:])) > 120
@@ -149,7 +157,8 @@ def test_a_reset_with_two_clocks_comes_after_the_first_one() -> None:
         for _ in range(20):
             made = traffic.reset({"client_half": client, "manager_half": manager})
             begin = 2 * (40 + 40 * manager // client)  # the cycles of the client in the reset at the beginning
-            assert begin <= made["client_held"] < made["reset_at"] and made["reset_at"] >= begin + 20
+            assert begin <= made["client_held"] < made["reset_at"]
+            assert 20 <= made["reset_at"] - begin <= 380 * max(1, manager // client)
             assert abs(made["manager_held"] * manager - made["client_held"] * client) < manager
     fields = {**C, "B": C["B"]}
     held = [traffic_of(bridge(fields=fields), seed).reset({})["held"] for seed in range(60)]
@@ -166,6 +175,9 @@ def test_addresses_of_a_window() -> None:
         assert any(place >> bit & 1 for place in places)
     assert sum(place >= 0x2800 for place in places) < 150
     assert max(traffic.message("logical", 6, 0).size for _ in range(9)) == 2
+    traffic = traffic_of(design, window=(0, 4096), has_pages=True)
+    pages = {traffic.message("get", 2, 0).address >> 12 for _ in range(600)}
+    assert pages == {0, *(1 << bit for bit in range(20))}
 
 
 # ---- exploring
@@ -286,6 +298,12 @@ def test_the_window_and_the_atomics_of_a_device(tmp_path: Path) -> None:
     assert explorer(0, 1 << 32).window() is None
     assert explorer(0x20, 1 << 32).window() == ((0x20, 256), 0)
     assert explorer(3, 1).window() is None
+    files = (str(tmp_path / "none.v"), str(source))
+    places = list(Explorer(replace(design, source=Source("dut", files)), explorer(0, 0).simulation, tmp_path).places())
+    assert places[:2] == [0, 4] and places[-1] == 0x12340000 and max(places) < 1 << 32
+    source.write_text("localparam BASE = 'h12, NONE = 8'h2;")
+    assert list(explorer(0, 0).places())[31:] == [0x12, 0x1200, 0x12000, 0x120000, 0x200, 0x2000, 0x20000]
+    source.write_text("")
     assert explorer(0x2000, 0x800).atomics(0x2000) == ["logical"]
     assert explorer(0x2000, 0x800, False).atomics(0x2000) == []
 
@@ -433,7 +451,7 @@ def test_a_run_shrinks_to_what_it_needs(tmp_path: Path) -> None:
         "many requests outstanding before the first response",
     ]
     assert options_of(settings, script, bridge(), False, "wrong")[0].startswith("--no-reuse (without a source")
-    assert shrinker.runs < 200
+    assert shrinker.runs < 90
 
 
 def test_shrinking_goes_on_in_a_faster_simulation(tmp_path: Path) -> None:
@@ -441,6 +459,68 @@ def test_shrinking_goes_on_in_a_faster_simulation(tmp_path: Path) -> None:
     assert shrunk(tmp_path, [12], {}, fast).simulation is fast and fast.runs > 5
     other = Fails(bridge(), tmp_path, [99], {})
     assert shrunk(tmp_path, [12], {}, other).simulation is not other and other.runs == 1
+
+
+def test_the_messages_keep_their_cycles(tmp_path: Path) -> None:
+    design = bridge(fields=C)
+    (tmp_path / "client.sent").write_text("9 3\n0 10\n2 12\n0 14\n")
+    (tmp_path / "manager.sent").write_text("9 5\n1 11\n")
+    (tmp_path / "dut").mkdir()
+    (tmp_path / "dut" / "manager.sent").write_text("9 6\n1 11\n")
+    script = [Message("A", 0, 0, 0, 0, 0), Message("C", 7, 0, 0, 0, 0), Message("B", 6, 0, 0, 0, 0)]
+    script += [Message("A", 4, 0, 0, 0, 0), Message("A", 4, 0, 0, 0, 0)]
+
+    def of(design: Design, folder: Path) -> Shrinker:
+        judge = Judge(design, Rules(False, False))
+        made = Shrinker(
+            Fails(design, tmp_path, [], {}), judge, tmp_path / "shrink", 9, Problem("lost", "D", "", 495000)
+        )
+        made.best = made.pinned(script, folder), {}
+        return made
+
+    both = of(design, tmp_path)
+    assert both.begin == 3 and [message.at for message in both.best[0]] == [10, 12, 11, 14]  # the last was never sent
+    assert of(replace(design, client=None), tmp_path / "dut").begin == 6
+    # a run that begins later, by the client's cycles
+    assert both.cycle({}, "A") == 50 and both.moved({"seed": 1}, 24)["manager_offset"] == 20
+    assert both.moved({"reset_at": 30}, 24)["client_offset"] == 7
+    both.has_two = True
+    clocks = {"client_half": 2000, "manager_half": 5000, "client_phase": 3000, "manager_phase": 5000}
+    assert [both.cycle(clocks, channel) for channel in "ABC"] == [124, 50, 124]
+    moved = both.moved(clocks, 24)
+    assert [moved[name] for name in ("client_offset", "manager_offset", "skipped")] == [20, 8, 80000]
+
+
+def test_a_run_begins_shortly_before_its_mistake(tmp_path: Path) -> None:
+    shrinker = shrunk(tmp_path, [99], {})
+    script = [Message("A", 0, 0, 2, 1, 0, tag=at + 1, at=10 + at) for at in range(40)]
+    settings: Settings = dict(seed=7, calm=0)
+    for tags, count in (([40], 9), ([30, 40], 17), ([1, 40], 40)):
+        shrinker.simulation = Fails(bridge(), tmp_path, tags, {})
+        kept, found = shrinker.window(script, settings, script)
+        assert len(kept) == count and found.get("client_offset", 0) == max(0, 50 - count - 3 - 1) * (count < 40)
+
+
+def test_the_options_that_a_failure_names() -> None:
+    calm = {**CALM, "calm": 0x3FF}
+
+    def of(sizes: Sequence[int], kind: str = "wrong", opcode: int = 0, more: Mapping[str, int] = {}) -> List[str]:
+        script, has_two = [Message("A", opcode, 0, size, 0, 0) for size in sizes], "client_half" in more
+        return [words.partition(" (")[0] for words in options_of({**calm, **more}, script, bridge(), has_two, kind)]
+
+    assert of([7, 8]) == ["--largest 64"] and of([6, 8]) == ["--largest 4"] and of([2, 8]) == [] == of([])
+    assert of([0], opcode=2) == ["--only get,put,partial"] == of([0], opcode=3)
+    assert of([0], "lost") == of([0], "invented") == ["--rules-only"] and of([0], "memory") == ["--no-memory"]
+    clocks = {"client_half": 5000, "manager_half": 3000}
+    assert of([0], more=clocks) == ["--one-clock"]
+    named = dict(in_order=0, early=1, reuse=1, denied=1, reset_at=50, blocking=1, skew=1)
+    words = "--in-order --no-early --no-reuse --no-denied --no-reset --no-blocking --no-skew"
+    assert of([0], more=named) == words.split()
+    settings = {**calm, **clocks, "client_half": 2000}
+    assert needs_of(settings, bridge(), True) == ["clock periods of 4000 and 6000 ps"]
+    assert needs_of({**calm, "calm": 0x3FF & ~0xC3}, bridge(), False) == [
+        "pauses on valid of A, ready of A, valid of D, ready of D"
+    ]
 
 
 def test_nothing_special() -> None:
@@ -451,6 +531,31 @@ def test_nothing_special() -> None:
 
 
 # ---- coverage
+
+
+def test_a_release_changes_no_order_of_requests(tmp_path: Path) -> None:
+    design = bridge(fields=C)
+    released = "30 D 6 0 0 01 00 0 0000000000000000 0"
+    answers = [f"{time} D 1 0 0 {source:02x} 00 0 0000000000000000 0" for time, source in ((50, 2), (60, 1))]
+    client = [get(10, 5, 8, 1), released, get(40, 6, 8, 2), *answers, "90 E 1"]
+    coverage = Coverage(design)
+    coverage.add(beats_of(tmp_path, design, {"client": client, "manager": []}), Run(tmp_path, ""), {}, False)
+    assert coverage.counts["most outstanding"] == 2 and coverage.counts["responses out of order"] == 1
+    assert coverage.counts["back to back, client A"] == 0
+    rows = [row for row in coverage.table(Limits(("get",), 1)) if row.startswith("  E ")]
+    assert rows == ["  E GrantAck              1", "  E GrantAck              0"]  # of both links
+    assert coverage.holes(Limits(("probe", "release"), 1)) == [("release", 0, offset) for offset in range(8)]
+
+
+def test_beats_with_unknown_bits_are_not_counted(tmp_path: Path) -> None:
+    design = bridge()
+    lines = {"client": [get(10, 5, 8), get(20, 5, 8).replace("A 4", "A x")], "manager": [get(20, 5, 4)]}
+    coverage = Coverage(design)
+    coverage.add(beats_of(tmp_path, design, lines), Run(tmp_path, ""), {}, False)
+    assert sorted(coverage.messages.values()) == [1, 1] and coverage.messages_sent() == 1
+    rows = coverage.table(Limits(("get",), 1))
+    assert rows[1:4] == ["client link: messages by size in bytes", " " * 20 + "      1", "  A Get                   1"]
+    assert rows[4] == "manager link: messages by size in bytes"
 
 
 def test_what_was_covered(tmp_path: Path) -> None:
