@@ -9,7 +9,7 @@ from project import needs_tools
 
 from tlbridge.protocol import CHANNELS, FROM_CLIENT, beat_count
 from tlbridge.verify.bench import Bench, Run, Simulation
-from tlbridge.verify.design import Design, Link, Port, Signal, Source
+from tlbridge.verify.design import Design, Link, Port, Signal, Source, read_design
 from tlbridge.verify.judge import Beats, Judge, Rules, values_of
 from tlbridge.verify.memory import memory_problems
 from tlbridge.verify.traffic import Limits, Message, Traffic
@@ -262,6 +262,20 @@ def test_a_reset_in_the_middle(bridge: Bridge) -> None:
     assert min(beats.times["client"]) > run.reset_time and 5 < len(talks(beats)) < 60
     run, beats = bridge.run(script, **CALM, held=0x80)
     assert run.reset_time < 0 and len(talks(beats)) == 60
+
+
+def test_a_reset_of_the_other_link(tmp_path: Path) -> None:
+    """Either reset of this crossing resets both sides. So a valid falls on one link before the reset of that link comes,
+    up to a clock period after the other one."""
+    needs_tools("iverilog", "verilator")
+    design = read_design(Source("ul_handshake", (str(Path(__file__).parent / "fresh" / "ul_handshake.sv"),)))
+    simulation = Simulation(design, "icarus", tmp_path / "bench", Bench(design, True, False, False))
+    script = Traffic(design, Limits(("get", "put", "partial"), 4), 1, True, False, False).drawn(40, 4, "mixed", 0.4)
+    clocks = dict(client_half=3000, manager_half=15000)
+    held = dict(held=0x2, client_held=560, manager_held=112)  # ready of A is 0 at the manager, so a request waits there
+    for reset_at in range(700, 740, 4):
+        run = simulation.run(script, {"seed": 3, "reset_at": reset_at, **held, **clocks}, tmp_path / "run")
+        assert run.reset_time > 0 and run.complaints == [], reset_at
 
 
 def test_what_the_agents_complain_of(bridge: Bridge) -> None:
