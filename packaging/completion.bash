@@ -46,14 +46,13 @@ _tlbridge() {
     --level) [[ $1 == *tlbridge-verify ]] && words="UL UH C" || words="ul uh c" ;;
     --clocks) words="1 2" ;;
     --simulator) words="auto icarus verilator" ;;
-    --top | --tie | --seed | --seeds | --jobs | --messages | --largest | --window | --plusarg | --seconds | --shrink-seconds) words='' ;;
-    --param | --define | --reset-cycles | --cycles | --seconds | --within | --assume | --*-bits) words='' ;;
+    --top | --tie | --seed | --seeds | --jobs | --messages | --window | --plusarg | --seconds | --shrink-seconds) words='' ;;
+    --param | --define | --reset-cycles | --cycles | --within | --assume | --*-bits) words='' ;;
     --file-list | --include | --sby | --tcl) words='' ;;
     --out | --junit | --json) [[ $1 != *tlbridge-verify && $1 != *tlbridge-prove ]] || words='' ;;
     --channel) words="A B C D E" ;;
     --width | --*-width) words=$widths ;;
     --trace-version) words="1 2" ;;
-    --level) words="ul uh c" ;;
     --largest) words="1 2 4 8 16 32 64 128 256 512 1024 2048 4096" ;;
     --program | --write-trace | --trace | --times | --tlexplain | --far | --beats) words='' ;;
     --html) [[ $1 != *tlbridge-trace ]] || words='' ;;
@@ -62,9 +61,9 @@ _tlbridge() {
     case $before in
     --ring | --turns | --from | --to | --source | --only | --channel | --level | --simulator | --clocks) ;;
     --top | --tie | --seed | --seeds | --jobs | --messages | --largest | --window | --plusarg | --seconds | --shrink-seconds) ;;
-    --param | --define | --reset-cycles | --cycles | --seconds | --within | --assume | --*-bits) ;;
+    --param | --define | --reset-cycles | --cycles | --within | --assume | --*-bits) ;;
     --link | --client | --manager | --*-pattern | --field | --struct | --clock | --reset | --*-clock | --*-reset) ;;
-    --width | --*-width | --trace-version | --level | --largest) ;;
+    --width | --*-width | --trace-version) ;;
     *) [[ $word == -* ]] || mapfile -t -O "${#COMPREPLY[@]}" COMPREPLY < <(compgen -f -- "$word") ;;
     esac
 }

@@ -1,9 +1,13 @@
 """What all tests share: the builds of the verified programs, the limit of each test, and the last line of a run."""
 
+import compileall
 import faulthandler
 import os
 import resource
+import shutil
 import signal
+import sys
+import tempfile
 import zlib
 from collections import Counter
 from pathlib import Path
@@ -11,6 +15,7 @@ from typing import Any, Iterator, List
 
 import project
 import pytest
+import starter
 from differences import Differences
 
 # Seconds of processor time that Python may take in one test. A test that calls the C library could otherwise be in a
@@ -41,7 +46,34 @@ def pytest_addoption(parser: pytest.Parser) -> None:
     )
 
 
+def run_scripts_by_this_python(folder: str) -> None:
+    """Makes this Python the `python3` in PATH, by which the commands without an ending run. Another one there may start
+    slowly, as a script that looks for the right version. The modules of the package are compiled first, which a command
+    does not store.
+    """
+    compileall.compile_dir(project.ROOT / "python" / "tlbridge", quiet=2)
+    found = shutil.which("python3")
+    if sys.prefix != sys.base_prefix or (found and os.path.realpath(found) == os.path.realpath(sys.executable)):
+        return
+    os.symlink(sys.executable, os.path.join(folder, "python3"))
+    os.environ["PATH"] = os.pathsep.join((folder, os.environ.get("PATH", os.defpath)))
+
+
+def share_tools(config: pytest.Config) -> None:
+    """Prepares what speeds up all workers: the Python of scripts, and the objects of Verilator's own library."""
+    if "TLBRIDGE_TEST_OBJECTS" in os.environ:  # a worker has those of its parent
+        return
+    folder = tempfile.mkdtemp(prefix="tlbridge-tests.")
+    config.add_cleanup(lambda: shutil.rmtree(folder, ignore_errors=True))
+    os.environ["TLBRIDGE_TEST_OBJECTS"] = folder
+    keeper = str(project.ROOT / "tests" / "lib" / "keep_objects.sh")
+    if " " not in keeper:  # at which make would divide it
+        os.environ.setdefault("OBJCACHE", keeper)
+    run_scripts_by_this_python(folder)
+
+
 def pytest_configure(config: pytest.Config) -> None:
+    share_tools(config)
     project.programs_are_required = config.getoption("--both-builds")
     capture: Any = config.pluginmanager.getplugin("capturemanager")
     with capture.global_and_fixture_disabled():
@@ -60,7 +92,7 @@ def pytest_runtest_protocol(item: pytest.Item) -> Iterator[None]:
 def processor_seconds() -> float:
     """Returns the processor time of this process and of its children that have ended."""
     used = [resource.getrusage(who) for who in (resource.RUSAGE_SELF, resource.RUSAGE_CHILDREN)]
-    return sum(of.ru_utime + of.ru_stime for of in used)
+    return sum(of.ru_utime + of.ru_stime for of in used) + starter.seconds_of_runs()
 
 
 @pytest.hookimpl(hookwrapper=True)
@@ -122,9 +154,11 @@ def pytest_xdist_make_scheduler(config: pytest.Config, log: Any) -> Any:
     return Units(config, log)
 
 
-@pytest.hookimpl(tryfirst=True)
+@pytest.hookimpl(trylast=True)
 def pytest_collection_modifyitems(items: List[pytest.Item]) -> None:
-    """Begins with the files that one process runs, and ends with the small units that fill all processes."""
+    """Begins with the files that one process runs, and ends with the small units that fill all processes. pytest has
+    put tests with the same build of a program next to each other before.
+    """
     items.sort(key=lambda item: item.nodeid.partition("::")[0] in SHARED)
 
 

@@ -1,8 +1,8 @@
 """With times, the first wrong request or response of a long run is the first thing that tlbridge-compare,
 tlbridge-trace and tlexplain report.
 
-A run of 10,000 messages crosses an adapter from 8 bytes to 4: reads on A and D, or Releases on C and D. In its first
-tenth one response is stray, lost, doubled or early, on the link of the manager or of the client. A trace without times
+A run of 600 messages crosses an adapter from 8 bytes to 4: reads on A and D, or Releases on C and D. After a third of
+them one response is stray, lost, doubled or early, on the link of the manager or of the client. A trace without times
 pairs all later responses of that source wrongly, and names the last one.
 """
 
@@ -15,9 +15,11 @@ from pathlib import Path
 from typing import Dict, List, Sequence, Tuple
 
 import pytest
+import starter
 from project import MODEL, ROOT, SV, needs_program
 
-MESSAGES, SOURCES, LIMIT = 2_000, 8, 600
+MESSAGES, FAULTY, SOURCES = 600, 200, 8
+LIMIT = 600  # seconds, of one run
 CLIENT, MANAGER = "client", "manager"
 KINDS = ("stray", "lost", "doubled", "early")
 READS, RELEASES = "A", "C"  # the channel of the requests; the responses are on D
@@ -81,7 +83,7 @@ def record(
     return made, all_messages
 
 
-def planted(kind: str, side: str, channel: str = READS, at: int = 700) -> Tuple[Recorded, int]:
+def planted(kind: str, side: str, channel: str = READS, at: int = FAULTY) -> Tuple[Recorded, int]:
     """A run with one fault on one link, and the time at which it has to be reported first."""
     made, messages = record(channel)
     name = "response" if side == MANAGER else "far response"
@@ -106,7 +108,11 @@ def planted(kind: str, side: str, channel: str = READS, at: int = 700) -> Tuple[
 
 
 def run(command: Sequence[object], folder: Path) -> Tuple[int, List[str], str]:
-    done = subprocess.run(list(map(str, command)), cwd=folder, capture_output=True, text=True, timeout=LIMIT)
+    words = [str(word) for word in command]
+    if starter.command_of(words):
+        done = starter.run_text(words, folder, LIMIT)
+    else:
+        done = subprocess.run(words, cwd=folder, capture_output=True, text=True, timeout=LIMIT)
     return done.returncode, done.stdout.splitlines(), done.stderr
 
 
@@ -151,16 +157,16 @@ def test_compare(tmp_path: Path, kind: str, side: str, channel: str) -> None:
 @pytest.mark.parametrize("kind", KINDS)
 def test_explain(tmp_path: Path, kind: str, side: str, channel: str, is_verified: bool) -> None:
     """tlexplain names the beat on the same link, whose lines are in the order of time. So does its model."""
-    program = [needs_program("tlexplain")] if is_verified else [sys.executable, ROOT / "tlexplain-model"]
+    program = needs_program("tlexplain") if is_verified else ROOT / "tlexplain-model"
     made, time = planted(kind, side, channel)
     if kind == "lost":  # the request is named
         _, messages = record(channel)
-        time = messages[700]["far request" if side == MANAGER else "request"].time
+        time = messages[FAULTY]["far request" if side == MANAGER else "request"].time
     made.write(tmp_path)
     width = 4 if side == MANAGER else 8
     header = f"tilelink-trace 1 client {width} manager {width}\n"
     (tmp_path / "one.trace").write_text(header + (tmp_path / f"{side}.beats").read_text())
-    command = [*program, "--only", "problems", "--times", f"{side}.beats.times", "one.trace"]
+    command = [program, "--only", "problems", "--times", f"{side}.beats.times", "one.trace"]
     _, lines, error = run(command, tmp_path)
     assert times_of(lines[0])[:1] == [time], (time, lines[:3], error)
 
@@ -168,7 +174,7 @@ def test_explain(tmp_path: Path, kind: str, side: str, channel: str, is_verified
 @pytest.mark.parametrize("channel", (READS, RELEASES))
 def test_right_run(tmp_path: Path, channel: str) -> None:
     """The run itself is right, and nothing is said about it."""
-    made, _ = record(channel, 2000)
+    made, _ = record(channel)
     made.write(tmp_path)
     status, lines, error = run(
         [sys.executable, SV / "compare", 8, 4, "client.beats", "manager.beats", "--program", MODEL], tmp_path

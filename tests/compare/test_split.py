@@ -11,6 +11,7 @@ from pathlib import Path
 from typing import Dict, List, Optional, Tuple
 
 import pytest
+import starter
 from project import MODEL, ROOT, SV, needs_tools
 
 BENCH = ROOT / "tests" / "compare" / "splitter.sv"
@@ -27,10 +28,9 @@ class Ended:
 
 def compare(folder: Path, *words: str, widths: Tuple[int, int] = (8, 4)) -> Ended:
     """Runs tlbridge-compare with the unverified model over client.beats and manager.beats of a folder."""
-    command = [sys.executable, str(SV / "compare"), *map(str, widths), "client.beats", "manager.beats"]
-    done = subprocess.run(
-        [*command, "--program", str(MODEL), *words], cwd=folder, capture_output=True, text=True, timeout=LIMIT
-    )
+    command: List[starter.Word] = [SV / "compare", *widths, "client.beats", "manager.beats"]
+    command += ["--program", MODEL, *words]
+    done = starter.run_text(command, folder, LIMIT)
     return Ended(done.returncode, done.stdout.splitlines(), done.stderr)
 
 
@@ -275,10 +275,10 @@ def test_command_line(tmp_path: Path) -> None:
     assert compare(tmp_path, "--split", "--write-trace", "x").status == 2
 
 
-def test_two_thousand_messages(tmp_path: Path) -> None:
+def test_six_hundred_messages(tmp_path: Path) -> None:
     """A long run of pieces is judged in order, and a mistake in its middle is found there."""
     client, manager = [], []
-    for number in range(2000):
+    for number in range(600):
         address, source = 0x1000 + 8 * number, number % 16
         client += [
             f"A 4 0 3 {source:02x} {address:016x} ff {0:016x} 0",
@@ -290,10 +290,10 @@ def test_two_thousand_messages(tmp_path: Path) -> None:
                 f"D 1 0 2 {source:02x} 00 0 {2 * number + half:08x} 0",
             ]
     assert judged(tmp_path, client, manager).status == 0
-    manager[2001] = manager[2001].replace("D 1 0 2", "D 1 0 2").replace(" 0", " 0", 1)[:-1] + "1"
+    manager[601] = manager[601][:-1] + "1"
     ended = judged(tmp_path, client, manager)
-    assert ended.status == 1 and "manager.beats line 2002" not in ended.lines[0]
-    assert any("client.beats line 1002: corrupt is 0, expected 1" in line for line in ended.lines), ended
+    assert ended.status == 1 and "manager.beats line 602" not in ended.lines[0]
+    assert any("client.beats line 302: corrupt is 0, expected 1" in line for line in ended.lines), ended
 
 
 def verify(folder: Path, *words: str, burst: int = 0, mistake: int = 0) -> Ended:

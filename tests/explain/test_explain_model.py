@@ -8,6 +8,7 @@ from pathlib import Path
 from typing import List, Sequence, Tuple
 
 import pytest
+import starter
 from project import EXAMPLES, ROOT, needs_program
 from random_traces import Maker
 
@@ -40,10 +41,11 @@ def outputs() -> List[Tuple[Path, Path, Tuple[str, ...]]]:
 
 
 def run(words: Sequence[object], text: bytes, program: object = EXPLAIN_MODEL) -> Tuple[bytes, bytes, int]:
-    command = [sys.executable, program] if program == EXPLAIN_MODEL else [program]
-    done = subprocess.run(
-        [*map(str, command), *map(str, words)], input=text, capture_output=True, cwd=SENTENCES, timeout=LIMIT
-    )
+    command = [str(word) for word in (program, *words)]
+    if program == EXPLAIN_MODEL:
+        done = starter.run(command, cwd=SENTENCES, text=text, timeout=LIMIT)
+    else:
+        done = subprocess.run(command, input=text, capture_output=True, cwd=SENTENCES, timeout=LIMIT)
     return done.stdout, done.stderr.replace(b"tlexplain-model: ", b"tlexplain: "), done.returncode
 
 

@@ -15,10 +15,10 @@ at that of its partner.
 import random
 import re
 import subprocess
-import sys
 from collections import Counter, defaultdict, deque
 
 import pytest
+import starter
 from project import MODEL, needs_program, script
 from random_traces import lawful_trace
 from tlbridge.protocol import RESPONSES
@@ -65,7 +65,7 @@ class Model:
     @staticmethod
     def accepted_of(text):
         """How many beats of each channel are accepted, and on which channels all are."""
-        ended = subprocess.run([sys.executable, str(MODEL), "check"], input=text, capture_output=True)
+        ended = starter.run([MODEL, "check"], text=text)
         reports = [line.split() for line in ended.stdout.decode().splitlines() if line.startswith("= ")]
         return {words[1]: int(words[3]) for words in reports}, {
             words[1]: words[2] in ("done", "cut") for words in reports

@@ -2,6 +2,7 @@
 (docs/CHECKER.md).
 """
 from dataclasses import dataclass
+from typing import Collection, Dict, List, Mapping, Optional, Set, Tuple
 
 NAMES = {
     "A": "PutFullData PutPartialData ArithmeticData LogicalData Get Intent AcquireBlock AcquirePerm".split(),
@@ -46,6 +47,7 @@ FAULTS = {
 }
 NUMBER = {name: number for number, name in FAULTS.items()}
 CHANNELS = "ABCD"
+Head = Tuple[int, ...]
 
 
 @dataclass(frozen=True)
@@ -80,26 +82,26 @@ class Settings:
     ASSUME_MANAGER: int = 0
     MAX_REPORTS: int = 20
 
-    def is_assumed(self, channel):
+    def is_assumed(self, channel: str) -> bool:
         return bool(self.ASSUME_CLIENT if channel in "AC" else self.ASSUME_MANAGER)
 
-    def judges_offered(self, channel):
+    def judges_offered(self, channel: str) -> bool:
         return bool(self.ASSUME_OFFERED if self.is_assumed(channel) else self.JUDGE_OFFERED)
 
 
-def name_of(channel, beat):
+def name_of(channel: str, beat: Beat) -> str:
     return NAMES[channel][beat.opcode]
 
 
-def has_data(channel, beat):
+def has_data(channel: str, beat: Beat) -> bool:
     return name_of(channel, beat) in WITH_DATA
 
 
-def answers_a_request(channel, beat):
+def answers_a_request(channel: str, beat: Beat) -> bool:
     return channel == "D" and name_of(channel, beat) != "ReleaseAck"
 
 
-def head(channel, beat):
+def head(channel: str, beat: Beat) -> Head:
     return (
         beat.opcode,
         beat.param,
@@ -112,30 +114,32 @@ def head(channel, beat):
 class Link:
     """The state of one link after its accepted beats."""
 
-    def __init__(self, settings):
+    def __init__(self, settings: Settings) -> None:
         self.settings = settings
         self.reset()
 
-    def reset(self):
-        self.open = dict.fromkeys(CHANNELS)  # the first beat of the burst that is open, and how many beats it has left
-        self.in_flight = {}  # the request of each source
-        self.answered = None  # the request that was answered while it was offered
+    def reset(self) -> None:
+        # the first beat of the burst that is open, and how many beats it has left
+        self.open: Dict[str, Optional[Tuple[Beat, int]]] = dict.fromkeys(CHANNELS)
+        self.in_flight: Dict[int, Beat] = {}  # the request of each source
+        self.answered: Optional[Beat] = None  # the request that was answered while it was offered
         self.beats = dict.fromkeys(CHANNELS, 0)
         self.faults = dict.fromkeys(CHANNELS, 0)
-        self.waits = dict.fromkeys(CHANNELS)  # the faulty beat that was offered in the last cycle
+        # the faulty beat that was offered in the last cycle
+        self.waits: Dict[str, Optional[Tuple[str, Head, int, int]]] = dict.fromkeys(CHANNELS)
         self.overflow = False
 
-    def active(self, beat):
+    def active(self, beat: Beat) -> int:
         width = self.settings.DATA_BYTES
         return sum(1 << (beat.address + i) % width for i in range(min(1 << beat.size, width)))
 
-    def mask_is_wrong(self, channel, beat):
+    def mask_is_wrong(self, channel: str, beat: Beat) -> bool:
         if channel in "CD":
             return False
         active = self.active(beat)
         return bool(beat.mask & ~active) if name_of(channel, beat) == "PutPartialData" else beat.mask != active
 
-    def own_fault(self, channel, beat):
+    def own_fault(self, channel: str, beat: Beat) -> str:
         if name_of(channel, beat) == "-":
             return "Opcode"
         if beat.param >= PARAMS.get(name_of(channel, beat), 1):
@@ -148,17 +152,18 @@ class Link:
             return "Mask"
         return "Corrupt" if beat.corrupt and not has_data(channel, beat) else ""
 
-    def head_changed(self, channel, beat):
-        was = self.open[channel][0] if self.open[channel] else self.answered if channel == "A" else None
+    def head_changed(self, channel: str, beat: Beat) -> bool:
+        rest = self.open[channel]
+        was = rest[0] if rest else self.answered if channel == "A" else None
         return was is not None and head(channel, beat) != head(channel, was)
 
-    def request(self, beat, offered):
+    def request(self, beat: Beat, offered: Optional[Beat]) -> Optional[Beat]:
         """The request that a response answers: an older one, or the one that A offers."""
         return self.in_flight.get(
             beat.source, offered if offered is not None and offered.source == beat.source else None
         )
 
-    def fault(self, channel, beat, accepted, offered):
+    def fault(self, channel: str, beat: Beat, accepted: bool, offered: Optional[Beat]) -> str:
         """The fault of a beat; `offered` is the request of A that a response may answer in addition to those in
         flight.
         """
@@ -181,7 +186,7 @@ class Link:
                 return "OpcodeMismatch"
         return ""
 
-    def may_begin(self, channel, beat, offered):
+    def may_begin(self, channel: str, beat: Beat, offered: Optional[Beat]) -> bool:
         """Whether a beat with HeadChanged could begin a message."""
         rest, answered = self.open[channel], self.answered
         self.open[channel], self.answered = None, None
@@ -189,7 +194,7 @@ class Link:
         self.open[channel], self.answered = rest, answered
         return fault in ("", "SizeMismatch", "OpcodeMismatch")
 
-    def takes(self, channel, beat, fault, offered):
+    def takes(self, channel: str, beat: Beat, fault: str, offered: Optional[Beat]) -> bool:
         """Whether the link's state goes on with an accepted beat that has this fault."""
         if not fault:
             return True
@@ -199,9 +204,10 @@ class Link:
             fault == "HeadChanged" and self.may_begin(channel, beat, offered)
         )
 
-    def take(self, channel, beat, fault, offered):
-        if self.open[channel] and not fault:
-            first, left = self.open[channel]
+    def take(self, channel: str, beat: Beat, fault: str, offered: Optional[Beat]) -> None:
+        rest = self.open[channel]
+        if rest and not fault:
+            first, left = rest
             self.open[channel] = (first, left - 1) if left > 1 else None
             return
         beats = (1 << beat.size) // min(1 << beat.size, self.settings.DATA_BYTES) if has_data(channel, beat) else 1
@@ -218,7 +224,7 @@ class Link:
         ):
             self.answered = offered
 
-    def put(self, beat):
+    def put(self, beat: Beat) -> None:
         if (
             self.settings.MAX_OUTSTANDING
             and len(self.in_flight) >= self.settings.MAX_OUTSTANDING
@@ -234,10 +240,10 @@ class Checker:
     `overflow`, and its reports.
     """
 
-    def __init__(self, settings):
+    def __init__(self, settings: Settings) -> None:
         self.settings, self.link = settings, Link(settings)
 
-    def offered_request(self, beats, a_accepted, d_accepted):
+    def offered_request(self, beats: Mapping[str, Beat], a_accepted: bool, d_accepted: bool) -> Optional[Beat]:
         """The request that A offers and that a response of this cycle may answer, by the settings."""
         link, settings, beat = self.link, self.settings, beats.get("A")
         if beat is None or link.own_fault("A", beat) or beat.source in link.in_flight:
@@ -253,12 +259,12 @@ class Checker:
             return beat if settings.ALLOW_SAME_CYCLE_RESPONSE else None
         return beat if settings.RESPOND_TO_OFFERED or (settings.ALLOW_SAME_CYCLE_RESPONSE and not d_accepted) else None
 
-    def judged(self, channel, beat, offered):
+    def judged(self, channel: str, beat: Beat, offered: Optional[Beat]) -> Tuple[str, bool]:
         """The fault of an accepted beat, and whether the link's state goes on with it."""
         fault = self.link.fault(channel, beat, True, offered)
         return fault, self.link.takes(channel, beat, fault, offered)
 
-    def faults_of(self, beats, accepted):
+    def faults_of(self, beats: Mapping[str, Beat], accepted: Collection[str]) -> Tuple[Dict[str, str], Optional[Beat]]:
         """The fault of each beat that is judged; the state goes on with those that are accepted."""
         link, settings = self.link, self.settings
         request = self.offered_request(beats, "A" in accepted, "D" in accepted)
@@ -274,7 +280,7 @@ class Checker:
         to_offered = request if "A" not in accepted else None
         before = {channel: self.judged(channel, beats[channel], to_offered) for channel in accepted}
         fixed = {"A": not settings.ALLOW_SAME_CYCLE_REUSE, "D": not settings.ALLOW_SAME_CYCLE_RESPONSE}
-        taken = set()
+        taken: Set[str] = set()
         while True:
             moved = False
             for channel in CHANNELS:
@@ -299,7 +305,9 @@ class Checker:
             faults["A"] = "SourceBusy"
         return faults, request
 
-    def cycle(self, reset, beats, accepted):
+    def cycle(
+        self, reset: bool, beats: Mapping[str, Beat], accepted: Collection[str]
+    ) -> Tuple[Dict[str, int], int, bool, List[str]]:
         """The faults, the count after the edge, `overflow`, and the reports, of a cycle with these offered beats."""
         link = self.link
         if reset:
@@ -335,10 +343,10 @@ class Checker:
             reports,
         )
 
-    def hex(self, value, bits):
+    def hex(self, value: int, bits: int) -> str:
         return f"{value:0{(bits + 3) // 4}x}"
 
-    def field(self, channel, name, value):
+    def field(self, channel: str, name: str, value: int) -> str:
         bits = {
             "source": self.settings.SOURCE_BITS,
             "address": self.settings.ADDRESS_BITS,
@@ -346,7 +354,14 @@ class Checker:
         }
         return self.hex(value, bits[name]) if name in bits else str(value)
 
-    def words(self, channel, beat, fault, held, asked):
+    def words(
+        self,
+        channel: str,
+        beat: Beat,
+        fault: str,
+        held: Tuple[Optional[Tuple[Beat, int]], Optional[Beat]],
+        asked: Optional[Beat],
+    ) -> str:
         """The line of a report, after its time and place."""
         rest, answered = held
         name, width = name_of(channel, beat), self.settings.DATA_BYTES

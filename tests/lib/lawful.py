@@ -9,22 +9,25 @@ difference, by nothing but the rules of docs/SCOREBOARD.md.
 import random
 from dataclasses import dataclass, field, replace
 from functools import lru_cache
-from typing import Dict, List, Tuple
+from typing import Any, Dict, List, Optional, Sequence, Set, Tuple
 
 from project import MODEL, script
 from tables import FIELDS, FROM_CLIENT, NUMBERS, OPCODES
-from tlbridge.traffic import Draws
+from tlbridge.traffic import Draws, Head
 
 model = script(MODEL)
+# A message and a beat of the model, whose module is loaded when the tests run.
+Message = Any
+Beat = Any
 
 CLIENT, MANAGER = 0, 1
 NAMES = {CLIENT: "client", MANAGER: "manager"}
 DIGITS = {"opcode": 1, "param": 1, "size": 1, "source": 4, "sink": 4, "address": 16, "denied": 1, "corrupt": 1}
 
 
-def is_partial(message):
+def is_partial(message: Message) -> bool:
     """Whether each beat's mask says which of its bytes are written."""
-    return message.channel in "AB" and message.head["opcode"] == NUMBERS["A", "PutPartialData"]
+    return message.channel in "AB" and bool(message.head["opcode"] == NUMBERS["A", "PutPartialData"])
 
 
 @dataclass(frozen=True)
@@ -47,42 +50,42 @@ class Event:
     opcode: int = 0
 
     @property
-    def is_far(self):
+    def is_far(self) -> bool:
         return self.link != near_link(self.channel)
 
-    def value(self, name):
+    def value(self, name: str) -> Any:
         return getattr(self, name) if name in ("mask", "data", "corrupt") else self.head[name]
 
 
-def reset(time, link, asserted):
+def reset(time: int, link: int, asserted: bool) -> Event:
     return Event(time, link, "R", {"opcode": int(asserted)})
 
 
-def near_link(channel):
+def near_link(channel: str) -> int:
     return CLIENT if channel in FROM_CLIENT else MANAGER
 
 
-def place_of(at, count):
+def place_of(at: int, count: int) -> str:
     return "only" if count == 1 else "first" if at == 0 else "last" if at == count - 1 else "middle"
 
 
 class Exchange:
     """Makes the events of messages, one after the other; each beat is later than the one before, unless `step` is 0."""
 
-    def __init__(self, client, manager, seed=1, step=10, id_bits=16):
+    def __init__(self, client: int, manager: int, seed: int = 1, step: int = 10, id_bits: int = 16) -> None:
         self.widths = {CLIENT: client, MANAGER: manager}
         self.draws = Draws(random.Random(f"{client} {manager} {seed}"), id_bits, id_bits)
         self.step, self.time = step, 10
         self.numbers = {(link, channel): 0 for link in NAMES for channel in "ABCDE"}
         self.events: List[Event] = []
 
-    def tick(self, least=0):
+    def tick(self, least: int = 0) -> None:
         self.time += max(self.step, least)
 
-    def head(self, channel, opcode, size, **more):
+    def head(self, channel: str, opcode: int, size: int, **more: int) -> Head:
         return self.draws.head(channel, opcode, size, **more)
 
-    def message(self, channel, head, home=None):
+    def message(self, channel: str, head: Head, home: Optional[int] = None) -> Message:
         """A lawful message with bytes, mask and corrupt bits at random, on all lanes."""
         width = self.widths[near_link(channel)]
         made = model.Message(channel, head, home=head.get("address", 0) if home is None else home)
@@ -91,9 +94,10 @@ class Exchange:
             made.beats.append(model.Beat(head, beat.mask, lanes, beat.corrupt))
         return made
 
-    def add(self, link, channel, beat, at, message, count, time=None):
+    def add(self, link: int, channel: str, beat: Beat, at: int, message: Message, count: int) -> None:
         width = self.widths[link]
-        lanes, active = (), 0
+        lanes: Tuple[bool, ...] = ()
+        active = 0
         if channel != "E" and message.has_data:
             active = message.active_lanes(at, width)
         if link != near_link(channel) and channel != "E":
@@ -103,7 +107,7 @@ class Exchange:
             )
         self.events.append(
             Event(
-                self.time if time is None else time,
+                self.time,
                 link,
                 channel,
                 beat.head,
@@ -119,7 +123,7 @@ class Exchange:
         )
         self.numbers[link, channel] += 1
 
-    def send(self, channel, head, home=None, far_first=False):
+    def send(self, channel: str, head: Head, home: Optional[int] = None, far_first: bool = False) -> Head:
         """The near beats of a message, and each far beat once it is due (or before its near beats)."""
         near = near_link(channel)
         made = self.message(channel, head, home)
@@ -148,7 +152,7 @@ class Exchange:
                 )
         return head
 
-    def ask(self, opcode, size, response, far_first=False, **more):
+    def ask(self, opcode: int, size: int, response: int, far_first: bool = False, **more: int) -> Head:
         """A request on A and its response on D."""
         head = self.send("A", self.head("A", opcode, size, **more), far_first=far_first)
         self.tick()
@@ -161,13 +165,22 @@ REQUESTS = ((0, 0), (1, 0), (2, 1), (3, 1), (4, 1), (5, 2), (6, 5), (7, 4), (6, 
 OTHERS = {"B": (0, 1, 2, 3, 4, 5, 6, 7), "C": (0, 1, 2, 4, 5, 6, 7)}
 
 
-def exchange(client, manager, **more):
+def exchange(client: int, manager: int, **more: Any) -> List[Event]:
     """Each message of each channel, of sizes around both widths, up to `most`."""
     return list(made_exchange(client, manager, **more))
 
 
 @lru_cache(maxsize=None)
-def made_exchange(client, manager, seed=1, step=10, far_first=False, rounds=1, most=None, id_bits=16):
+def made_exchange(
+    client: int,
+    manager: int,
+    seed: int = 1,
+    step: int = 10,
+    far_first: bool = False,
+    rounds: int = 1,
+    most: Optional[int] = None,
+    id_bits: int = 16,
+) -> List[Event]:
     made = Exchange(client, manager, seed, step, id_bits)
     low, high = sorted((client.bit_length() - 1, manager.bit_length() - 1))
     most = min(high + 2, 12) if most is None else most
@@ -187,13 +200,13 @@ def made_exchange(client, manager, seed=1, step=10, far_first=False, rounds=1, m
     return made.events
 
 
-def with_value(event, name, value):
+def with_value(event: Event, name: str, value: Any) -> Event:
     if name in ("mask", "data", "corrupt"):
         return replace(event, **{name: value})
     return replace(event, head={**event.head, name: value})
 
 
-def bits_of(event, name):
+def bits_of(event: Event, name: str) -> List[int]:
     """The bits of a field, lowest first, of those that may be changed so that the field still fits."""
     if name == "data":
         return [8 * lane + bit for lane, compared in enumerate(event.lanes) if compared for bit in (0, 7)]
@@ -203,7 +216,7 @@ def bits_of(event, name):
     return list(range(most.get(name, 1)))
 
 
-def flipped(event, name, bit):
+def flipped(event: Event, name: str, bit: int) -> Event:
     """The event with one bit of a field changed."""
     if name != "data":
         return with_value(event, name, event.value(name) ^ 1 << bit)
@@ -212,7 +225,7 @@ def flipped(event, name, bit):
     return with_value(event, name, bytes(data))
 
 
-def shown(event, name, value):
+def shown(event: Event, name: str, value: Any) -> str:
     """A value as a scoreboard prints it: of data, the highest lane first, and `..` for a lane that is not compared."""
     if name == "data":
         return "".join(
@@ -222,7 +235,7 @@ def shown(event, name, value):
     return f"{value:0{digits}x}"
 
 
-def reported(was, came):
+def reported(was: Event, came: Event) -> str:
     """Returns the line about a far beat that arrived as `came`, and was expected unchanged."""
     order = "opcode param size source sink address mask denied corrupt data".split()
     names = [name for name in order if name in FIELDS[was.channel] and was.value(name) != came.value(name)]
@@ -233,7 +246,14 @@ def reported(was, came):
     return f"time {came.time}: far {was.channel} beat {was.number}{said}"
 
 
-def of(events, channel, far=True, place=None, opcode=None, data=None):
+def of(
+    events: Sequence[Event],
+    channel: str,
+    far: bool = True,
+    place: Optional[str] = None,
+    opcode: Optional[int] = None,
+    data: Optional[bool] = None,
+) -> List[int]:
     """The numbers of the events that are such beats."""
     return [
         i
@@ -246,7 +266,7 @@ def of(events, channel, far=True, place=None, opcode=None, data=None):
     ]
 
 
-def far_of(events, at):
+def far_of(events: Sequence[Event], at: int) -> List[int]:
     """The numbers of the far beats of the message of a near beat."""
     channel = events[at].channel
     message = sum(events[i].place in ("first", "only") for i in of(events, channel, far=False) if i <= at)
@@ -258,7 +278,7 @@ def far_of(events, at):
     return far
 
 
-def spoilt(event, fault):
+def spoilt(event: Event, fault: int) -> Optional[Event]:
     """The near beat with this fault, by its number; None if it cannot have it."""
     head, channel = event.head, event.channel
     if fault == 1:
@@ -278,16 +298,19 @@ def spoilt(event, fault):
     return flipped(event, "denied", 0) if channel == "D" else flipped(event, "address", 60)
 
 
-def with_wrong_mask(event):
+def with_wrong_mask(event: Event) -> Optional[Event]:
     """PutPartialData may have any active lane, so a lane next to them is set if there is one."""
     width, size = len(event.data), event.head["size"]
-    beside = event.head["address"] % width ^ (1 << size) if 1 << size < width else None
-    if event.head["opcode"] == 1 and beside is None:
+    if event.head["opcode"] != 1:
+        return with_value(event, "mask", event.mask ^ 1)
+    if 1 << size >= width:
         return None
-    return with_value(event, "mask", event.mask ^ 1 << (beside if event.head["opcode"] == 1 else 0))
+    return with_value(event, "mask", event.mask ^ 1 << (event.head["address"] % width ^ (1 << size)))
 
 
-def broken(events, channel, fault, place, whole=False):
+def broken(
+    events: Sequence[Event], channel: str, fault: int, place: str, whole: bool = False
+) -> Optional[Tuple[List[Event], int]]:
     """The traffic with this fault in a near beat (or in each beat of its message), and the number of that beat; None if
     none can have it.
     """
@@ -301,11 +324,13 @@ def broken(events, channel, fault, place, whole=False):
         message += [i for i in of(events, channel, far=False) if at < i and far_of(events, i) == far_of(events, at)]
     made = list(events)
     for i in message:
-        made[i] = spoilt(events[i], fault)
+        wrong = spoilt(events[i], fault)
+        assert wrong
+        made[i] = wrong
     return made, at
 
 
-def head_said(event):
+def head_said(event: Event) -> str:
     """The head of a beat in the words of a scoreboard."""
     head = event.head
     if event.channel == "E":
@@ -314,13 +339,14 @@ def head_said(event):
     return f"opcode {head['opcode']}, size {head['size']}, source {head['source']:04x}{last}"
 
 
-def moved(events, by):
+def moved(events: Sequence[Event], by: int) -> List[Event]:
     return [replace(event, time=event.time + by) for event in events]
 
 
-def renumbered(events):
+def renumbered(events: Sequence[Event]) -> List[Event]:
     """The events, each with its number on its channel and link."""
-    counts, made = {}, []
+    counts: Dict[Tuple[int, str], int] = {}
+    made = []
     for event in events:
         key = event.link, event.channel
         counts[key] = counts.get(key, -1) + 1
@@ -328,13 +354,14 @@ def renumbered(events):
     return made
 
 
-def packed(events):
+def packed(events: Sequence[Event]) -> List[Event]:
     """The same traffic in few cycles: a beat has the time of the one before, unless its channel has a beat of its link
     at this time. So a response may
     come in the cycle of its request, a request in the cycle in which its source becomes free, and a far beat in the
     cycle of its near beat.
     """
-    time, seen, made = events[0].time, set(), []
+    time, made = events[0].time, []
+    seen: Set[Tuple[int, str]] = set()
     for event in events:
         if (event.link, event.channel) in seen or (event.channel != "R" and "R" in {channel for _, channel in seen}):
             time, seen = time + 10, set()

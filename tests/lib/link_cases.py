@@ -4,7 +4,7 @@ say. The lines of a scoreboard are those of docs/SCOREBOARD.md; the monitor's ar
 faults are those of
 tests/lib/checker_model.py."""
 from dataclasses import dataclass, replace
-from typing import List
+from typing import Callable, Iterator, List, Optional, Sequence, Tuple
 
 import tables
 from lawful import (
@@ -40,11 +40,11 @@ class Case:
     name: str
     events: List[Event]
     differences: int = 0
-    lines: List[str] = None
+    lines: Optional[List[str]] = None
     is_lawful: bool = False  # both links keep the rules, so the monitor's files are the beats
 
 
-def started(events, first=100):
+def started(events: Sequence[Event], first: int = 100) -> List[Event]:
     """The events, after a reset of both links at the beginning."""
     return [
         reset(10, CLIENT, True),
@@ -55,7 +55,7 @@ def started(events, first=100):
     ]
 
 
-def changed(events, at, *names):
+def changed(events: Sequence[Event], at: int, *names: str) -> Tuple[List[Event], str]:
     """The traffic with one bit of each of these fields of a far beat changed, the highest, and the line about it."""
     came = events[at]
     for name in names:
@@ -63,7 +63,7 @@ def changed(events, at, *names):
     return [*events[:at], came, *events[at + 1 :]], reported(events[at], came)
 
 
-def of_fields(client, manager):
+def of_fields(client: int, manager: int) -> Iterator[Case]:
     """Each field of each channel, at the first, a middle and the last beat of a burst or at the only beat of a message,
     by turns.
     """
@@ -91,7 +91,7 @@ def of_fields(client, manager):
             yield Case(f"{name} of {channel}, {place} beat", made, len(lines), lines)
 
 
-def of_both_links(client, manager):
+def of_both_links(client: int, manager: int) -> Iterator[Case]:
     """Mistakes at both links at once, and in each channel at one time."""
     events = started(exchange(client, manager, step=10))
     lines, made = [], events
@@ -119,7 +119,7 @@ def of_both_links(client, manager):
     )
 
 
-def of_lost_beats(client, manager):
+def of_lost_beats(client: int, manager: int) -> Iterator[Case]:
     """The last far beat of each channel is lost, or comes twice."""
     for channel in "ABCDE":
         events = started([event for event in exchange(client, manager) if channel != "A" or event.channel != "D"])
@@ -175,7 +175,7 @@ def of_lost_beats(client, manager):
         )
 
 
-def of_refused_beats(client, manager, *faults):
+def of_refused_beats(client: int, manager: int, *faults: int) -> Iterator[Case]:
     """A near beat breaks a rule. The traffic after it is judged, and one far beat of the same channel in it is
     wrong.
     """
@@ -197,7 +197,7 @@ def of_refused_beats(client, manager, *faults):
             )
 
 
-def of_resets(client, manager):
+def of_resets(client: int, manager: int) -> Iterator[Case]:
     """Resets of one link and of both, released apart, amid traffic; what is in flight then is not judged."""
     for first in (CLIENT, MANAGER):
         made = Exchange(client, manager)
@@ -230,7 +230,7 @@ def of_resets(client, manager):
         yield from of_resets_amid(client, manager, channel)
 
 
-def of_resets_amid(client, manager, channel):
+def of_resets_amid(client: int, manager: int, channel: str) -> Iterator[Case]:
     """A burst of a channel is cut by a reset; then there is other traffic, also with sources of requests that had no
     response, and a mistake at its end.
     """
@@ -266,7 +266,7 @@ def of_resets_amid(client, manager, channel):
         )
 
 
-def of_ends(client, manager):
+def of_ends(client: int, manager: int) -> Iterator[Case]:
     yield Case("lawful traffic", started(exchange(client, manager)), 0, [], True)
     yield Case("lawful traffic in few cycles", packed(started(exchange(client, manager))), 0, [])
     yield Case("far beats before their near beats", started(exchange(client, manager, far_first=True)), 0, [])
@@ -291,13 +291,15 @@ def of_ends(client, manager):
     )
 
 
-def cases(client, manager):
+def cases(client: int, manager: int) -> Iterator[Case]:
     """All cases of a pair of widths."""
-    for part in (of_ends, of_fields, of_both_links, of_lost_beats, of_refused_beats, of_resets):
+    parts: List[Callable[[int, int], Iterator[Case]]] = [of_ends, of_fields, of_both_links, of_lost_beats]
+    parts += [of_refused_beats, of_resets]
+    for part in parts:
         yield from part(client, manager)
 
 
-def fits(lines, expected):
+def fits(lines: Sequence[str], expected: Sequence[str]) -> bool:
     """Whether the lines are those that are expected."""
     return len(lines) == len(expected) and all(
         line.startswith(want[:-2]) if want.endswith("..") else line == want for line, want in zip(lines, expected)

@@ -344,7 +344,7 @@ def long_traces() -> Iterator[Trace]:
         header = f"tilelink-trace {link}\n".encode()
         whole = (PIECE_BYTES - len(header)) // len(line)
         count = 2 * whole + 3
-        answer = answer_with(link, [line.decode().strip()] * count, {"E": f"done {count} {count}"})
+        answer = answer_with(link, [(line * count).decode().rstrip()], {"E": f"done {count} {count}"})
         yield Trace(f"{count} lines of version {version}", header + line * count, answer)
         for before in (whole - 1, whole, whole + 1):
             name = f"line {before + 2} of version {version}"
@@ -380,7 +380,7 @@ def parted_traces(whole: Trace) -> Iterator[Trace]:
         of_e = (room - of_c * len(LINE_OF_C)) // len(LINE_OF_E)
         before = header + LINE_OF_C * of_c + LINE_OF_E * of_e
         a, b, c, d, e = far_lines
-        came = [a, b, *[FAR_LINE_OF_C] * of_c, c, d, *[e] * of_e, e]
+        came = [a, b, *[FAR_LINE_OF_C] * of_c, c, d, f"{e}\n" * of_e + e]
         reports = dict.fromkeys("ABD", "done 1 1")
         reports |= {letter: f"done {count + 1} {count + 1}" for letter, count in (("C", of_c), ("E", of_e))}
         link = answer[0].removeprefix("tilelink-far ")
@@ -476,7 +476,7 @@ def behind_others(first: Sequence[str], inside: int) -> Tuple[str, int, int]:
     room = PIECE_BYTES - len(f"tilelink-trace {LINK_OF_8}\n") - len(whole_lines(first)) - inside
     of_c = next(count for count in range(5) if (room - count * len(C_OF_8 + "\n")) % len(E_OF_8 + "\n") == 0)
     of_e = (room - of_c * len(C_OF_8 + "\n")) // len(E_OF_8 + "\n")
-    return whole_lines([f"tilelink-trace {LINK_OF_8}", *[C_OF_8] * of_c, *[E_OF_8] * of_e]), of_c, of_e
+    return f"tilelink-trace {LINK_OF_8}\n" + f"{C_OF_8}\n" * of_c + f"{E_OF_8}\n" * of_e, of_c, of_e
 
 
 def boundary_traces() -> Iterator[Trace]:
@@ -486,7 +486,8 @@ def boundary_traces() -> Iterator[Trace]:
         for name, first, rest, came, reports in ACROSS:
             before, of_c, of_e = behind_others(first, inside)
             far_lines = [line for letter in "AB" for line in came if line[0] == letter]
-            far_lines += [C_OF_8] * of_c + [line for line in came if line[0] == "D"] + [E_OF_8] * of_e
+            far_lines += [C_OF_8] * of_c + [line for line in came if line[0] == "D"]
+            far_lines.append(f"{E_OF_8}\n" * (of_e - 1) + E_OF_8)
             reports = {**reports, "C": f"done {of_c} {of_c}", "E": f"done {of_e} {of_e}"}
             status = 0 if all(report.startswith("done") for report in reports.values()) else 1
             text = (before + whole_lines(first) + whole_lines(rest)).encode()

@@ -10,6 +10,7 @@ it does by default; the archive of `make dist`; the wheel; and the version.
 import base64
 import csv
 import hashlib
+import importlib.util
 import os
 import re
 import shutil
@@ -56,6 +57,7 @@ VERSIONS = {
 def make(top, *words, source=ROOT):
     """Runs make in `source` for the tree below a folder. Returns its output if it failed, otherwise nothing."""
     command = ["make", "--no-print-directory", "-C", str(source), *words, f"DESTDIR={top}", f"PREFIX={STAGED_PREFIX}"]
+    command += ["CFLAGS=-O0"] * (source != ROOT)
     done = subprocess.run(
         command,
         stdin=subprocess.DEVNULL,
@@ -485,6 +487,11 @@ def test_each_option_has_its_entry_in_the_man_page_and_its_completion(installed:
         ("tlexplain", ["--from", ""], set()),
         ("tlbridge-model", ["run", header[:-4]], {header}),
         ("tlbridge-trace", ["--client-width", "12"], {"128"}),
+        ("tlbridge-compare", ["8", "4", "a", "b", "--largest", "4"], {"4", "4096"}),
+        ("tlbridge-compare", ["8", "4", "a", "b", "--level", ""], {"ul", "uh", "c"}),
+        ("tlbridge-verify", ["--level", ""], {"UL", "UH", "C"}),
+        ("tlbridge-verify", ["--largest", "6"], {"64"}),
+        ("tlbridge-prove", ["--seconds", ""], set()),
     ):
         found = completed(tree, name, words) if shutil.which("bash") else wanted
         tests.test(found == wanted, f"{name} {' '.join(words)}: bash completes {sorted(found)}")
@@ -648,17 +655,20 @@ def test_a_changed_file_is_put_into_everything_that_is_made_of_it(installed: Ins
         "out/libtlbridge_trace.a": "out/libtlbridge.so",
     }
     headers = ("sv/tlbridge_calls.h", "include/tlbridge.h", "include/tlbridge_scoreboard.h")
+    # (with -q, make says by its status whether it would make a file again, which the list of pairs is in any case)
+    asked = ("-q", "-o", "out/pairs", f"PAIRS={pair.replace('_', ':')}")
     for name, made in [*goes_into.items(), *((name, made) for name in headers for made in OBJECTS)]:
-        kept, times = (source / name).stat(), []
-        for later in (0, 0, 10):
-            os.utime(source / name, (kept.st_atime, kept.st_mtime if later == 0 else time.time() + later))
-            before = (source / made).stat().st_mtime_ns
-            make(source, made, "CFLAGS=-O0", f"PAIRS={pair.replace('_', ':')}", source=source)
-            times.append((source / made).stat().st_mtime_ns != before)
+        kept, statuses = (source / name).stat(), []
+        for changed in (kept.st_mtime, time.time() + 10):
+            os.utime(source / name, (kept.st_atime, changed))
+            statuses.append(said_by_make(source, *asked, made)[0])
         os.utime(source / name, (kept.st_atime, kept.st_mtime))
-        tests.test(
-            times[1:] == [False, True], f"{made} is made again: {times[1]}, and after a change of {name}: {times[2]}"
-        )
+        tests.test(statuses == [0, 1], f"make -q {made}, before and after a change of {name}: {statuses}")
+    times = []
+    for _ in range(2):
+        make(source, OBJECTS[0], f"PAIRS={pair.replace('_', ':')}", source=source)
+        times.append((source / OBJECTS[0]).stat().st_mtime_ns)
+    tests.test(times[0] == times[1], f"{OBJECTS[0]} is made again for the same pairs")
     tests.verdict()
 
 
@@ -848,9 +858,10 @@ def test_the_source_archive(tmp_path: Path) -> None:
     wheel, made, error = wheel_of(place, tmp_path)
     assert (wheel, error) == (f"tlbridge-{VERSION}-py3-none-any.whl", "")
     assert {path for path in made if ".dist-info/" not in path} == package
-    venv.create(tmp_path / "venv", with_pip=True, system_site_packages=True)
-    pip = [tmp_path / "venv" / "bin" / "pip", "install", "--no-index", "--no-build-isolation", "--quiet"]
-    done = subprocess.run([*map(str, pip), str(tmp_path / name)], capture_output=True, text=True)
+    # (to unpack a pip of its own takes longer than the rest)
+    venv.create(tmp_path / "venv", with_pip=not importlib.util.find_spec("pip"), system_site_packages=True)
+    pip = [tmp_path / "venv" / "bin" / "python", "-m", "pip", "install", "--no-index", "--no-build-isolation"]
+    done = subprocess.run([*map(str, pip), "--quiet", str(tmp_path / name)], capture_output=True, text=True)
     assert done.returncode == 0, done.stderr
     command = [str(tmp_path / "venv" / "bin" / "tlbridge-compare"), "--help"]
     assert "client_beats" in subprocess.run(command, capture_output=True, text=True).stdout
@@ -1113,7 +1124,8 @@ def test_the_archive_of_make_dist_has_the_files_of_the_tree(installed: Installed
     old = source / "out" / "dist" / f"tlbridge-{VERSION}" / "old"
     old.parent.mkdir(parents=True)
     old.write_text("")
-    status, said = said_by_make(source, "dist", f"PAIRS={' '.join(pairs).replace('_', ':')}", "PROGRAMS=no")
+    words = ("dist", f"PAIRS={' '.join(pairs).replace('_', ':')}", "PROGRAMS=no", "CFLAGS=-O0")
+    status, said = said_by_make(source, *words)
     machine = os.uname()
     name = f"out/tlbridge-{VERSION}-{machine.sysname.lower()}-{machine.machine.lower()}.tar.gz"
     tests.test(status == 0 and said.endswith(f"\n{name}\n"), f"make dist: status {status}: {said[-500:]}")

@@ -20,7 +20,7 @@ import link_cases
 import pytest
 from board_library import PLAIN_BRIDGE, compile_object
 from checker_model import Beat, Checker, Settings
-from commands import run, succeed
+from commands import Word, run, succeed
 from lawful import Event
 from link_cases import Case
 from once import made_once
@@ -104,11 +104,9 @@ def trace_line(event: Event, width: int, digits: int, zero: bool) -> str:
 
 def faults(events: Sequence[Event], link: int, width: int, id_bits: int) -> int:
     """How many faults the rules have on a link since its last reset."""
-    checker, cycles, count = (
-        Checker(Settings(DATA_BYTES=width, SOURCE_BITS=id_bits, SINK_BITS=id_bits)),
-        defaultdict(dict),
-        0,
-    )
+    checker = Checker(Settings(DATA_BYTES=width, SOURCE_BITS=id_bits, SINK_BITS=id_bits))
+    cycles: Dict[int, Dict[str, Event]] = defaultdict(dict)
+    count = 0
     for event in events:
         if event.link == link and event.channel != "E":
             cycles[event.time][event.channel] = event
@@ -509,7 +507,17 @@ def build(folder: Path, pair: Pair, stop: int) -> None:
     sources = (*SCOREBOARD, PLAIN_BRIDGE, HERE / "boards.c")
     objects = [compile_object(path, folder, pairs) for path in sources]
     wrapped = "-Wl," + ",".join(f"--wrap=tlbridge_scoreboard_{name}" for name in ("open", "free"))
-    words = ["verilator", "--binary", "-j", 1, "-Wno-fatal", "-Wno-lint", "-DBOARD", "--top-module", "links"]
+    words: List[Word] = [
+        "verilator",
+        "--binary",
+        "-j",
+        1,
+        "-Wno-fatal",
+        "-Wno-lint",
+        "-DBOARD",
+        "--top-module",
+        "links",
+    ]
     words += ["--Mdir", folder / "built", "-o", "links", *(["-DDEFAULTS"] if pair == (8, 4) else [])]
     words += [f"-GCLIENT={pair[0]}", f"-GMANAGER={pair[1]}", f"-GSTOP={stop}"]
     words += [f"-GALLOW_NO_BEATS={int(pair != (8, 4))}", "-CFLAGS", "-O0"]
@@ -564,7 +572,7 @@ def test_the_scoreboard_prints_the_lines_of_a_case(
     expected = [
         re.sub(
             r"^time (\d+)(: reset)?",
-            lambda found: f"time {shown(int(found[1]) - (5 if found[2] else 0))}{found[2] or ''}",
+            lambda found: f"time {shown(int(found[1]) - (5 if found[2] else 0))}{str(found[2] or '')}",
             line,
         )
         for line in case.lines or []

@@ -6,12 +6,14 @@ status, and first line of standard error, apart from the program's name. Without
 compared with each `.answer` and `.error` file.
 """
 
+import contextlib
 import re
 import subprocess
 import tempfile
 from dataclasses import dataclass
 
 import pytest
+import starter
 from project import EXAMPLES, MODEL, ROOT, needs_program
 
 GET = str(EXAMPLES / "get.trace")
@@ -93,19 +95,20 @@ class Ended:
 
 
 def run(program, case):
-    output = open(case.output_to, "wb") if case.output_to else subprocess.PIPE
-    try:
-        ended = subprocess.run(
-            [str(program), *case.words],
-            input=case.text,
-            stdout=output,
-            stderr=subprocess.PIPE,
-            timeout=120,
-            cwd=tempfile.gettempdir(),
-        )
-    finally:
-        if case.output_to:
-            output.close()
+    words, folder = [str(program), *case.words], tempfile.gettempdir()
+    with contextlib.ExitStack() as open_files:
+        output = open_files.enter_context(open(case.output_to, "wb")) if case.output_to else None
+        if program == MODEL:
+            ended = starter.run(words, cwd=folder, text=case.text, stdout=output, timeout=120)
+        else:
+            ended = subprocess.run(
+                words,
+                input=case.text,
+                stdout=output or subprocess.PIPE,
+                stderr=subprocess.PIPE,
+                timeout=120,
+                cwd=folder,
+            )
     first = ended.stderr.partition(b"\n")[0].replace(b"tlbridge-model", b"tlbridge")
     return Ended(ended.returncode, ended.stdout or b"", first)
 

@@ -18,6 +18,7 @@ from pathlib import Path
 from typing import Callable, List, Tuple
 
 import pytest
+import starter
 from project import ROOT, built, needs_program, needs_tools
 from small_waves import simple
 
@@ -220,19 +221,24 @@ def paths(command, room):
 
 
 class Ended:
-    def __init__(self, command, words, room, shell="", **more):
-        """Runs words, or `shell` with them: it has "$@". A command that does not end is a failure."""
-        words = ["sh", "-c", shell, "sh", *words] if shell else words
-        more = {"stdin": subprocess.DEVNULL, "stdout": subprocess.PIPE, **more}
+    def __init__(self, command, words, room, closed=(), **more):
+        """Runs words, in which the streams with the numbers `closed` are closed. A command that does not end is a
+        failure. Each script in Python starts with closed streams as users start it; other runs of it are forks."""
         environment = {
             **{name: value for name, value in os.environ.items() if name != "PYTHONUNBUFFERED"},
             "PYTHONPATH": str(ROOT / "python"),
             "PYTHONDONTWRITEBYTECODE": "1",
             "LC_ALL": "C.UTF-8",
         }
-        ran = subprocess.run(
-            words, cwd=room, stderr=subprocess.PIPE, timeout=LIMIT, env=environment, check=False, **more
-        )
+        if starter.command_of(words) and not (closed and command.bad_words):
+            ran = starter.run(words, cwd=room, timeout=LIMIT, env=environment, closed=closed, **more)
+        else:
+            more = {"stdin": subprocess.DEVNULL, "stdout": subprocess.PIPE, **more}
+            closes = " ".join(f"{number}>&-" for number in closed)
+            words = ["sh", "-c", f'exec "$@" {closes}', "sh", *words] if closed else words
+            ran = subprocess.run(
+                words, cwd=room, stderr=subprocess.PIPE, timeout=LIMIT, env=environment, check=False, **more
+            )
         self.command, self.status, self.output, self.error = (
             command,
             ran.returncode,
@@ -304,8 +310,8 @@ def of_streams(command, room):
     """With the right input, and with a bad one whose message has no place."""
     right, bad = command.words(str(room / "right")), command.words(str(room / "missing"))
 
-    def as_usual(shell):
-        usual, ended = Ended(command, right, room), Ended(command, right, room, shell)
+    def as_usual(closed):
+        usual, ended = Ended(command, right, room), Ended(command, right, room, closed)
         return ended.failure(usual.status, usual.output, True)
 
     def broken():
@@ -326,17 +332,15 @@ def of_streams(command, room):
         return ended.failure(4) or ("" if has_name else f"standard output is not named: {ended.error}")
 
     yield "the right input", lambda: Ended(command, right, room).failure(0, None)
-    yield "standard output is closed", lambda: Ended(command, right, room, 'exec "$@" >&-').failure(4)
+    yield "standard output is closed", lambda: Ended(command, right, room, (1,)).failure(4)
     yield "standard output is full", full
     yield "nobody reads standard output", broken
-    yield "standard input is closed", lambda: as_usual('exec "$@" <&-')
-    yield "standard error is closed", lambda: as_usual('exec "$@" 2>&-')
-    yield "no file, and standard error is closed", lambda: Ended(command, bad, room, 'exec "$@" 2>&-').failure(
+    yield "standard input is closed", lambda: as_usual((0,))
+    yield "standard error is closed", lambda: as_usual((2,))
+    yield "no file, and standard error is closed", lambda: Ended(command, bad, room, (2,)).failure(
         command.of_path, is_silent=True
     )
-    yield "all streams are closed", lambda: Ended(command, right, room, 'exec "$@" <&- >&- 2>&-').failure(
-        4, is_silent=True
-    )
+    yield "all streams are closed", lambda: Ended(command, right, room, (0, 1, 2)).failure(4, is_silent=True)
 
 
 def of_outputs(command, room):
@@ -376,9 +380,9 @@ def of_standard_input(command, room):
     program = command.words("x")[0]
     output = None if command.explains else b""
     yield "standard input is empty", lambda: Ended(command, [program, *words], room).failure(3, output)
-    yield "standard input is closed, and has the input", lambda: Ended(
-        command, [program, *words], room, 'exec "$@" <&-'
-    ).failure(4)
+    yield "standard input is closed, and has the input", lambda: Ended(command, [program, *words], room, (0,)).failure(
+        4
+    )
 
 
 # The commands, by which input they get, and the kinds of bad inputs.

@@ -9,9 +9,11 @@ import pytest
 from project import ROOT, compiler, needs_tools
 
 FIRST_LINE = re.compile(rb"#!.*\b(python3|sh|bash)\b")
-# What mypy checks strictly, and files there that have no types yet.
-TYPED = ("python/tlbridge", "tests/lib")
-UNTYPED = tuple(f"tests/lib/{name}.py" for name in ("checker_model", "lawful", "link_cases"))
+# The folders whose types mypy checks strictly. Other tests have types in part.
+TYPED = (
+    *("python/tlbridge", "tests/lib", "tests/links", "tests/monitor", "tests/mutants", "tests/prove", "tests/verify"),
+    *("tools/rtl_proofs", "tools/mutants", "tools/reading-list", "bench/verify"),
+)
 
 
 # For the C of all folders: a pair of widths, and the numbers that tests give to glue.c.
@@ -36,7 +38,7 @@ def kind_of(path):
     if path.is_symlink() or not path.is_file():
         return ""
     if path.suffix:
-        return {".py": "python", ".sh": "shell", ".c": "c"}.get(path.suffix, "")
+        return {".py": "python", ".sh": "shell", ".bash": "shell", ".c": "c"}.get(path.suffix, "")
     with open(path, "rb") as file:
         found = FIRST_LINE.match(file.readline(200))
     return {b"python3": "python", b"sh": "shell", b"bash": "shell"}[found[1]] if found else ""
@@ -66,14 +68,13 @@ def test_flake8():
     passes("flake8", *files_of("python"))
 
 
-@pytest.mark.parametrize("folder", TYPED)
-def test_mypy(folder):
-    """The types of the package and of what the tests share are checked strictly."""
-    names = [str(path.relative_to(ROOT)) for path in sorted((ROOT / folder).rglob("*.py"))]
+def test_mypy():
+    """The types of the package, of what the tests share, and of some tests and tools are checked strictly."""
     passes(
         "mypy",
         "--follow-imports=silent",
-        *(name for name in names if name not in UNTYPED),
+        "--scripts-are-modules",
+        *(name for name in files_of("python") if name.startswith(TYPED)),
         MYPYPATH=os.pathsep.join(str(ROOT / name) for name in ("python", "tests/lib")),
     )
 

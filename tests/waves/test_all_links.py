@@ -10,6 +10,7 @@ from pathlib import Path
 from typing import Any, Dict, List
 
 import pytest
+import starter
 from project import MODEL, ROOT, needs_tools
 
 LIMIT = 300  # seconds, of one run
@@ -59,8 +60,8 @@ class Ended:
 
 
 def trace(folder: Path, *words: object, program: Path = MODEL) -> Ended:
-    command = [sys.executable, str(ROOT / "tlbridge-trace"), "--program", str(program), *map(str, words)]
-    done = subprocess.run(command, cwd=folder, capture_output=True, text=True, timeout=LIMIT)
+    command = [str(ROOT / "tlbridge-trace"), "--program", str(program), *map(str, words)]
+    done = starter.run_text(command, folder, LIMIT)
     return Ended(done.returncode, done.stdout.splitlines(), done.stderr)
 
 
