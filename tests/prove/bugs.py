@@ -60,7 +60,7 @@ def dropped(assertion: str, holds: str, bug: int) -> WatchMutant:
 
 HEAD = "far_head == head && far_size == size && far_has_data == has_data && (USER_BITS == 0 || far_user == user)"
 WATCH_MUTANTS = (
-    dropped("Head", f"!is_watched || ({HEAD})", 9),
+    WatchMutant("no Head", f'`TL_WATCH_ASSERT(Head, "Head",\n        !is_watched || ({HEAD}))', "", 9),
     WatchMutant("Head without the size", "far_size == size && ", "", 9),
     WatchMutant("Head without the other fields", "far_head == head && ", "", 13),
     dropped("Corrupt", "!is_watched || (has_data ? !here || far_corrupt == bad : !far_corrupt)", 15),

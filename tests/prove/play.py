@@ -58,7 +58,7 @@ def play(words: Sequence[str], folder: Path, cache: Optional[Path] = None, jobs:
 
 def play_bug(adapter: Adapter, bug: Planted, folder: Path, cache: Optional[Path] = None, jobs: int = 2) -> Played:
     """Looks for a planted bug in the cycles in which it has to be found."""
-    cycles = ("--cycles", str(bug.cycle + 1))
+    cycles = ("--cycles", str(bug.cycle + 1), "--keep-going")
     return play((*adapter.words, *bug.words, *bug.options, *cycles, *FEWER_BITS), folder, cache, jobs)
 
 

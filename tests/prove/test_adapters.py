@@ -33,7 +33,8 @@ def kinds(run: Played) -> Dict[str, str]:
 def test_two_clocks(tmp_path: Path) -> None:
     """A word of a FIFO between two free clocks is overwritten, and Icarus replays it with both clocks."""
     needs_tools(*TOOLS)
-    run = play((*CROSSING.words, "--define", "FULL_LATE", "--cycles", "8", "--only", "a.(Head|Data0)"), tmp_path)
+    words = ("--define", "FULL_LATE", "--cycles", "8", "--only", "a.(Head|Data0)", "--watched-source-only")
+    run = play((*CROSSING.words, *words), tmp_path)
     assert run.status == 1 and run.fails[0][0] <= 6, run.said
     assert "two clocks of any frequency and phase" in run.said
     assert "in which the watch reports a." in run.said

@@ -11,10 +11,17 @@ import stat
 import subprocess
 import sys
 from pathlib import Path
-from typing import Any, Dict, List, Optional
+from typing import Any, Dict, List, Optional, Sequence
 
 import pytest
 from project import EXAMPLES, ROOT, needs_tools
+
+from tlbridge.prove import command, model, user_bits
+from tlbridge.prove.errors import ProveError
+from tlbridge.prove.harness import TOP, Options, write_harness
+from tlbridge.prove.sizes import check_sizes, sizes_of
+from tlbridge.verify import design
+from tlbridge.verify.design import Source, read_design
 
 pytestmark = pytest.mark.simulator
 PROVE = ROOT / "tlbridge-prove"
@@ -73,6 +80,13 @@ def start(*words: str) -> List[str]:
     return [str(START), "--top", "adapter", "--no-same-cycle-response", *words]
 
 
+@pytest.fixture(scope="session")
+def bounded(cache: Path, tmp_path_factory: pytest.TempPathFactory) -> Run:
+    """A run of three cycles. From here on, the model of the adapter is in the cache."""
+    needs_tools("yosys", "yosys-abc", "verilator")
+    return prove(cache, tmp_path_factory.mktemp("bounded"), *start("--cycles", "3", "--only", "a.Data0"))
+
+
 # ---- quick: the adapter of examples/start
 
 
@@ -97,17 +111,14 @@ def test_correct_adapter_is_proved(cache: Path, tmp_path: Path) -> None:
     assert "8 assertions: 8 proved" in run.out
 
 
-def test_bound_is_a_bound(cache: Path, tmp_path: Path) -> None:
-    needs_tools("yosys", "yosys-abc", "verilator")
-    run = prove(cache, tmp_path, *start("--cycles", "3", "--only", "a.Data0"))
-    assert (run.status, run.verdicts) == (0, {"a.Data0": "no counterexample in 3 cycles"}), run.out + run.err
-    assert "proved" not in run.out.replace("nothing is proved", "")
+def test_bound_is_a_bound(bounded: Run) -> None:
+    assert (bounded.status, bounded.verdicts) == (0, {"a.Data0": "no counterexample in 3 cycles"}), bounded.err
+    assert "proved" not in bounded.out.replace("nothing is proved", "")
 
 
-def test_killed_solver_claims_nothing(cache: Path, tmp_path: Path) -> None:
+def test_killed_solver_claims_nothing(cache: Path, bounded: Run, tmp_path: Path) -> None:
     """abc prints that it has a proof, and is killed before it ends."""
-    needs_tools("yosys", "yosys-abc", "verilator")
-    prove(cache, tmp_path, *start("--cycles", "1", "--only", "a.Head"))  # the model is in the cache from here on
+    assert bounded.status == 0, bounded.err
     said = "Verification of invariant with 3 clauses was successful.\\nProperty proved.  Time = 0.1 sec\\n"
     for text in (f"printf '{said}'; kill -9 $$", f"printf '{said}'; exit 0", f"printf '{said}'; exit 1", "exit 0"):
         run = prove(cache, tmp_path, *start("--unbounded", "--only", "a.Head"), path=fake(tmp_path, "yosys-abc", text))
@@ -123,19 +134,18 @@ def test_killed_yosys_claims_nothing(tmp_path: Path) -> None:
     assert "yosys" in run.err and len(run.err.splitlines()) == 1
 
 
-def test_model_without_assertions_claims_nothing(cache: Path, tmp_path: Path) -> None:
+def test_model_without_assertions_claims_nothing(cache: Path, bounded: Run, tmp_path: Path) -> None:
     """A model of the cache whose list of assertions is empty, and a name that no assertion has."""
-    needs_tools("yosys", "yosys-abc", "verilator")
-    prove(cache, tmp_path, *start("--cycles", "1", "--only", "a.Head"))
-    for labels in cache.glob("*/labels"):
-        kept = labels.read_text()
-        labels.write_text("")
-        try:
-            run = prove(cache, tmp_path, *start("--unbounded", "--only", "a.Head"))
-        finally:
-            labels.write_text(kept)
-        if run.status:
-            break
+    assert bounded.status == 0, bounded.err
+    (labels,) = (
+        path for path in cache.glob("*/labels") if "SeesTime" in path.read_text()
+    )  # the one with all assertions
+    kept = labels.read_text()
+    labels.write_text("")
+    try:
+        run = prove(cache, tmp_path, *start("--unbounded", "--only", "a.Head"))
+    finally:
+        labels.write_text(kept)
     assert run.status == 4 and run.claims_nothing(), run.out + run.err
     assert "the model has no assertion: nothing is proved" in run.err
     run = prove(cache, tmp_path, *start("--only", "a.Nothing"))
@@ -162,7 +172,8 @@ def test_assumption_that_ends_time_claims_nothing(cache: Path, tmp_path: Path) -
 
 def test_planted_bug_fails_and_is_replayed(tmp_path: Path) -> None:
     needs_tools("yosys", "yosys-abc", "verilator", "iverilog")
-    run = prove(tmp_path / "cache", tmp_path, *start("--define", "BUG", "--cycles", "6", "--only", "d.Data0|a.Data0"))
+    words = ("--define", "BUG", "--cycles", "6", "--only", "d.Data0|a.Data0", "--watched-source-only")  # a small model
+    run = prove(tmp_path / "cache", tmp_path, *start(*words))
     assert run.status == 1, run.out + run.err
     assert set(run.fails()) == {"d.Data0"} and run.fails()["d.Data0"] <= 3
     assert run.verdicts["a.Data0"] == "no counterexample in 6 cycles"
@@ -174,6 +185,16 @@ def test_planted_bug_fails_and_is_replayed(tmp_path: Path) -> None:
 
 
 # ---- quick: bad input, which needs no model
+
+PORTS: Dict[str, Any] = {}
+READ_PORTS = design.read_ports
+
+
+def read_ports_once(source: Source, structs: Sequence[str] = ()) -> Any:
+    key = repr((source, structs))
+    if key not in PORTS:
+        PORTS[key] = READ_PORTS(source, structs)
+    return PORTS[key]
 
 
 @pytest.mark.parametrize(
@@ -193,13 +214,30 @@ def test_planted_bug_fails_and_is_replayed(tmp_path: Path) -> None:
         (start("--tie", "nothing=1"), 2, "the design has no such input left over"),
     ],
 )
-def test_bad_input(words: List[str], status: int, message: str, tmp_path: Path) -> None:
+def test_bad_input(
+    words: List[str],
+    status: int,
+    message: str,
+    tmp_path: Path,
+    monkeypatch: pytest.MonkeyPatch,
+    capsys: pytest.CaptureFixture[str],
+) -> None:
+    """In this process, and Verilator reads each design once."""
     needs_tools("verilator")
-    run = prove(tmp_path / "cache", tmp_path, *words)
+    monkeypatch.chdir(tmp_path)
+    monkeypatch.setenv("TLBRIDGE_CACHE", str(tmp_path / "cache"))
+    monkeypatch.setattr(sys, "stdout", sys.stdout)  # the command puts its own in this place
+    for module in (design, user_bits):
+        monkeypatch.setattr(module, "read_ports", read_ports_once)
+    try:
+        found = command.main([*words, "--jobs", "2"])
+    except SystemExit as ended:  # of argparse
+        found = int(str(ended.code))
+    said = capsys.readouterr()
+    run = Run(subprocess.CompletedProcess(words, found, said.out, said.err))
     assert run.status == status, run.out + run.err
     assert message in run.err
     assert run.claims_nothing()
-    assert "Traceback" not in run.err
 
 
 def test_unreadable_design(tmp_path: Path) -> None:
@@ -238,28 +276,74 @@ WRONG_DESIGNS = {
         "    assign extra = ram[down_d_data[15:0]];",
         r"/design\.sv:\d+\.\d+: the memory dut\.ram has 2097152 bits.* smaller by a parameter",
     ),
+    "array of structs": (
+        ACCEPTED,
+        ACCEPTED + " typedef struct packed {logic [3:0] high, low;} pair_t;\n    pair_t  pairs [2];\n"
+        "    always_ff @(posedge clock) pairs[up_a_source[0]] <= up_a_data[7:0];\n"
+        "    assign extra = {24'd0, pairs[up_a_source[1]]};",
+        r"/design\.sv:\d+\.13: pairs has 16 bits, of which yosys reads 8: it drops the bounds of an array",
+    ),
     "loop": (
         ACCEPTED,
         "wire round = round ^ down_a_ready; assign up_a_ready = round;",
         r"/design\.sv:\d+\.\d+: a loop of logic without a register: break it",
     ),
+    "falling edge": (  # AIGER has one kind of register
+        "always_ff @(posedge clock)",
+        "always_ff @(negedge clock)",
+        r"/design\.sv:\d+\.\d+ is clocked by a falling edge: a proof needs registers",
+    ),
 }
 
 
-@pytest.mark.parametrize(
-    "name", [pytest.param(name, marks=pytest.mark.long if name == "loop" else ()) for name in WRONG_DESIGNS]
-)
+def wrong_design(name: str, folder: Path) -> Path:
+    """Writes the adapter of examples/start with one of these changes."""
+    old, new, _ = WRONG_DESIGNS[name]
+    text = START.read_text()
+    assert text.count(old) == 1
+    path = folder / "design.sv"
+    path.write_text(text.replace(old, new).replace("up_d_ready,\n", "up_d_ready,\n    output logic [31:0] extra,\n"))
+    return path
+
+
+def build_without_watch(path: Path) -> model.Model:
+    """Makes a model of the design with one assertion about it, in a tenth of the time."""
+    source = Source("adapter", (str(path),))
+    assertion = "    always @* if (!reset) Reads: assert (client_a_ready || client_d_data[0]);\n"
+    options = Options(level="ul", largest=4, extra_lines=assertion)
+    text = write_harness(read_design(source), options, cover=False).text
+    text, count = re.subn(r"    tl_bridge_watch #\(.*?\);\n(?=`ifdef FORMAL)", "", text, flags=re.S)
+    assert count == 1
+    (path.parent / "proof.sv").write_text(text)
+    recipe = model.Recipe(TOP, source.files, (str(path.parent / "proof.sv"),))
+    sizes = sizes_of(source, path.parent)
+    return model.build(recipe, path.parent / "cache", lambda netlist: check_sizes(netlist, sizes))[0]
+
+
+@pytest.mark.parametrize("name", WRONG_DESIGNS)
 def test_design_that_has_no_model(name: str, tmp_path: Path) -> None:
     """Verilator and yosys read each of these, and a model of it would be that of another design."""
     needs_tools("yosys", "yosys-abc", "verilator")
-    old, new, message = WRONG_DESIGNS[name]
-    text = START.read_text()
-    assert text.count(old) == 1
-    text = text.replace(old, new).replace("up_d_ready,\n", "up_d_ready,\n    output logic [31:0] extra,\n")
-    (tmp_path / "design.sv").write_text(text)
+    with pytest.raises(ProveError, match=WRONG_DESIGNS[name][2]) as error:
+        build_without_watch(wrong_design(name, tmp_path))
+    assert error.value.status == 3
+    assert not list((tmp_path / "cache").glob("*/labels"))  # nor is one found the next time
+
+
+def test_design_that_has_a_model(tmp_path: Path) -> None:
+    """The adapter without a change is none of them."""
+    needs_tools("yosys", "yosys-abc", "verilator")
+    shutil.copy(START, tmp_path / "design.sv")
+    assert build_without_watch(tmp_path / "design.sv").labels == ("Reads",)
+
+
+def test_command_refuses_a_design_that_has_no_model(tmp_path: Path) -> None:
+    needs_tools("yosys", "yosys-abc", "verilator")
+    name = "array of structs"  # the last check of the netlist
+    wrong_design(name, tmp_path)
     run = prove(tmp_path / "cache", tmp_path, "design.sv", "--top", "adapter")
     assert run.status == 3 and run.claims_nothing(), run.out + run.err
-    assert re.search(message, run.err) and len(run.err.splitlines()) == 1, run.err
+    assert re.search(WRONG_DESIGNS[name][2], run.err) and len(run.err.splitlines()) == 1, run.err
 
 
 def test_missing_tool(tmp_path: Path) -> None:
@@ -306,13 +390,3 @@ def test_projects(tmp_path: Path) -> None:
     assert done.returncode == 0, done.stdout + done.stderr
     assertions = (tmp_path / "sby" / "assertions").read_text().split()
     assert len(assertions) == 32 and "tlbridge_proof/watch.d.watch.Data0" in assertions
-
-
-def test_clocks_of_another_kind_are_refused(tmp_path: Path) -> None:
-    """A register at a falling edge would be read as one at a rising edge by AIGER."""
-    needs_tools("yosys", "yosys-abc", "verilator")
-    text = START.read_text().replace("always_ff @(posedge clock)", "always_ff @(negedge clock)")
-    (tmp_path / "falling.sv").write_text(text)
-    run = prove(tmp_path / "cache", tmp_path, "falling.sv", "--top", "adapter")
-    assert run.status == 3 and run.claims_nothing(), run.out + run.err
-    assert "is clocked by a falling edge" in run.err

@@ -8,12 +8,17 @@ from typing import Any, Dict, List, Tuple
 
 import pytest
 
-from tlbridge.prove import command, engine, model, netlist, user_bits
+from tlbridge.prove import engine, model, netlist, sizes, user_bits
 from tlbridge.prove.clocks import line_of, settle_clocks
+from tlbridge.prove.covers import check_needed, reach
 from tlbridge.prove.engine import BOUNDED, FAILS, OPEN, PROVED, Verdict
 from tlbridge.prove.errors import ProveError
+from tlbridge.prove.failure import sends_offered
 from tlbridge.prove.harness import Harness, Options, spread, write_harness
 from tlbridge.prove.model import Model, short_name
+from tlbridge.prove.report import words_of
+from tlbridge.prove.search import Search
+from tlbridge.prove.session import Session
 from tlbridge.verify.design import Design, Port, Signal, Source, find_links
 
 VERIFIED = "Verification of invariant with 42 clauses was successful.  Time = 0.01 sec\n"
@@ -122,30 +127,35 @@ def test_simplification_that_dies_leaves_no_model(fake_abc: Path, tmp_path: Path
 # ---- assumptions that exclude everything
 
 
-def a_proof(verdicts: Dict[str, str], monkeypatch: pytest.MonkeyPatch, folder: Path) -> command.Proof:
-    """A proof with a model of three labels, for each of which abc finds what `verdicts` says."""
-    proof = command.Proof.__new__(command.Proof)
-    proof.words = argparse.Namespace(reset_cycles=1, jobs=1, only="", cycles=20)
-    proof.options = Options()
-    proof.frames = 21
-    proof.began = 0.0
-    proof.model = a_model(folder)
+def a_session(verdicts: Dict[str, str], monkeypatch: pytest.MonkeyPatch, folder: Path) -> Session:
+    """A session with a model of three labels, for each of which abc finds what `verdicts` says."""
+    made = Session.__new__(Session)
+    made.words = argparse.Namespace(reset_cycles=1, jobs=1, only="", cycles=20)
+    made.options = Options()
+    made.frames = 21
+    made.began = 0.0
+    made.model = a_model(folder)
     kinds = {number: verdicts[label.rpartition(".")[2]] for number, label in enumerate(LABELS)}
-    monkeypatch.setattr(engine, "bounded", lambda _, index, *more: Verdict(kinds[index], 3, 0.1))
-    return proof
+    monkeypatch.setattr(engine, "bounded", lambda _, index, frames, seconds: an_end(kinds[index], frames))
+    return made
+
+
+def an_end(kind: str, frames: int) -> Verdict:
+    """A failure in frame 3, or a search to the end."""
+    return Verdict(kind, 3 if kind == FAILS else frames, 0.1)
 
 
 def test_no_beat_can_arrive(tmp_path: Path, monkeypatch: pytest.MonkeyPatch) -> None:
-    proof = a_proof({"Data0": BOUNDED, "SeesBeat": BOUNDED, "SeesByte": BOUNDED}, monkeypatch, tmp_path)
+    made = a_session({"Data0": BOUNDED, "SeesBeat": BOUNDED, "SeesByte": BOUNDED}, monkeypatch, tmp_path)
     with pytest.raises(ProveError, match="nothing is proved: no beat of channel A can arrive") as error:
-        proof.reach()
+        reach(made)
     assert error.value.status == 2
 
 
 def test_kinds_that_do_not_arrive_are_named(
     tmp_path: Path, monkeypatch: pytest.MonkeyPatch, capsys: pytest.CaptureFixture[str]
 ) -> None:
-    a_proof({"Data0": BOUNDED, "SeesBeat": FAILS, "SeesByte": BOUNDED}, monkeypatch, tmp_path).reach()
+    reach(a_session({"Data0": BOUNDED, "SeesBeat": FAILS, "SeesByte": BOUNDED}, monkeypatch, tmp_path))
     said = capsys.readouterr().out
     assert "1 of 2 kinds of beats arrive" in said
     assert "not seen on A in up to 16 cycles, so nothing is said of it: a byte of data" in said
@@ -153,26 +163,42 @@ def test_kinds_that_do_not_arrive_are_named(
 
 def test_assumptions_that_end_time(tmp_path: Path, monkeypatch: pytest.MonkeyPatch) -> None:
     """Beats arrive, but no run goes on to the last cycle: then everything would hold."""
-    proof = a_proof({"Data0": BOUNDED, "SeesBeat": FAILS, "SeesByte": FAILS}, monkeypatch, tmp_path)
-    proof.model = Model(tmp_path, (*LABELS, "SeesTime"))
+    made = a_session({"Data0": BOUNDED, "SeesBeat": FAILS, "SeesByte": FAILS}, monkeypatch, tmp_path)
+    made.model = Model(tmp_path, (*LABELS, "SeesTime"))
     kinds = {0: BOUNDED, 1: FAILS, 2: FAILS, 3: BOUNDED}
-    monkeypatch.setattr(engine, "bounded", lambda _, index, *more: Verdict(kinds[index], 3, 0.1))
+    monkeypatch.setattr(engine, "bounded", lambda _, index, frames, seconds: an_end(kinds[index], frames))
     with pytest.raises(ProveError, match="the assumptions exclude every run of 16 cycles") as error:
-        proof.reach()
+        reach(made)
     assert error.value.status == 2
+
+
+@pytest.mark.parametrize(
+    "label, what", [(LABELS[1], "a run with a beat of channel A"), ("SeesTime", "a run of 16 cycles")]
+)
+def test_search_for_a_beat_that_takes_too_long(label: str, what: str) -> None:
+    """That is not the same as an assumption that excludes every beat."""
+    found = {LABELS[1]: Verdict(FAILS, 3, 0.1), "SeesTime": Verdict(FAILS, 3, 0.1)}
+    check_needed(found, 17, "16 cycles")
+    found[label] = Verdict(BOUNDED, 5, 120.0)
+    with pytest.raises(ProveError, match=f"nothing is proved: {what} was not found in 120 seconds. Make the") as error:
+        check_needed(found, 17, "16 cycles")
+    assert error.value.status == 2
+    found[LABELS[2]] = Verdict(FAILS, 4, 0.1)
+    if label != "SeesTime":  # another beat of the channel was found
+        check_needed(found, 17, "16 cycles")
 
 
 def test_channel_whose_covers_yosys_removes(
     tmp_path: Path, monkeypatch: pytest.MonkeyPatch, capsys: pytest.CaptureFixture[str]
 ) -> None:
     """A cover that cannot be reached at all is a constant, which is not in the model: it counts as not seen."""
-    proof = a_proof({"Data0": BOUNDED, "SeesBeat": FAILS, "SeesByte": FAILS}, monkeypatch, tmp_path)
-    proof.model = Model(tmp_path, LABELS, ("watch.a.watch.SeesShort", "watch.a.watch.Zeros"))
-    proof.reach()
+    made = a_session({"Data0": BOUNDED, "SeesBeat": FAILS, "SeesByte": FAILS}, monkeypatch, tmp_path)
+    made.model = Model(tmp_path, LABELS, ("watch.a.watch.SeesShort", "watch.a.watch.Zeros"))
+    reach(made)
     assert "2 of 3 kinds of beats arrive\n  not seen on A" in capsys.readouterr().out
-    proof.model = Model(tmp_path, LABELS, ("watch.d.watch.SeesBeat", "watch.d.watch.SeesByte"))
+    made.model = Model(tmp_path, LABELS, ("watch.d.watch.SeesBeat", "watch.d.watch.SeesByte"))
     with pytest.raises(ProveError, match="nothing is proved: no beat of channel D can arrive") as error:
-        proof.reach()
+        reach(made)
     assert error.value.status == 2
 
 
@@ -188,19 +214,17 @@ def test_channel_whose_covers_yosys_removes(
     ],
 )
 def test_hint_to_forwards_offered(name: str, last: Dict[str, int], option: bool, hint: bool) -> None:
-    proof = command.Proof.__new__(command.Proof)
-    proof.options = Options(forwards_offered=option)
-    assert proof.sends_offered(name, last) == hint
+    assert sends_offered(Options(forwards_offered=option), name, last) == hint
 
 
 def test_no_assertion_of_that_name(tmp_path: Path, monkeypatch: pytest.MonkeyPatch) -> None:
-    proof = a_proof({"Data0": BOUNDED, "SeesBeat": FAILS, "SeesByte": FAILS}, monkeypatch, tmp_path)
-    assert proof.chosen() == [0]
-    proof.words.only = "b.Data"
+    made = a_session({"Data0": BOUNDED, "SeesBeat": FAILS, "SeesByte": FAILS}, monkeypatch, tmp_path)
+    assert made.chosen() == [0]
+    made.words.only = "b.Data"
     with pytest.raises(
         ProveError, match="no assertion of the model has such a name. There are a.Data0: nothing is proved"
     ):
-        proof.chosen()
+        made.chosen()
 
 
 @pytest.mark.parametrize(
@@ -212,25 +236,33 @@ def test_no_assertion_of_that_name(tmp_path: Path, monkeypatch: pytest.MonkeyPat
         (Verdict(FAILS, 4, 1.0), "fails in cycle 3"),
     ],
 )
-def test_words(found: Verdict, words: str, tmp_path: Path, monkeypatch: pytest.MonkeyPatch) -> None:
-    assert (
-        a_proof(dict.fromkeys(("Data0", "SeesBeat", "SeesByte"), FAILS), monkeypatch, tmp_path).words_of(found) == words
-    )
+def test_words(found: Verdict, words: str) -> None:
+    assert words_of(found, Options()) == words
 
 
 # ---- the steps of --unbounded
 
 
+def test_smaller_model_assumes_less(tmp_path: Path, monkeypatch: pytest.MonkeyPatch) -> None:
+    """It has one channel, and only the rules about it and about the watched source."""
+    made = a_session(dict.fromkeys(("Data0", "SeesBeat", "SeesByte"), FAILS), monkeypatch, tmp_path)
+    made.design, _ = a_design()
+    texts: List[str] = []
+    monkeypatch.setattr(made, "build", lambda harness, what: texts.append(harness.text) or made.model)
+    assert made.build_small("D") is made.model
+    for words in ("CHANNELS(5'd8)", "ALL_SOURCES(1'b0)", "ALL_CHANNELS(1'b0)", "COVERS(1'b0)"):
+        assert f".{words}" in texts[0]
+
+
 def a_search(monkeypatch: pytest.MonkeyPatch, folder: Path, small: Verdict, whole: Verdict) -> List[Tuple[str, str]]:
     """The questions about one assertion, in which model and of which kind; and its verdict as the last one."""
-    proof = a_proof(dict.fromkeys(("Data0", "SeesBeat", "SeesByte"), BOUNDED), monkeypatch, folder)
-    proof.words = argparse.Namespace(
+    made = a_session(dict.fromkeys(("Data0", "SeesBeat", "SeesByte"), BOUNDED), monkeypatch, folder)
+    made.words = argparse.Namespace(
         reset_cycles=1, jobs=1, only="", cycles=20, unbounded=True, seconds=9, keep_going=False
     )
-    proof.verdicts = {}
-    proof.harness = Harness("", "A", {}, {}, (), ())
+    made.harness = Harness("", "A", {}, {}, (), ())
     asked: List[Tuple[str, str]] = []
-    models = {"whole": proof.model, "small": Model(folder / "small", LABELS)}
+    models = {"whole": made.model, "small": Model(folder / "small", LABELS)}
 
     def ask(kind: str, found: Dict[str, Verdict]) -> Any:
         def answer(model: Model, index: int, *more: int) -> Verdict:
@@ -240,13 +272,12 @@ def a_search(monkeypatch: pytest.MonkeyPatch, folder: Path, small: Verdict, whol
 
         return answer
 
-    monkeypatch.setattr(proof, "build", lambda harness, what: models["small"])
-    monkeypatch.setattr(command, "write_harness", lambda design, options, cover: proof.harness)
-    proof.design = None  # type: ignore[assignment]
+    monkeypatch.setattr(made, "build_small", lambda letter: models["small"])
     monkeypatch.setattr(engine, "bounded", ask("bounded", {"whole": Verdict(BOUNDED, 9, 0.1)}))
     monkeypatch.setattr(engine, "unbounded", ask("unbounded", {"small": small, "whole": whole}))
-    proof.search([0])
-    return [*asked, ("verdict", proof.verdicts[0].kind)]
+    search = Search(made)
+    search.run([0])
+    return [*asked, ("verdict", search.verdicts[0].kind)]
 
 
 @pytest.mark.parametrize(
@@ -271,16 +302,63 @@ def test_a_failure_in_the_smaller_model_is_none(
     assert found == [("whole", "bounded 9"), *asked]
 
 
+@pytest.mark.parametrize(
+    "cycles, words, later",
+    [
+        (20, {"unbounded": False, "keep_going": True}, [("bounded", 0, 21, 300)]),
+        (20, {"unbounded": True, "keep_going": True}, [("prove", 0, 0, 0), ("bounded", 0, 21, 300)]),
+        (20, {"unbounded": False, "keep_going": False}, []),
+        (20, {"unbounded": True, "keep_going": False}, []),
+        (8, {"unbounded": True, "keep_going": True}, [("prove", 0, 0, 0)]),
+        (8, {"unbounded": False, "keep_going": False}, []),
+    ],
+)
+def test_short_counterexamples_come_first(
+    cycles: int,
+    words: Dict[str, bool],
+    later: List[Tuple[str, int, int, int]],
+    tmp_path: Path,
+    monkeypatch: pytest.MonkeyPatch,
+    capsys: pytest.CaptureFixture[str],
+) -> None:
+    """Each assertion is searched in 8 cycles before one is in all cycles. After a failure the run ends, and each
+    assertion has the verdict that it has by then.
+    """
+    made = a_session(dict.fromkeys(("Data0", "SeesBeat", "SeesByte"), BOUNDED), monkeypatch, tmp_path)
+    made.model = Model(tmp_path, ("watch.a.watch.Data0", "watch.d.watch.Head"))
+    made.frames = cycles + 1
+    made.words = argparse.Namespace(reset_cycles=1, jobs=1, seconds=300, **words)
+    asked: List[Tuple[str, int, int, int]] = []
+
+    def ask(model: Model, index: int, frames: int, seconds: int) -> Verdict:
+        asked.append(("bounded", index, frames, seconds))
+        return an_end(FAILS if index else BOUNDED, frames)
+
+    def prove(index: int) -> Verdict:
+        asked.append(("prove", index, 0, 0))
+        return Verdict(OPEN, 0, 0.1)
+
+    monkeypatch.setattr(engine, "bounded", ask)
+    search = Search(made)
+    monkeypatch.setattr(search, "prover", lambda indices: prove)
+    search.run([0, 1])
+    limit = 300 if cycles == 8 and not words["unbounded"] else 20
+    assert asked == [("bounded", 0, 9, limit), ("bounded", 1, 9, limit), *later]
+    bound = 21 if later and later[-1][0] == "bounded" else 9
+    assert search.verdicts == {0: Verdict(BOUNDED, bound, 0.1), 1: Verdict(FAILS, 3, 0.1)}
+    assert search.first_failure() == 1
+    said = capsys.readouterr().out
+    assert f"a.Data0          no counterexample in {bound - 1} cycles" in said and "d.Head           fails in" in said
+
+
 def test_source_room_is_proved_with_source_one(tmp_path: Path, monkeypatch: pytest.MonkeyPatch) -> None:
     """It follows from SourceOne. If the two fail together in the smaller model, it is tried alone in the whole one."""
     labels = ("watch.SourceOne", "watch.SourceRoom")
-    proof = a_proof(dict.fromkeys(("Data0", "SeesBeat", "SeesByte"), BOUNDED), monkeypatch, tmp_path)
-    proof.words = argparse.Namespace(seconds=9)
-    proof.harness = Harness("", "D", {}, {}, (), ())
-    proof.model, small = Model(tmp_path, labels), Model(tmp_path / "small", labels)
-    proof.design = None  # type: ignore[assignment]
-    monkeypatch.setattr(proof, "build", lambda harness, what: small)
-    monkeypatch.setattr(command, "write_harness", lambda design, options, cover: proof.harness)
+    made = a_session(dict.fromkeys(("Data0", "SeesBeat", "SeesByte"), BOUNDED), monkeypatch, tmp_path)
+    made.words = argparse.Namespace(seconds=9)
+    made.harness = Harness("", "D", {}, {}, (), ())
+    made.model, small = Model(tmp_path, labels), Model(tmp_path / "small", labels)
+    monkeypatch.setattr(made, "build_small", lambda letter: small)
     asked: List[Tuple[bool, int, bool]] = []
 
     def ask(model: Model, index: int, seconds: int, with_previous: bool = False) -> Verdict:
@@ -288,7 +366,7 @@ def test_source_room_is_proved_with_source_one(tmp_path: Path, monkeypatch: pyte
         return Verdict(FAILS if model is small else PROVED, 3, 0.5)
 
     monkeypatch.setattr(engine, "unbounded", ask)
-    prove = proof.prover([0, 1])
+    prove = Search(made).prover([0, 1])
     assert prove(1) == Verdict(PROVED, 3, 1.0) and asked == [(True, 1, True), (False, 1, False)]
     asked.clear()
     assert prove(0).kind == PROVED and asked == [(True, 0, False), (False, 0, False)]
@@ -353,7 +431,6 @@ def test_later_resets_are_an_input() -> None:
 
 def test_memory_that_does_not_fit() -> None:
     model.check_memories('  attribute \\src "ram.sv:3.5-3.9"\n  memory width 8 size 64 \\words\n')
-    assert line_of("/tmp/a-proof/proof.sv:7.1-7.9|/home/a-b/ram.sv:3.5-3.9") == "/home/a-b/ram.sv:3.5"
     with pytest.raises(
         ProveError, match=r"^ram.sv:3.5: the memory words has 2097152 bits.* smaller by a parameter"
     ) as error:
@@ -435,6 +512,32 @@ def test_wire_that_is_assigned_twice() -> None:
     with pytest.raises(ProveError, match=r"^b.sv:6.2: ready has two drivers: remove one") as error:
         netlist.check_assignments(once + "  connect \\dut.ready 1'1\n")
     assert error.value.status == 3
+
+
+def test_variable_of_which_yosys_reads_a_part(tmp_path: Path) -> None:
+    src = {"src": "proof.sv:9.1-9.9|adapter.sv:7.9-7.13"}
+    wires = {"dut.fifo": {"bits": [*range(8)], "attributes": src}}
+    memories = {"dut.a.words": {"width": 8, "size": 4, "attributes": src}}
+    (tmp_path / "flat.json").write_text(json.dumps({"modules": {"top": {"netnames": wires, "memories": memories}}}))
+    sizes.check_sizes(tmp_path / "flat.json", {"fifo": 8, "a.words": 32, "removed": 5})
+    for name, bits, seen in (("fifo", 16, 8), ("a.words", 64, 32)):
+        with pytest.raises(ProveError) as error:
+            sizes.check_sizes(tmp_path / "flat.json", {name: bits})
+        assert error.value.status == 3
+        assert f"adapter.sv:7.9: {name} has {bits} bits, of which yosys reads {seen}: " in str(error.value)
+
+
+@pytest.mark.parametrize(
+    "places, line",
+    [
+        ("own.sv:3.5-3.9", "own.sv:3.5"),
+        ("proof.sv:7.1-7.9|/home/a-b/own.sv:3.5-3.9", "/home/a-b/own.sv:3.5"),
+        ("proof.sv:7.1-7.9|own.sv:3.5-3.9|adapter.sv:4.1-4.9", "own.sv:3.5"),
+        ("proof.sv:7.1-7.9|deep.sv:5.1-5.9|own.sv:3.5-3.9|adapter.sv:4.1-4.9", "own.sv:3.5"),
+    ],
+)
+def test_line_inside_of_instances(places: str, line: str) -> None:
+    assert line_of(places) == line
 
 
 def test_loop_has_a_line(tmp_path: Path) -> None:

@@ -21,8 +21,8 @@ FILES = (
 )
 
 
-def reports(bug: int, folder: Path, seed: int = 1, watch: Path = FILES[0]) -> Tuple[Set[str], int]:
-    """The assertions that a watch reports in 4,000 cycles, and the number of messages that it watched on A."""
+def reports(bug: int, folder: Path, seed: int = 1, watch: Path = FILES[0], cycles: int = 4000) -> Tuple[Set[str], int]:
+    """The assertions that a watch reports in this number of cycles, and the number of messages that it watched on A."""
     needs_tools("iverilog", "vvp")
     words = [
         "iverilog",
@@ -31,6 +31,7 @@ def reports(bug: int, folder: Path, seed: int = 1, watch: Path = FILES[0]) -> Tu
         "watch_bench",
         f"-Pwatch_bench.BUG={bug}",
         f"-Pwatch_bench.SEED={seed}",
+        f"-Pwatch_bench.CYCLES={cycles}",
         "-o",
         str(folder / "bench"),
     ]
@@ -50,13 +51,14 @@ def test_correct_converter(tmp_path: Path) -> None:
 
 @lru_cache(maxsize=None)
 def first_reports(bug: Bug) -> Tuple[int, FrozenSet[str]]:
-    """The first of four seeds with which the watch reports a bug by an expected assertion, or 0, and all reports of it.
+    """The first of four seeds with which the watch reports a bug by an expected assertion, or 0, and all reports of it
+    in 1,000 cycles.
 
     A bug that stops the converter is reported only if the message that waits is the watched one.
     """
     with tempfile.TemporaryDirectory() as folder:
         for seed in (1, 2, 3, 4):
-            found, _ = reports(bug.number, Path(folder), seed)
+            found, _ = reports(bug.number, Path(folder), seed, cycles=1000)
             if found & set(bug.expected):
                 return seed, frozenset(found)
     return 0, frozenset()

@@ -58,7 +58,10 @@ def place_of(name: str, cell: Mapping[str, Any]) -> str:
 
 
 def line_of(source: str) -> str:
-    """Returns the file and line of an attribute `src` of yosys, which lists places from the top to the design: the
-    last one, without its end.
+    """Returns the file and line of an attribute `src` of yosys, without its end.
+
+    For what is inside of instances, yosys lists their places, too: each `flatten` puts one in front of the list in
+    reverse order, so the place of the thing itself is in the middle.
     """
-    return re.sub(r"-\d+\.\d+$", "", source.split("|")[-1])
+    places = source.split("|")
+    return re.sub(r"-\d+\.\d+$", "", places[len(places) // 2])

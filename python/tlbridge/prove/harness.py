@@ -24,6 +24,12 @@ WATCHED_FIELDS: Dict[str, Tuple[str, ...]] = {
 USER_CHANNELS = "ACD"
 MASKED = "AB"
 DEFAULT_FREE = {"address": 5, "source": 2, "sink": 2}
+COVER_FRAMES = 16
+# Denies that time goes on for that long. If it does not, an assumption excludes every run from some cycle on.
+TIME_COVER = f"""    logic [5:0] cycles = 0;
+    always @(posedge clock) if (!reset && cycles != {COVER_FRAMES - 1}) cycles <= cycles + 1'b1;
+    always @* if (!reset) SeesTime: assert (cycles != {COVER_FRAMES - 1});
+"""
 
 
 @dataclass(frozen=True)
@@ -67,6 +73,11 @@ class Harness:
     free: Dict[str, int]
     unread: Tuple[str, ...]  # fields that the design does not have: they are 0
     inputs: Tuple[Tuple[str, int], ...]  # of the harness, without clocks and ticks
+
+
+def is_cover(label: str) -> bool:
+    """Returns whether an assertion denies what has to be possible."""
+    return label.rpartition(".")[2].startswith("Sees")
 
 
 def bits_of(design: Design) -> Dict[str, int]:

@@ -8,11 +8,12 @@ import shutil
 import tempfile
 from dataclasses import dataclass, field
 from pathlib import Path
-from typing import Dict, Iterator, List, Mapping, Optional, Sequence, Tuple
+from typing import Callable, Iterator, List, Mapping, Optional, Sequence, Tuple
 
 from .clocks import line_of, settle_clocks
-from .netlist import check_assignments, check_netlist, loop_in
 from .errors import TOOL, UNREADABLE, ProveError
+from .netlist import check_assignments, check_netlist, loop_in
+from .remedies import remedy_of
 from .tools import run_tool
 
 YOSYS_SECONDS = 4 * 3600.0
@@ -121,7 +122,7 @@ def key_of(recipe: Recipe) -> str:
             }
         ).encode()
     )
-    for name in ("model.py", "clocks.py", "netlist.py"):
+    for name in ("model.py", "clocks.py", "netlist.py", "sizes.py"):
         digest.update((Path(__file__).parent / name).read_bytes())
     files = [*recipe.design_files, *recipe.proof_files]
     for path in [*map(Path, files), *included_files(files, recipe.includes)]:
@@ -129,8 +130,14 @@ def key_of(recipe: Recipe) -> str:
     return digest.hexdigest()[:32]
 
 
-def build(recipe: Recipe, cache: Optional[Path]) -> Tuple[Model, bool]:
+def no_check(netlist: Path) -> None:
+    """Passes each netlist."""
+
+
+def build(recipe: Recipe, cache: Optional[Path], check: Callable[[Path], None] = no_check) -> Tuple[Model, bool]:
     """Returns the model of a recipe, and whether it was in the cache. Without a cache it is made in a temporary folder.
+
+    A new one is made only if its flat netlist passes `check`, which raises a ProveError otherwise.
 
     Errors (ProveError): yosys cannot read a file (3), yosys or abc is missing or died (4), the model has no assertion
     (4).
@@ -139,7 +146,7 @@ def build(recipe: Recipe, cache: Optional[Path]) -> Tuple[Model, bool]:
         if not SAFE_PATH.fullmatch(path):
             raise ProveError(f"{path}: yosys needs a file name without spaces and quotes: rename it")
     if cache is None:
-        return _made(recipe, Path(tempfile.mkdtemp(prefix="tlbridge-model."))), False
+        return _made(recipe, Path(tempfile.mkdtemp(prefix="tlbridge-model.")), check), False
     place = cache / key_of(recipe)
     try:
         if (place / "labels").is_file():
@@ -152,7 +159,7 @@ def build(recipe: Recipe, cache: Optional[Path]) -> Tuple[Model, bool]:
             f"the cache {cache} cannot be used: {error.strerror}: add --no-cache or set TLBRIDGE_CACHE"
         ) from error
     try:
-        _made(recipe, folder)
+        _made(recipe, folder, check)
         for name in ("flat.il", "flat.json", "before.il", "clocked.json", "settled.json"):
             (folder / name).unlink(missing_ok=True)
         try:
@@ -180,7 +187,7 @@ def _read(folder: Path) -> Model:
     return Model(folder, labels, tuple(folded.read_text().split()) if folded.is_file() else ())
 
 
-def _made(recipe: Recipe, folder: Path) -> Model:
+def _made(recipe: Recipe, folder: Path, check: Callable[[Path], None]) -> Model:
     flags = "".join(f" -D{name}" for name in recipe.defines) + "".join(f" -I{path}" for path in recipe.includes)
     as_design = "-formal" if recipe.design_is_formal else "-noassert -noassume -norestrict"
     # -noassert of yosys 0.23 also holds for the files that are read after it, so the design comes last
@@ -193,6 +200,7 @@ def _made(recipe: Recipe, folder: Path) -> Model:
     check_memories(text)
     check_assignments(text)
     check_netlist(folder / "flat.json", ("clock", *recipe.ticks))
+    check(folder / "flat.json")
     steps = ["read_rtlil flat.il", "memory_map -formal"]
     if recipe.free_initial:
         steps.append(f"setattr -unset init w:{recipe.free_initial}.*")
@@ -293,7 +301,7 @@ def _yosys(steps: Sequence[str], folder: Path) -> None:
     if status < 0 or not errors:
         how = f"was ended by signal {-status}" if status < 0 else f"ended with status {status}"
         raise ProveError(f"yosys {how}: nothing is proved. {first}", TOOL)
-    raise ProveError(f"yosys cannot read the design: {first[:400].rstrip('.!')}. {_remedy(first)}", UNREADABLE)
+    raise ProveError(f"yosys cannot read the design: {first[:400].rstrip('.!')}. {remedy_of(first)}", UNREADABLE)
 
 
 def _loop(gates: Sequence[str], folder: Path) -> str:
@@ -303,25 +311,3 @@ def _loop(gates: Sequence[str], folder: Path) -> str:
     except ProveError:
         return ""
     return loop_in((folder / "loops").read_text(errors="replace"), folder / "gates.json")
-
-
-REMEDIES: Dict[str, str] = {
-    "syntax error": (
-        "It reads less of SystemVerilog than simulators do: convert the files, as by `sv2v`, or write "
-        "the line in a simpler way"
-    ),
-    "not part of the design": "Name the file of that module, too",
-    "re-definition of module": "Name each file once, and the files of one variant of a module only",
-    "unsupported cell type": (
-        "Registers with asynchronous loads, latches and tristates have no model: write a synthesizable variant"
-    ),
-    "combinational loop": "Break the loop: a model needs logic without loops",
-    "logic loop": "Break the loop: a model needs logic without loops",
-}
-
-
-def _remedy(error: str) -> str:
-    for words, remedy in REMEDIES.items():
-        if words in error.lower():
-            return remedy
-    return 'Try `yosys -p "read_verilog -sv FILE"` on each file'

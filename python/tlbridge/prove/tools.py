@@ -1,4 +1,4 @@
-"""Runs yosys, yosys-abc and Icarus."""
+"""Runs yosys, yosys-abc and Icarus, and finds the modules of `sv`."""
 from __future__ import annotations
 
 import contextlib
@@ -10,7 +10,7 @@ import tempfile
 import time
 from dataclasses import dataclass
 from pathlib import Path
-from typing import Optional, Sequence
+from typing import List, Optional, Sequence
 
 from .errors import TOOL, ProveError
 
@@ -67,3 +67,17 @@ def run_tool(words: Sequence[str], seconds: float, folder: Optional[Path] = None
         said = printed.read().decode("utf-8", errors="replace")
     code = -os.WTERMSIG(status) if os.WIFSIGNALED(status) else os.WEXITSTATUS(status)
     return Ended(code, said, usage.ru_utime + usage.ru_stime)
+
+
+def share() -> Path:
+    """Returns the folder that has `sv`: the clone, or the installed one. Errors: there is none (4)."""
+    here = Path(__file__).resolve()
+    for folder in (here.parents[3], here.parents[2]):
+        if (folder / "sv" / "tl_bridge_watch.sv").is_file():
+            return folder
+    raise ProveError("sv/tl_bridge_watch.sv was not found next to the package tlbridge: run `make install` again", TOOL)
+
+
+def proof_files() -> List[Path]:
+    """Returns the files that a harness needs."""
+    return [share() / "sv" / "tl_checker.sv", share() / "sv" / "tl_bridge_watch.sv"]
