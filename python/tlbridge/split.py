@@ -18,6 +18,7 @@ PUT_PARTIAL = NUMBERS["A", "PutPartialData"]
 # Messages on A that may be several ones: the others are one operation, or one permission.
 DIVISIBLE = frozenset(NUMBERS["A", name] for name in ("PutFullData", "PutPartialData", "Get", "Intent"))
 FIELDS_OF_SPLIT = ("opcode", "param")
+UNKNOWN_BITS = "unknown bits"  # why later messages are not judged
 
 
 class SplitBeat(NamedTuple):
@@ -115,7 +116,7 @@ class SplitJudge:
             self._wrong(
                 channel, "unknown", f"{self._at(link, Row(place, line, 0))}: the beat has unknown bits: {line}", time
             )
-            self._stopped = "unknown bits"
+            self._stopped = UNKNOWN_BITS
             return
         if message.left == 0:
             del self._open[link, channel]
@@ -153,6 +154,10 @@ class SplitJudge:
             (channel, said) for channel, saids in self.mistakes.items() for _, said in saids if said.time is not None
         ]
         return min(found, key=lambda item: item[1].time or 0) if found else None
+
+    def has_unknown_bits(self) -> bool:
+        """Whether a beat has unknown bits. The model cannot judge the link of such a beat."""
+        return self._stopped == UNKNOWN_BITS
 
     def is_offered(self) -> bool:
         """Whether the design has sent a piece of a request that the client still offers."""

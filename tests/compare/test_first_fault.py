@@ -292,3 +292,4 @@ def test_remark(tmp_path: Path) -> None:
     )
     assert (status, len(lines), error) == (0, 6, ""), (lines, error)
     assert lines[-1].startswith("remark: channel D, ") and "a second ReleaseAck" in lines[-1], lines
+    assert lines[-1].endswith(" (the first of 2 requests and responses that do not fit)"), lines

@@ -5,6 +5,7 @@ each pair of channels.
 from typing import List, Optional, Tuple
 
 import pytest
+from tlbridge.levels import fault_of, lowest_level
 from tlbridge.matching import LinkMatcher, Message
 
 Event = Tuple[str, int, int]  # a kind of message, its source or sink, and its time
@@ -166,6 +167,16 @@ def test_level(level: Optional[str], names: List[str]) -> None:
     assert list(matcher.level_findings) == names
     assert list(matcher.level_counts.values()) == [2] * len(names)
     assert matcher.lowest_level() == "uh"
+
+
+def test_lowest_level() -> None:
+    """A message has the lowest level of its opcode and of its size. An opcode without a message needs none, and is no
+    fault of a level.
+    """
+    assert [lowest_level("A", opcode, 3, 8) for opcode in (4, 2, 6)] == ["ul", "uh", "c"]
+    assert [lowest_level("A", 4, size, 4) for size in (2, 3)] == ["ul", "uh"]
+    assert lowest_level("E", 0, 0, 4) == "c"
+    assert lowest_level("D", 3, 2, 4) == "ul" and fault_of("ul", "D", 3, 2, 4) is None
 
 
 def test_many_findings() -> None:

@@ -236,6 +236,28 @@ def test_early_response(tmp_path: Path) -> None:
     )
 
 
+@pytest.mark.parametrize("times, early", (([10, 40, 60], None), ([10, 35, 60], 35), ([10, 40, 55], 55)))
+@pytest.mark.parametrize("pieces", (1, 2))
+def test_early_beat(tmp_path: Path, pieces: int, times: List[int], early: Optional[int]) -> None:
+    """With times, a beat of a response comes no sooner than the last far beat that has some of its bytes."""
+    client = ["A 4 0 4 02 0000000000001000 ff 0000000000000000 0"]
+    client += [f"D 1 0 4 02 00 0 {data} 0" for data in ("1111111100000000", "3333333322222222")]
+    size = 5 - pieces
+    manager = [f"A 4 0 {size} 0{piece} 00000000000010{8 * piece:02x} f 00000000 0" for piece in range(pieces)]
+    manager += [f"D 1 0 {size} 0{beat * pieces // 4} 00 0 {8 * str(beat)} 0" for beat in range(4)]
+    asked = [15, 20][:pieces]
+    ended = judged(tmp_path, client, manager, "--largest", "16", times=(times, [*asked, 30, 40, 50, 60]))
+    assert ended.status == (early is not None), ended
+    assert early is None or f", time {early}: early: " in ended.lines[0], ended
+
+
+def test_unknown_bits(tmp_path: Path) -> None:
+    """A beat with an unknown bit ends the judgement, and is named."""
+    ended = judged(tmp_path, CLIENT, changed(PIECES, 2, " f 7", " x 7"))
+    assert ended.status == 1, ended
+    assert any("manager.beats line 3: the beat has unknown bits: " in line for line in ended.lines), ended
+
+
 def test_missing(tmp_path: Path) -> None:
     """A missing piece, a missing response and a surplus piece are mistakes."""
     for client, manager, words in (

@@ -586,7 +586,7 @@ def counts_fit(board: Board, case: Case, printed: str) -> None:
     """The counts at the end and before it, and how many boards were opened and freed."""
     is_small, beats = board.pair == (8, 4), beats_of(case.events)
     at_end = sum(any(words in line for words in AT_END) for line in case.lines or [])
-    boards = 3 if is_small else 2
+    boards = 4 if is_small else 2
     wanted = [f"board: {case.differences} differences, {beats} beats\n", f"boards: {boards} opened, {boards} freed\n"]
     if is_small and (case.is_lawful or not beats):
         wanted.append(f"tlbridge_scoreboard: {case.differences} differences, {beats} beats\n")
@@ -626,6 +626,21 @@ def test_the_exit_status_and_finish_say_whether_there_is_a_difference(small_boar
         assert f"at the end: {count} differences of {len(events) - 4} beats" in printed
         assert printed.count("\nboard: time") == count
     assert "differences: 1, 1\n" in printed
+
+
+@pytest.mark.parametrize("count", range(4))
+def test_the_simulation_ends_after_as_many_differences_as_its_scoreboard_allows(count: int, small_board: Board) -> None:
+    """After two, by the scoreboard that has clocks only with +stops. With fewer it does not end the simulation."""
+    events = link_cases.started(lawful.exchange(8, 4))
+    far = [at for at in lawful.of(events, "E") if events[at].is_far]
+    for at in far[-4 : count - 4]:
+        events[at] = lawful.flipped(events[at], "sink", 0)
+    status, printed = small_board.run_events(events, "+stops", *["+verilator+error+limit+100"] * (count < 2))
+    assert printed.count("\nstopping: time") == min(count, 2), printed[-600:]
+    # (with that limit, a difference at the end is no error)
+    assert (status != 0) == (count > 1)
+    if count < 2:
+        assert f"\nstopping: {count} differences, {len(events) - 4} beats\n" in printed, printed[-600:]
 
 
 def test_a_simulation_without_beats_fails(small_board: Board) -> None:

@@ -58,9 +58,8 @@ class Folder:
         self.top, self.calls_file, self.bin = Path(room) / "a checkout", Path(room) / "calls", Path(room) / "bin"
         (self.top / "tools").mkdir(parents=True)
         self.bin.mkdir()
-        for name in ("tlbridge", "tools/build", "tools/crate-seconds"):
+        for name in ("tlbridge", "tlexplain", "tools/build", "tools/crate-seconds"):
             shutil.copy2(ROOT / name, self.top / name)
-        os.symlink("tlbridge", self.top / "tlexplain")
         (self.top / "crates.txt").write_text(CRATES)
         (self.top / "HANDLES").write_text("Handles allowed: Threads, Wait.\n")
         for name, source in (("low", "lib.rt"), ("left", "lib.rt"), ("tlbridge", "main.rt"), ("tlexplain", "main.rt")):

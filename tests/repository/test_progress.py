@@ -7,6 +7,7 @@ not sink to nothing. Each crate below the programs has to be in the table. Then 
 lines with a stand-in for `rt`, and its lines are checked.
 """
 
+import io
 import os
 import random
 import re
@@ -167,6 +168,13 @@ def test_a_crate_that_is_refused():
     lines, status = lines_of(["wrong"])
     assert status == 1
     assert {"TITLE: wrong is refused:", "fn wrong::f: open goal"} <= {*lines}
+
+
+def test_a_long_refusal():
+    """A line is cut after 400 characters, and 60 lines are shown. Those about success are left out."""
+    log = io.StringIO("fn low::f: proved\n" + f"{'x' * 399}\n{'y' * 400}\n" * 40)
+    log.seek(0, io.SEEK_END)
+    assert build.refusal(log) == f"{'x' * 399}\n{'y' * 400} ..\n" * 30
 
 
 @pytest.mark.parametrize("places", (1, 2))

@@ -101,18 +101,15 @@ def test_the_model_has_the_same_messages() -> None:
 
 
 def test_the_header_of_c_has_the_same_faults() -> None:
-    """include/tlbridge.h names each fault of a beat or a call with its number."""
+    """include/tlbridge.h names each fault of a beat or a call with its number, and no number twice."""
     text = (ROOT / "include" / "tlbridge.h").read_text()
-    named = {
-        int(number): name.replace("_", "").lower()
-        for name, number in re.findall(r"\bTL_([A-Z_]+) = (\d+)", text)
-        if not name.endswith("FINISHED")
-    }
-    shared = named.keys() & protocol.FAULTS.keys()
-    assert len(shared) > 10, "the header names few faults"
+    rows = [(int(number), name) for name, number in re.findall(r"\bTL_([A-Z_]+) = (\d+)", text) if number != "0"]
+    named = {number: name.replace("_", "").lower() for number, name in rows if not name.endswith("FINISHED")}
+    assert len(named) == sum(not name.endswith("FINISHED") for _, name in rows), "a number has two names"
+    shared = protocol.FAULTS.keys()
     # (in C, TL_CHANNEL is the macro of a channel's calls)
     expected = {number: protocol.FAULTS[number].lower() for number in shared} | {15: "channelletter"}
-    assert {number: named[number] for number in shared} == {number: expected[number] for number in shared}
+    assert {number: named.get(number) for number in shared} == {number: expected[number] for number in shared}
 
 
 def test_the_statuses_of_calls_are_those_of_the_library() -> None:

@@ -15,10 +15,10 @@ from pathlib import Path
 from typing import Dict, Iterator, List, Optional, Tuple, Union
 
 import pytest
-from commands import Word, run, said
+from commands import Word, run, said, succeed_silently
 from configurations import LINT_CORNERS, REFUSED
 from project import MODEL, ROOT, RTL, needs_program, needs_tools
-from rtl_checks import reads_without_a_warning, refuses_value, simulated_in_icarus
+from rtl_checks import played_in_icarus, reads_without_a_warning, refuses_value, simulated_in_icarus
 from rtl_simulations import HERE, PAIRS, Config, Room, first_difference, named, sources
 
 PAGE = ROOT / "docs" / "RTL.md"
@@ -33,7 +33,7 @@ PASSED_ON: Dict[
     "MANAGER_BYTES": "DEVICE_BYTES",
     "REQUEST_USER_BITS": "A_USER_BITS",
     "RESPONSE_USER_BITS": "D_USER_BITS",
-    "HAS_B_C_E": "1'b0",
+    "HAS_B_C_E": "0",
     "ECHO_BITS": None,
 }
 PARAMETER = re.compile(r"\bparameter (?:int|bit) (\w+) = (\d+)")
@@ -242,10 +242,19 @@ FEW = LINT_CORNERS[:4]
 
 
 @pytest.mark.simulator
-@pytest.mark.parametrize("config", LINT_CORNERS[:6] + PAIRS[::9], ids=named)
+@pytest.mark.parametrize("config", [*LINT_CORNERS[:6], *PAIRS[::9], {**PAIRS[27], "SIZE_BITS": 2}], ids=named)
 def test_verilator_reads_a_configuration_without_a_warning(config: Config) -> None:
-    """Some corners of the parameters, and each width."""
+    """Some corners of the parameters, each width, and sizes of which none makes a burst."""
     reads_without_a_warning("verilator", config)
+
+
+@pytest.mark.simulator
+@pytest.mark.parametrize("wrapper, bits", [("tl_bridge_rocket", "ECHO_BITS"), ("tl_bridge_structs", "A_USER_BITS")])
+def test_verilator_reads_a_wrapper_without_a_warning(wrapper: str, bits: str) -> None:
+    """With one bit of that kind. test_rtl_wrappers.py has other parameters and tools."""
+    needs_tools("verilator")
+    words: List[Word] = ["verilator", "--lint-only", "-Wall", "--top-module", wrapper, f"-G{bits}=1"]
+    succeed_silently([*words, *sorted(RTL.glob("*.sv"))])
 
 
 @pytest.mark.simulator
@@ -272,6 +281,15 @@ def test_a_small_configuration_in_icarus(room: Room, tmp_path: Path) -> None:
 
 
 @pytest.mark.simulator
+def test_a_recorded_simulation_in_icarus(tmp_path: Path) -> None:
+    """It has beats of all five channels, and is what the RTL does. test_rtl_long.py has the others."""
+    trace = HERE / "recorded" / "8_8_max_outstanding_4.trace"
+    config = dict(CLIENT_BYTES=8, MANAGER_BYTES=8, MAX_OUTSTANDING=4)
+    far, faults, printed = played_in_icarus(config, trace, sources(), tmp_path)
+    assert (faults, far) == (0, trace.with_suffix(".far").read_text()), printed[-600:]
+
+
+@pytest.mark.simulator
 def test_directed_resets_in_icarus(tmp_path: Path) -> None:
     """The cases of resets.sv."""
     needs_tools("iverilog", "vvp")
@@ -280,3 +298,27 @@ def test_directed_resets_in_icarus(tmp_path: Path) -> None:
     printed = run(["vvp", "-n", tmp_path / "resets"]).stdout
     assert printed.strip().endswith("as expected"), printed
     assert "WRONG" not in printed
+
+
+STAGES = """module bench;
+    logic clock = 0;
+    logic [1:0] d = 2'b00, two, three;
+    tl_synchronizer #(.BITS(2), .SYNC_STAGES(2)) of_two (.clock(clock), .d(d), .q(two));
+    tl_synchronizer #(.BITS(2), .SYNC_STAGES(3)) of_three (.clock(clock), .d(d), .q(three));
+    initial begin
+        repeat (4) begin #1 clock = 1; #1 clock = 0; end
+        d = 2'b10;
+        repeat (4) begin #1 clock = 1; #1 clock = 0; $display("%b %b", two, three); end
+    end
+endmodule
+"""
+
+
+@pytest.mark.simulator
+def test_a_synchronizer_has_its_stages(tmp_path: Path) -> None:
+    """A bit needs as many edges of the clock as SYNC_STAGES. No simulation of the whole block sees one fewer."""
+    needs_tools("iverilog", "vvp")
+    (tmp_path / "bench.sv").write_text(STAGES)
+    words: List[Word] = ["iverilog", "-g2012", "-o", tmp_path / "bench", tmp_path / "bench.sv"]
+    succeed_silently([*words, RTL / "tl_synchronizer.sv"])
+    assert run(["vvp", "-n", tmp_path / "bench"]).stdout.split() == ["00", "00", "10", "00", "10", "10", "10", "10"]
