@@ -120,24 +120,48 @@ def word_lemmas(out: Lines, row: Row, channel: str) -> None:
 
 
 def deep_lemmas(out: Lines, row: Row) -> None:
-    """Adds the lemma about the marks of the words in a deep queue."""
-    letter, words = row.channel.lower(), row.words(row.channel)
+    """Adds the lemmas about the marks of the words in a deep queue."""
+    letter, words, wide = row.channel.lower(), row.words(row.channel), max(row.client, row.manager)
+    near, far = (getattr(row, side) for side in sides(row.channel))
     byte_bits = row.largest.bit_length()
+    converter = f"dut.{'b_c_e.' if letter in 'bc' else ''}{letter}."
+    converter += "narrows.narrow" if near > far else "widens.widen"
+    slot_bits = max(1, (wide // min(near, far)).bit_length() - 1)
     inner = {
         f"{letter}_words": {"watched": words, "holds": words, "gathered": 1, "gathered_watched": 1, "gathered_byte": 1},
         f"watch.{letter}.watch": {
-            **{name: 1 for name in ("picked", "begun", "done", "has_data")},
+            **{name: 1 for name in ("picked", "begun", "done", "has_data", "near_open")},
             **{name: COUNT_BITS for name in ("held", "ahead_kept")},
-            **{name: byte_bits for name in ("near_left", "near_count_kept", "far_count", "number_kept")},
+            **{name: byte_bits for name in ("near_left", "near_count_kept", "far_count_kept", "number_kept")},
             **{name: 3 for name in ("near_power", "far_power", "wide_power")},
+            **{name: 1 for name in ("partial", "bad_kept", "masked_in_kept")},
+            "lane": 7,
+            "size": row.size_bits,
+            "head": 3 + HEAD_BITS[row.channel],
         },
+        converter: {"next_slot": slot_bits},
     }
-    ports = {"first": f"{letter}_first", "count": f"{letter}_count"}
+    ports = {"first": f"{letter}_first", "count": f"{letter}_count", "in_word": "deep_in_word"}
+    out.probe("deep_in_word", f"{converter}.{'begun' if near > far else 'gathers'}")
     for place, names in inner.items():
         for name, bits in names.items():
             out.probe(f"deep_{name}", f"{place}.{name}", bits)
             ports[name.replace("_kept", "")] = f"deep_{name}"
-    sizes = {"WORDS": words, "COUNT_BITS": COUNT_BITS, "BYTE_BITS": byte_bits}
+    top = HEAD_BITS[row.channel] + 1 + 8 * wide  # of a word: above it are size and opcode
+    all_words = [f"{letter}_word_{number}" for number in reversed(range(words))]
+    kind = f"~{{}}[{top + row.size_bits + 2}]" if letter in "ab" else f"{{}}[{top + row.size_bits}]"
+    ports["with_data"] = f"{{{', '.join(kind.format(word) for word in all_words)}}}"
+    ports["sizes"] = f"{{{', '.join(f'{word}[{top + row.size_bits - 1}:{top}]' for word in all_words)}}}"
+    opcode = top + row.size_bits
+    heads = [f"{word}[{opcode + 2}:{opcode}], {word}[{top - 1}:{8 * wide + 1}]" for word in all_words]
+    ports["heads"] = f"{{{', '.join(heads)}}}"
+    ports["corrupts"] = f"{{{', '.join(f'{word}[{8 * wide}]' for word in all_words)}}}"
+    masked, mask = row.channel in "AB", opcode + 3
+    masks = ", ".join(f"{word}[{mask + wide - 1}:{mask}]" for word in all_words)
+    ports["masks"] = f"{{{masks}}}" if masked else f"{words * wide}'d0"
+    sizes = {"WORDS": words, "COUNT_BITS": COUNT_BITS, "BYTE_BITS": byte_bits, "SIZE_BITS": row.size_bits}
+    sizes.update({"WIDE": wide, "MASKED": int(masked)})
+    sizes.update({"HEAD_BITS": 3 + HEAD_BITS[row.channel], "SLOT_BITS": slot_bits, "NARROWS": int(near > far)})
     out.instance("tl_deep_lemmas", sizes, f"{letter}_words_deep_lemmas", ports)
 
 

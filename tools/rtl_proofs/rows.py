@@ -113,7 +113,7 @@ class Row:
 
     @property
     def is_deep(self) -> bool:
-        """Whether the queue of the channel has four words or more, so that the proof needs another lemma."""
+        """Whether the queue of the channel has four words or more, so that the proof needs more lemmas."""
         return self.words(self.channel) >= 4
 
     @property
@@ -175,17 +175,20 @@ LANES = r"_lemmas\.(Lane|Held|Aligned)$"
 def stages_of(channel: str, is_deep: bool) -> Tuple[Stage, ...]:
     """Returns the stages of a proof by lemmas. Steps whose lemmas a row does not have are left out."""
     letter = channel.lower()
-    watch = Step(rf"^{letter}\.(?!Source)", rf"^{letter}_words\.|" + LANES)
+    watch = Step(rf"^{letter}\.(?!Source)", rf"^{letter}_words(_deep_lemmas)?\.|" + LANES)
     rules = Step(r"^far_rules\.", rf"^{letter}\.|^request_lemmas\.")
     places = rf"^{letter}_words\.(Begins|Empty|Watched|Here)$"
     first_and_count = rf"^{letter}_words\.(Begins|Empty)$"
     marks: Tuple[Step, ...] = (Step(places),)
+    deep = r"_words_deep_lemmas\."
     if is_deep:
-        places += r"|_words_deep_lemmas\.Marks$"
+        places += "|" + deep
         marks = (
-            Step(first_and_count),
-            Step(r"_words_deep_lemmas\.Marks$", first_and_count),
-            Step(rf"^{letter}_words\.(Watched|Here)$", first_and_count + r"|_words_deep_lemmas\."),
+            Step(first_and_count + "|" + deep + "Count$"),
+            Step(deep + r"(Kind|Size|Fields|Near)$", first_and_count + "|" + deep),
+            Step(deep + r"Marks$", first_and_count + "|" + deep),
+            Step(rf"^{letter}_words\.(Watched|Here)$", first_and_count + "|" + deep),
+            Step(deep + r"(Bad|Masked|Active)$", first_and_count + "|" + deep),
         )
     words = (*marks, Step(rf"^{letter}_words\.Value", places))
     if channel == "E":
@@ -217,8 +220,11 @@ def stages_of(channel: str, is_deep: bool) -> Tuple[Stage, ...]:
     )
     rest = Stage(
         (
-            Step(r"_words_deep_lemmas\.Marks$", r"^d_words\.(Begins|Empty)$"),
-            Step(r"^d_words\.(Watched|Here)$", LANES + r"|^d_words\.(Begins|Empty)$|_words_deep_lemmas\."),
+            Step(deep + r"Count$"),
+            Step(deep + r"(Kind|Size|Fields|Near)$", r"^d_words\.(Begins|Empty)$|" + deep),
+            Step(deep + r"Marks$", r"^d_words\.(Begins|Empty)$|" + deep),
+            Step(r"^d_words\.(Watched|Here)$", LANES + r"|^d_words\.(Begins|Empty)$|" + deep),
+            Step(deep + r"(Bad|Masked|Active)$", r"^d_words\.(Begins|Empty)$|" + deep),
             Step(r"^d_words\.Value", LANES + "|" + places),
             watch,
             rules,
@@ -293,19 +299,17 @@ NAMES = """
     A-2-4-within-2 A-2-2-within-2 B-4-2-within-2 B-2-4-within-3 C-4-2-within-3 C-2-4-within-2 D-2-4-within-3
     E-4-2-within-2 E-2-4-within-2 E-2-2-within-2 A-2-4-depth-0 C-2-4-depth-0 E-4-2-depth-4 D-4-2-entries-2
     A-4-2-resets-of-manager E-4-2-resets-of-manager A-4-2-depth-0-later AD-8-8 FIFO-8-two-clocks D-4-2-within-2
-    C-2-4-two-clocks D-4-2-resets-of-client
+    C-2-4-two-clocks D-4-2-resets-of-client B-2-2-within-2 C-2-2-within-2 D-2-2-within-2 A-2-2-two-clocks
+    C-2-2-two-clocks E-2-2-two-clocks-within-5 AD-1-1 AD-1-2 AD-1-4 AD-2-1 AD-4-1 AD-4-4 AD-2-8 AD-4-8 AD-8-2 AD-8-4
+    AD-1-8 AD-8-1 AD-4-2-depth-8 AD-2-4-depth-8 A-4-2-depth-4
 """
 # No run of these has ended, so they claim nothing. They are tried if they are named.
 NOT_RUN = """
-    A-2-2-two-clocks B-2-4-two-clocks B-2-2-two-clocks C-2-2-two-clocks D-2-2-two-clocks B-2-2-within-2
-    C-2-2-within-2 D-2-2-within-2 E-2-2-two-clocks-within-5 D-2-4-depth-0 A-4-2-depth-4 A-4-2-entries-1
-    D-2-4-entries-1 D-4-1 A-4-2-rules AD-1-1 AD-1-2 AD-1-4 AD-1-8 AD-2-1 AD-2-8 AD-4-1 AD-4-4 AD-4-8 AD-8-1 AD-8-2
-    AD-8-4 AD-4-2-depth-8 AD-2-4-depth-8
+    B-2-4-two-clocks B-2-2-two-clocks D-2-2-two-clocks D-2-4-depth-0 A-4-2-entries-1 D-2-4-entries-1 D-4-1
+    A-4-2-rules
 """
 BOUNDS: Dict[str, Bound] = {
-    name: Bound(8 if "8" in name else 12, "No run of its proof has ended.")
-    for name in (NAMES + NOT_RUN).split()
-    if name.startswith("AD-")
+    name: Bound(8, "No run of its proof has ended.") for name in (NAMES + NOT_RUN).split() if name.startswith("AD-")
 }
 # Here the FIFO and the reset agreement are those of rtl/.
 BOUNDS["E-2-2-two-clocks-within-5"] = Bound(
