@@ -1,6 +1,5 @@
 #!/usr/bin/env python3
-"""Plays each design of tests/verify/designs, blind and more, right and with each of its planted mistakes, and
-prints a table.
+"""Plays each design of the folders beside it, right and with each of its planted mistakes, and prints a table.
 
     tests/verify/trial.py [--jobs N] [DESIGN ..] [-- OPTION ..]
 
@@ -101,8 +100,9 @@ def played(design: str, bug: int, more: Tuple[str, ...] = ()) -> Result:
         done = subprocess.run(words, capture_output=True, text=True)
         total, processor = time.monotonic() - begun, sum(os.times()[2:4]) - before
         made = Path(folder) / "out" / "verdict.json"
-        if not made.exists():
-            return Result(design, bug, done.returncode, done.stderr.strip()[-200:], 0, total, processor, 0, 0)
+        if not made.exists():  # no verdict: a message, or (status 1) a traceback
+            words_of = done.stderr.strip()[-200:].replace("\n", " ")
+            return Result(design, bug, -1 if done.returncode == 1 else done.returncode, words_of, 0, total, processor, 0, 0)
         verdict = json.loads(made.read_text())
         beats = sum(len(side.read_text().splitlines()) for side in made.parent.glob("*.beats"))
         found = verdict["found_seconds"] if verdict["verdict"] == "mistake" else total

@@ -303,12 +303,14 @@ class Bench:
         moves = " + ".join(f"{side}_moves" for side in self.sides)
         works = " || ".join(f"{side}_works || (|{side}_rv) === 1'b1" for side in self.sides)
         faults = " + ".join(f"{side}_faults" for side in self.sides)
-        self.say("    reg [31:0] idle = 0, moved = 0, most_idle, end_idle; integer cycles = 0, most, stop, faulty = 0;")
+        self.say("    reg [31:0] idle = 0, moved = 0, most_idle, end_idle;")
+        self.say("    integer cycles = 0, most, stop, flood, faulty = 0;")
         self.say(f'    initial begin if (!$value$plusargs("idle=%d", most_idle)) most_idle = {IDLE_CYCLES};')
         self.say(f'        if (!$value$plusargs("end=%d", end_idle)) end_idle = {_END_CYCLES};')
         self.say(
             '        if (!$value$plusargs("most=%d", most)) most = 0; if (!$value$plusargs("stop=%d", stop)) stop = 0;'
         )
+        self.say('        if (!$value$plusargs("flood=%d", flood)) flood = 0;')
         self.say(
             '        if ($test$plusargs("vcd")) begin $dumpfile("waves.vcd"); $dumpvars(0, tl_verify_bench); end end'
         )
@@ -322,12 +324,12 @@ class Bench:
             f"        if ({moves} != moved || {first}_hold) begin moved = {moves}; idle = 0; end else idle = idle + 1;"
         )
         self.say(
-            "        if (idle > most_idle || (most != 0 && cycles > most) || faulty > 40 || (idle > end_idle &&"
-            f" !({works}))) begin"
+            "        if (idle > most_idle || (most != 0 && cycles > most) || (flood != 0 && moved > flood) ||"
+            f" faulty > 40 || (idle > end_idle && !({works}))) begin"
         )
         self.say(
             f'            $display("VERIFY %0s %0t cycles %0d moves %0d", ({works}) && !(most != 0 && cycles > most) &&'
-            ' faulty <= 40 ? "hang" : "end", $time, cycles, moved);'
+            ' !(flood != 0 && moved > flood) && faulty <= 40 ? "hang" : "end", $time, cycles, moved);'
         )
         for side in self.sides:
             for number, letter in enumerate(CHANNELS):
@@ -553,6 +555,15 @@ class Simulation:
             f"{self.simulator} cannot compile the design and its bench: {first.strip()}", 4 if ours else 3
         )
 
+    def flood(self, script: Sequence[Message]) -> int:
+        """Returns a number of beats that a design cannot reach by this script, unless it repeats a beat for ever: five
+        times what crosses both links. 0 if nothing is known of the number: a host, or a design that is no plain
+        bridge."""
+        if self.design.client is None or (self.design.manager is not None and not self._text.is_bridge):
+            return 0
+        narrow = min(link.width for link in self.design.links.values())
+        return 1000 + 20 * sum(4 + (1 << message.size) // narrow for message in script)
+
     def words(self, script: Sequence[Message], settings: Mapping[str, int]) -> List[str]:
         """Returns the command that plays a script."""
         counts = {channel: sum(message.channel == channel for message in script) for channel in "ABC"}
@@ -563,6 +574,7 @@ class Simulation:
         return (
             start
             + counted
+            + [f"+flood={self.flood(script)}"]
             + [f"+{name}={value}" for name, value in settings.items()]
             + [f"+{word}" for word in self.plusargs]
         )
