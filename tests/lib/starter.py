@@ -30,12 +30,12 @@ SCRIPTS = {str(ROOT / name) for name in ("sv/compare", "tlbridge-trace", "tlbrid
 PACKAGE = "tlbridge.waves"  # which `python3 -m` runs
 MAIN = str(ROOT / "python" / "tlbridge" / "waves" / "__main__.py")
 MODULES = ("tlbridge.compare", "tlbridge.waves.command", "argparse", "itertools")
-Word = Union[str, Path, int]
+Word = Union[str, bytes, Path, int]
 
 
 def command_of(words: Sequence[Word]) -> Optional[List[str]]:
     """The script of this project with its arguments, without the Python in front of it; None of another command."""
-    shown = [str(word) for word in words]
+    shown = [os.fsdecode(word) if isinstance(word, bytes) else str(word) for word in words]
     if shown[0] == sys.executable:
         shown = [MAIN, *shown[3:]] if shown[1:3] == ["-m", PACKAGE] else shown[1:]
     return shown if shown and (shown[0] in SCRIPTS or shown[0] == MAIN) else None

@@ -137,15 +137,15 @@ def test_killed_yosys_claims_nothing(tmp_path: Path) -> None:
 def test_model_without_assertions_claims_nothing(cache: Path, bounded: Run, tmp_path: Path) -> None:
     """A model of the cache whose list of assertions is empty, and a name that no assertion has."""
     assert bounded.status == 0, bounded.err
-    (labels,) = (
-        path for path in cache.glob("*/labels") if "SeesTime" in path.read_text()
-    )  # the one with all assertions
-    kept = labels.read_text()
-    labels.write_text("")
+    kept = {path: path.read_text() for path in cache.glob("*/labels")}
+    for path, text in kept.items():
+        if "SeesTime" in text:  # those with all assertions
+            path.write_text("")
     try:
         run = prove(cache, tmp_path, *start("--unbounded", "--only", "a.Head"))
     finally:
-        labels.write_text(kept)
+        for path, text in kept.items():
+            path.write_text(text)
     assert run.status == 4 and run.claims_nothing(), run.out + run.err
     assert "the model has no assertion: nothing is proved" in run.err
     run = prove(cache, tmp_path, *start("--only", "a.Nothing"))

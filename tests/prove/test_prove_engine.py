@@ -248,7 +248,12 @@ def test_smaller_model_assumes_less(tmp_path: Path, monkeypatch: pytest.MonkeyPa
     made = a_session(dict.fromkeys(("Data0", "SeesBeat", "SeesByte"), FAILS), monkeypatch, tmp_path)
     made.design, _ = a_design()
     texts: List[str] = []
-    monkeypatch.setattr(made, "build", lambda harness, what: texts.append(harness.text) or made.model)
+
+    def build(harness: Harness, _: str) -> Model:
+        texts.append(harness.text)
+        return made.model
+
+    monkeypatch.setattr(made, "build", build)
     assert made.build_small("D") is made.model
     for words in ("CHANNELS(5'd8)", "ALL_SOURCES(1'b0)", "ALL_CHANNELS(1'b0)", "COVERS(1'b0)"):
         assert f".{words}" in texts[0]

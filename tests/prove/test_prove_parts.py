@@ -15,6 +15,9 @@ from tlbridge.prove.engine import BOUNDED, FAILS, PROVED, Verdict
 from tlbridge.prove.errors import ProveError
 from tlbridge.prove.harness import Harness, Options, write_harness
 from tlbridge.prove.model import Model
+from tlbridge.prove.options import command_line
+from tlbridge.prove.search import Search
+from tlbridge.prove.session import Session
 from tlbridge.verify.design import Design, Port, Signal, Source, find_links
 
 LABELS = ("watch.a.watch.Data0", "watch.a.watch.Invented", "watch.SourceA")
@@ -253,22 +256,28 @@ def test_the_assertions_that_a_model_keeps(tmp_path: Path, monkeypatch: pytest.M
 # ---- what is printed
 
 
-def a_proof(folder: Path, verdicts: Dict[int, Verdict]) -> command.Proof:
-    proof = command.Proof.__new__(command.Proof)
-    proof.words = argparse.Namespace(reset_cycles=2, out=str(folder / "out"), seconds=9, top="dut", unbounded=False)
-    proof.options, proof.began = Options(), time.monotonic()
-    proof.model, proof.harness, proof.folder = Model(folder, LABELS), HARNESS, folder
-    proof.verdicts = verdicts
-    return proof
+def result(monkeypatch: pytest.MonkeyPatch, folder: Path, verdicts: Dict[int, Verdict], asked: List[int]) -> int:
+    """Prints the result of a session whose search ends with these verdicts, and returns its exit status."""
+    session = Session.__new__(Session)
+    session.words = argparse.Namespace(reset_cycles=2, out=str(folder / "out"), seconds=9, top="dut", unbounded=False)
+    session.options, session.began = Options(reset_cycles=2), time.monotonic()
+    session.model, session.harness, session.folder = Model(folder, LABELS), HARNESS, folder
+    monkeypatch.setattr(Session, "build_whole", lambda _: None)
+    monkeypatch.setattr(Session, "chosen", lambda _: asked)
+    monkeypatch.setattr(command, "reach", lambda _: None)
+    monkeypatch.setattr(Search, "run", lambda search, asked: search.verdicts.update({i: verdicts[i] for i in asked}))
+    return command.prove(session)
 
 
-def test_the_result_of_a_proof(tmp_path: Path, capsys: pytest.CaptureFixture[str]) -> None:
+def test_the_result_of_a_proof(
+    tmp_path: Path, monkeypatch: pytest.MonkeyPatch, capsys: pytest.CaptureFixture[str]
+) -> None:
     verdicts = {0: Verdict(PROVED, 0, 1.0), 1: Verdict(BOUNDED, 22, 1.0), 2: Verdict(BOUNDED, 9, 1.0)}
-    assert a_proof(tmp_path, verdicts).result([0, 1, 2]) == 0
+    assert result(monkeypatch, tmp_path, verdicts, [0, 1, 2]) == 0
     assert capsys.readouterr().out.splitlines()[0] == (
         "3 assertions: 1 proved, 2 without a counterexample in 7 cycles or more"
     )
-    assert a_proof(tmp_path, verdicts).result([0]) == 0
+    assert result(monkeypatch, tmp_path, verdicts, [0]) == 0
     assert capsys.readouterr().out.startswith("1 assertion: 1 proved\n")
 
 
@@ -284,7 +293,7 @@ def test_a_failure_without_icarus(
     monkeypatch.setattr(engine, "counterexample", counterexample)
     monkeypatch.setattr("shutil.which", lambda name: None)
     fails = {0: Verdict(FAILS, 7, 1.0), 1: Verdict(FAILS, 5, 1.0), 2: Verdict(FAILS, 5, 1.0)}
-    assert a_proof(tmp_path, fails).result([0, 1, 2]) == 1
+    assert result(monkeypatch, tmp_path, fails, [0, 1, 2]) == 1
     out = capsys.readouterr().out
     assert (
         asked == [1] and "3 assertions: 3 fail\n" in out and f"counterexample of a.Invented, in {tmp_path}/out:" in out
@@ -294,7 +303,7 @@ def test_a_failure_without_icarus(
         "step 0: free_valid=1 free_data=abc client_tick=1\nstep 1: free_client_a_valid=1\n"
     )
     assert (tmp_path / "out" / "proof.sv").read_text() == HARNESS.text
-    assert a_proof(tmp_path, fails).result([0]) == 1
+    assert result(monkeypatch, tmp_path, fails, [0]) == 1
     out = capsys.readouterr().out
     assert "1 assertion: 1 fails\n" in out and "--forwards-offered" not in out
 
@@ -304,7 +313,7 @@ def test_the_words_of_the_command_line() -> None:
     words += " --manager-reset !r --tie x=1 --clocks 2 --reset-cycles 3 --cycles 9 --unbounded --seconds 7 --only Data"
     words += " --level ul --largest 64 --no-same-cycle-response --zero-lanes --forwards-offered --offered-rules"
     words += " --later-resets --no-user-bits"
-    found = vars(command.command_line().parse_args(words.split()))
+    found = vars(command_line().parse_args(words.split()))
     expected: Dict[str, Any] = dict(
         files=["a.sv", "b.sv"], top="t", file_list="l", param=[("N", "1"), ("M", "2")], define=["Q=2"]
     )
@@ -315,4 +324,4 @@ def test_the_words_of_the_command_line() -> None:
     assert {name: found[name] for name in expected} == expected
     for wrong in ("--cycles 0", "--cycles 10001", "--largest 3", "--largest 8192", "-P N", "--reset-cycles 101"):
         with pytest.raises(SystemExit):
-            command.command_line().parse_args(["--top", "t", *wrong.split()])
+            command_line().parse_args(["--top", "t", *wrong.split()])

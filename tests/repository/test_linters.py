@@ -11,7 +11,7 @@ from project import ROOT, compiler, needs_tools
 FIRST_LINE = re.compile(rb"#!.*\b(python3|sh|bash)\b")
 # The folders whose types mypy checks strictly. Other tests have types in part.
 TYPED = (
-    *("python/tlbridge", "tests/lib", "tests/links", "tests/monitor", "tests/mutants", "tests/prove", "tests/verify"),
+    *("python/tlbridge", "tests/lib/", "tests/links", "tests/monitor", "tests/mutants", "tests/prove", "tests/verify"),
     *("tools/rtl_proofs", "tools/mutants", "tools/reading-list", "bench/verify"),
 )
 

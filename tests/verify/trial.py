@@ -102,7 +102,8 @@ def played(design: str, bug: int, more: Tuple[str, ...] = ()) -> Result:
         made = Path(folder) / "out" / "verdict.json"
         if not made.exists():  # no verdict: a message, or (status 1) a traceback
             words_of = done.stderr.strip()[-200:].replace("\n", " ")
-            return Result(design, bug, -1 if done.returncode == 1 else done.returncode, words_of, 0, total, processor, 0, 0)
+            status = -1 if done.returncode == 1 else done.returncode
+            return Result(design, bug, status, words_of, 0, total, processor, 0, 0)
         verdict = json.loads(made.read_text())
         beats = sum(len(side.read_text().splitlines()) for side in made.parent.glob("*.beats"))
         found = verdict["found_seconds"] if verdict["verdict"] == "mistake" else total

@@ -14,11 +14,11 @@ from pathlib import Path
 from typing import Dict, List, Optional, Sequence, Tuple, Union
 
 from tlbridge.prove import engine
-from tlbridge.prove.command import is_cover, proof_files
 from tlbridge.prove.engine import BOUNDED, FAILS, PROVED, Verdict
 from tlbridge.prove.errors import ProveError
-from tlbridge.prove.harness import Options, write_harness
+from tlbridge.prove.harness import Options, is_cover, write_harness
 from tlbridge.prove.model import Model, Recipe, build, cache_folder, short_name
+from tlbridge.prove.tools import proof_files
 from tlbridge.verify.design import DesignError, Source, read_design
 
 from .given import step_model

@@ -1,4 +1,4 @@
-"""What a reader of a waveform has to know before trusting its beats: of each link, and of the whole dump."""
+"""Remarks on a link, and on the whole dump: a reader should know them before trusting the beats."""
 from __future__ import annotations
 
 from typing import Callable, List, Optional, Sequence
