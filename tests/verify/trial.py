@@ -41,8 +41,12 @@ UNDER = {
     "regfile": (4,),
     "dma_host": (1, 3, 4),
     "src_shrink": (5,),
+    "id_pool": (4, 6),
+    "uh_async": (3,),
+    "ul_handshake": (2,),
+    "uh_fragment": (6,),
 }
-MISSED = {"hs4_cdc": (5,), "dma_host": (6,)}
+MISSED = {"hs4_cdc": (5,), "dma_host": (6,), "ot_ram": (2,), "uh_fragment": (7,)}
 
 
 def designs() -> Dict[str, Path]:
