@@ -65,6 +65,7 @@ class Wire(Simulation):
     def __init__(self, design: Design, simulator: str, room: Path, bench: Bench, *_: Any, **__: Any):
         self.design, self.simulator, self.room, self.has_two = design, simulator, room, bench.has_two
         self.name, self.plusargs, self.program = room.name, [], room / "simulation"
+        self._text = bench
         room.mkdir(parents=True, exist_ok=True)
         self.bench = room / "tl_verify_bench.sv"
         self.bench.write_text(bench.text())
@@ -166,7 +167,25 @@ def test_a_right_design(capsys: pytest.CaptureFixture[str]) -> None:
     verdict = json.loads(Path("tlbridge-verify.out/verdict.json").read_text())
     assert (verdict["verdict"], verdict["beats"], verdict["seed"]) == ("right", 360, 1)
     assert out.endswith(Path("tlbridge-verify.out/report.txt").read_text())
-    assert "\n  No time was left for these styles: " in out
+    assert re.search(r"\n  No message was left for these styles: .* \(--messages\)\n", out)
+
+
+def test_a_slow_measurement_of_speed(monkeypatch: pytest.MonkeyPatch, capsys: pytest.CaptureFixture[str]) -> None:
+    """The verdict stands if the run that measures the speed does not end in time."""
+    real = Wire.run
+
+    def slow(
+        wire: Wire, script: Sequence[Message], settings: Mapping[str, int], folder: Path, *_: Any, **more: Any
+    ) -> Run:
+        if folder.name == "speed":
+            assert more["seconds"] == 20
+            raise OverTimeError("a run did not end")
+        return real(wire, script, settings, folder, **more)
+
+    monkeypatch.setattr(Wire, "run", slow)
+    assert run() == 0
+    out = capsys.readouterr().out
+    assert "\nNO MISTAKE in 360 beats" in out and "speed of " not in out
 
 
 def test_a_mistake(monkeypatch: pytest.MonkeyPatch, capsys: pytest.CaptureFixture[str]) -> None:
@@ -230,7 +249,7 @@ def test_the_rounds_of_two_simulators(monkeypatch: pytest.MonkeyPatch, capsys: p
     assert sum("reset_at" in settings for settings in styles) == 2
     assert numbers[13:16] == [6, 7, 8] and numbers.count(0) == 1  # the second one begins where Icarus may have ended
     out = capsys.readouterr().out
-    assert "compiled for icarus" in out and "No time was left" not in out
+    assert "compiled for icarus" in out and "was left for these styles" not in out
 
 
 def test_messages_above_64_bytes(monkeypatch: pytest.MonkeyPatch, capsys: pytest.CaptureFixture[str]) -> None:
@@ -641,11 +660,13 @@ def test_a_program_that_plays(tmp_path: Path) -> None:
     program.write_text('#!/bin/sh\necho "VERIFY end 70 cycles 7 moves 2"\necho "$@" > words\n')
     program.chmod(0o755)
     simulation = Simulation.__new__(Simulation)
+    simulation.design = wire()
+    simulation._text = Bench(simulation.design, True, False, False)
     simulation.simulator, simulation.program, simulation.plusargs = "verilator", program, ["more"]
     made = simulation.run([Message("A", 4, 0, 2, 1, 0x10, tag=5)], {"seed": 3}, tmp_path / "run", waves=True)
     assert (made.time, made.cycles) == (70, 7)
     words = (tmp_path / "run" / "words").read_text().split()
-    assert words[2:] == ["+nA=1", "+nB=0", "+nC=0", "+seed=3", "+more", "+vcd"]
+    assert words[2:] == ["+nA=1", "+nB=0", "+nC=0", "+flood=1100", "+seed=3", "+more", "+vcd"]
     assert (tmp_path / "run" / "a.hex").read_text() == f"{0:08x}05{0:04x}{0:04x}4002{1:04x}{16:016x}\n"
     program.write_text('#!/bin/sh\necho "%Error: too bad"\nexit 3\n')
     with pytest.raises(DesignError, match="verilator ended with status 3 in the middle of a run: %Error: too bad"):

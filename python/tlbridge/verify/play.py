@@ -435,7 +435,9 @@ class Play:
                 f"  The values that it writes were not compared between the runs: {self.reference.why_not}"
             )
         if self.not_played():
-            outcome.text.append(f"  No time was left for these styles: {', '.join(self.not_played())} (--seconds)")
+            left, option = ("message", "messages") if self.sent >= self.most else ("time", "seconds")
+            styles = ", ".join(self.not_played())
+            outcome.text.append(f"  No {left} was left for these styles: {styles} (--{option})")
         if session.background is not None and session.is_mixed and "verilator" not in session.compiled:
             outcome.text.append(f"  Verilator played nothing: {session.failed.get('verilator', 'it still compiles')}")
         if session.most_bytes > session.limits.largest and session.design.client is not None:

@@ -8,7 +8,7 @@ from pathlib import Path
 from typing import Any, Dict, List, Mapping, Optional, Sequence, Set, Tuple
 
 from ..protocol import FIELDS, FROM_CLIENT, beat_count
-from .bench import Run, Settings, Simulation, channels_of, version_of
+from .bench import EndlessError, OverTimeError, Run, Settings, Simulation, channels_of, version_of
 from .design import Design
 from .judge import NAMES, Beats, Judge, is_near, is_unknown
 from .traffic import REQUESTS, Limits, Message, Traffic
@@ -17,6 +17,7 @@ Key = Tuple[
     str, str, str, int, int
 ]  # side, channel, name, size, lane offset (0 if the message fills whole beats, or has no address)
 _PERIOD = 10000  # ps, of one clock
+_SPEED_SECONDS = 20  # of the run that measures one channel
 _ORDERED_LINES = 6000  # of a run, in which responses are followed
 
 
@@ -238,7 +239,10 @@ def speed_of(traffic: Traffic, simulation: Simulation, judge: Judge, limits: Lim
         script = [
             _plain(traffic.message(kind, size, number % traffic.sources, number << size)) for number in range(120)
         ]
-        run = simulation.run(script, settings, room)
+        try:
+            run = simulation.run(script, settings, room, seconds=_SPEED_SECONDS)
+        except (OverTimeError, EndlessError):  # the verdict stands without this line
+            continue
         beats = Beats(design, run)
         if judge.problems(run, beats):
             continue
