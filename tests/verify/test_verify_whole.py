@@ -416,10 +416,10 @@ def test_what_the_program_reports(monkeypatch: pytest.MonkeyPatch, capsys: pytes
     with monkeypatch.context() as patched:  # nobody reads the output: what is left of it goes nowhere
         patched.setattr(os, "dup2", lambda one, other: closed.append(other))
         assert raises(BrokenPipeError()) == 4 and closed == [1]
-    assert raises(OSError(28, "No space left on device", "/tmp/x")) == 4 and raises(OSError(28, "No space")) == 4
+    assert raises(OSError(28, "No space left on device", "a/folder")) == 4 and raises(OSError(28, "No space")) == 4
     assert capsys.readouterr().err.splitlines() == [
         f"tlbridge-verify: {words}"
-        for words in ("no clock", "interrupted", "/tmp/x: No space left on device", "a file: No space")
+        for words in ("no clock", "interrupted", "a/folder: No space left on device", "a file: No space")
     ]
     monkeypatch.setattr("sys.argv", ["tlbridge-verify", "merge", "nowhere"])
     assert command.main() == 2 and "nowhere has no verdict.json" in capsys.readouterr().err
