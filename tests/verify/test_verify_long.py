@@ -46,6 +46,26 @@ def test_the_trial(design: str, bug: int) -> None:
     assert result.status == int(bug > 0 and not is_under) and (result.conditions or not is_under)
 
 
+def test_a_trial_of_right_designs_sums_their_beats(
+    monkeypatch: pytest.MonkeyPatch, capsys: pytest.CaptureFixture[str]
+) -> None:
+    """It plays each right version once, also that of the first example, and a false alarm makes it fail."""
+    asked: List[Tuple[str, int]] = []
+
+    def played(design: str, bug: int, more: Tuple[str, ...]) -> trial.Result:
+        asked.append((design, bug))
+        return trial.Result(design, bug, int(design == alarm), "", 0, 0, 0, 0, 0, judged=1000)
+
+    monkeypatch.setattr(trial, "played", played)
+    alarm = ""
+    assert trial.main(["--right-only", "--", "--messages", "9"]) == 0
+    assert asked == [(name, 0) for name in [*trial.designs(), "adapter"]]
+    assert f"{1000 * len(asked)} beats of {len(asked)} right designs" in capsys.readouterr().out
+    alarm = "skid"
+    assert trial.main(["--right-only", "skid:3", "gray"]) == 1
+    assert asked[-2:] == [("skid", 0), ("gray", 0)]
+
+
 @pytest.mark.parametrize("is_async", [0, 1])
 @pytest.mark.parametrize("client,manager", PAIRS)
 def test_the_bridge_of_this_project(tmp_path: Path, client: int, manager: int, is_async: int) -> None:

@@ -1,9 +1,12 @@
 #!/usr/bin/env python3
 """Plays each design of the folders beside it, right and with each of its planted mistakes, and prints a table.
 
-    tests/verify/trial.py [--jobs N] [DESIGN ..] [-- OPTION ..]
+    tests/verify/trial.py [--jobs N] [--right-only] [DESIGN ..] [-- OPTION ..]
 
 OPTION is one of tlbridge-verify, as in `-- --simulator icarus --messages 2600`, which takes a third of the time.
+
+With --right-only, the right versions are played, and examples/start/adapter.sv. The last line has the sum of their
+beats. `--right-only -- --messages 100000` looks for false alarms in many of them.
 
 For each mistake: whether it was found, or found under a condition, after how many seconds, the seconds of the whole
 run, and the messages and beats of the shrunk run. It is found under a condition if the verdict names one that it does
@@ -54,6 +57,11 @@ def designs() -> Dict[str, Path]:
     return {path.stem: path for folder in FOLDERS for path in sorted(folder.glob("*.*v"))}
 
 
+def right_designs() -> Dict[str, Path]:
+    """The designs of the folders and of the first example, by name."""
+    return {**designs(), "adapter": ROOT / "examples" / "start" / "adapter.sv"}
+
+
 def table() -> Dict[str, List[str]]:
     """The options of each design: lines of FILE OPTION .. in the files options.txt of the folders."""
     found: Dict[str, List[str]] = {}
@@ -81,6 +89,7 @@ class Result(NamedTuple):
     messages: int
     beats: int
     conditions: Tuple[str, ...] = ()  # under which a design that was called right is not right
+    judged: int = 0  # beats of the whole run
 
     @property
     def is_right(self) -> bool:
@@ -98,7 +107,7 @@ def played(design: str, bug: int, more: Tuple[str, ...] = ()) -> Result:
     """Runs tlbridge-verify on a design with this mistake, or with none."""
     begun, before = time.monotonic(), sum(os.times()[2:4])
     with tempfile.TemporaryDirectory() as folder:
-        path = designs()[design]
+        path = right_designs()[design]
         words = [sys.executable, str(ROOT / "tlbridge-verify"), str(path), "--out", f"{folder}/out"]
         words += [*table().get(design, []), *([f"-DBUG_{bug}"] if bug else []), *more]
         done = subprocess.run(words, capture_output=True, text=True)
@@ -114,7 +123,10 @@ def played(design: str, bug: int, more: Tuple[str, ...] = ()) -> Result:
         number = verdict["messages"] if verdict["verdict"] == "mistake" else 0
         said = {one["unless"]: f"unless {one['unless']}: {one['words']}" for one in verdict["conditions"]}
         words_of = verdict["words"] or "; ".join([f"{verdict['beats']} beats", *said.values()])
-        return Result(design, bug, done.returncode, words_of, found, total, processor, number, beats, tuple(said))
+        judged = verdict["beats"]
+        return Result(
+            design, bug, done.returncode, words_of, found, total, processor, number, beats, tuple(said), judged
+        )
 
 
 def line_of(result: Result) -> str:
@@ -132,14 +144,18 @@ def line_of(result: Result) -> str:
 def main(words: Optional[List[str]] = None) -> int:
     parser = argparse.ArgumentParser(description=__doc__, formatter_class=argparse.RawDescriptionHelpFormatter)
     parser.add_argument("--jobs", type=int, default=1)
+    parser.add_argument("--right-only", action="store_true", help="play no mistake, and sum up the beats")
     parser.add_argument("designs", nargs="*", metavar="DESIGN", help="its name, or NAME:NUMBER for one mistake")
     words = sys.argv[1:] if words is None else words
     at = words.index("--") if "--" in words else len(words)
     options, more = parser.parse_args(words[:at]), tuple(words[at + 1 :])
     cases: List[Tuple[str, int]] = []
-    for word in options.designs or list(designs()):
+    for word in options.designs or list(right_designs() if options.right_only else designs()):
         name, _, number = word.partition(":")
-        cases += [(name, int(number))] if number else [(name, bug) for bug in (0, *bugs_of(designs()[name]))]
+        if options.right_only or number:
+            cases.append((name, 0 if options.right_only else int(number)))
+        else:
+            cases += [(name, bug) for bug in (0, *bugs_of(right_designs()[name]))]
     results: List[Result] = []
     right: Dict[str, Tuple[str, ...]] = {}  # the conditions of the right designs, which are played before the others
     with concurrent.futures.ThreadPoolExecutor(options.jobs) as pool:
@@ -148,6 +164,8 @@ def main(words: Optional[List[str]] = None) -> int:
                 right[result.design] = result.conditions
             results.append(result.beside(right.get(result.design, ())) if result.bug else result)
             print(line_of(results[-1]), flush=True)
+    if options.right_only:
+        print(f"{sum(result.judged for result in results)} beats of {len(results)} right designs")
     planted = [result for result in results if result.bug]
     found = sum(result.is_right for result in planted)
     under = sum(result.is_right and result.status == 0 for result in planted)

@@ -8,6 +8,7 @@ from __future__ import annotations
 import contextlib
 import os
 import re
+import resource
 import shlex
 import shutil
 import signal
@@ -76,6 +77,16 @@ def channels_of(design: Design, side: str, is_bridge: bool) -> str:
 # ---- the text of the bench
 
 
+def _monitor() -> str:
+    """Returns sv/tl_trace_monitor.sv as a module of the bench, in which times are whole ps.
+
+    Verilator takes ten times as long to print a time that may have a fraction.
+    """
+    text = (sv_folder() / "tl_trace_monitor.sv").read_text()
+    text = text.replace("module tl_trace_monitor", "module tl_verify_monitor")
+    return text.replace('"%0t\\n", $realtime', '"%0d\\n", $time')
+
+
 class Bench:
     """The text of the bench of a design."""
 
@@ -112,7 +123,7 @@ class Bench:
         self.dut()
         self.ticks()
         self.end()
-        self.say("endmodule")
+        self.say("endmodule\n\n" + _monitor())
 
     def bits(self, side: str, channel: str, name: str) -> int:
         link = self.design.links[side]
@@ -170,7 +181,7 @@ class Bench:
         offered += f', .LEVEL("{self.level}")' if self.level else ""
         clock = f".clock({self.clock_of[side]}), .reset({side}_reset)"
         self.say(
-            f'    tl_trace_monitor #(.FILE("{side}.beats"), .DATA_BYTES({link.width}), {sizes},'
+            f'    tl_verify_monitor #(.FILE("{side}.beats"), .DATA_BYTES({link.width}), {sizes},'
             f" .VERSION({version_of(self.design)})) {side}_monitor ({clock}, {ports});"
         )
         self.say(
@@ -305,6 +316,7 @@ class Bench:
         faults = " + ".join(f"{side}_faults" for side in self.sides)
         self.say("    reg [31:0] idle = 0, moved = 0, most_idle, end_idle;")
         self.say("    integer cycles = 0, most, stop, flood, faulty = 0;")
+        self.say('    initial $timeformat(-12, 0, "", 0);  // ps, even if a file of the design has a finer unit')
         self.say(f'    initial begin if (!$value$plusargs("idle=%d", most_idle)) most_idle = {IDLE_CYCLES};')
         self.say(f'        if (!$value$plusargs("end=%d", end_idle)) end_idle = {_END_CYCLES};')
         self.say(
@@ -401,7 +413,9 @@ def _called(
     seconds: float = 600,
     cancel: Optional[Cancel] = None,
     is_nice: bool = False,
+    processor: Optional[int] = None,
 ) -> "subprocess.CompletedProcess[str]":
+    """Runs a command, as a group of processes. `processor` limits its processor seconds."""
     pipe = subprocess.PIPE
     try:
         process = subprocess.Popen(
@@ -420,6 +434,9 @@ def _called(
     except OSError as error:
         raise SimulatorError(f"{Path(words[0]).name} cannot be started: {error.strerror}") from error
     with process:
+        if processor is not None:  # a shell with ulimit would take a tenth of a short run
+            with contextlib.suppress(OSError, ValueError):  # it has ended, or the user's own limit is lower
+                resource.prlimit(process.pid, resource.RLIMIT_CPU, (processor, processor))
         if is_nice:
             with contextlib.suppress(OSError):
                 os.setpriority(os.PRIO_PROCESS, process.pid, 4)
@@ -459,7 +476,7 @@ class Simulation:
         self.bench = room / "tl_verify_bench.sv"
         self.bench.write_text(bench.text())
         # the bench comes first, so that files without a timescale have its own
-        names = ("tl_agent.sv", "tl_checker.sv", "tl_trace_monitor.sv")
+        names = ("tl_agent.sv", "tl_checker.sv")
         ours = [str(self.bench), *(str(sv_folder() / name) for name in names), *map(str, extra)]
         source = design.source.absolute()
         if simulator == "icarus":
@@ -562,15 +579,15 @@ class Simulation:
         if self.design.client is None or (self.design.manager is not None and not self._text.is_bridge):
             return 0
         narrow = min(link.width for link in self.design.links.values())
-        return 1000 + 20 * sum(4 + (1 << message.size) // narrow for message in script)
+        return 1000 + 20 * sum([4 + (1 << message.size) // narrow for message in script])
 
     def words(self, script: Sequence[Message], settings: Mapping[str, int]) -> List[str]:
         """Returns the command that plays a script."""
-        counts = {channel: sum(message.channel == channel for message in script) for channel in "ABC"}
+        channels = [message.channel for message in script]
         start = ["vvp", "-n", str(self.program)]
         if self.simulator != "icarus":
             start = [str(self.program), "+verilator+error+limit+1000000", "+verilator+rand+reset+2"]
-        counted = [f"+n{channel}={count}" for channel, count in counts.items()]
+        counted = [f"+n{channel}={channels.count(channel)}" for channel in "ABC"]
         return (
             start
             + counted
@@ -593,12 +610,11 @@ class Simulation:
         the disk is full."""
         folder.mkdir(parents=True, exist_ok=True)
         for channel in "ABC":
-            words = "".join(message.word() for message in script if message.channel == channel)
+            words = "".join([message.word() for message in script if message.channel == channel])
             (folder / f"{channel.lower()}.hex").write_text(words)
         command = self.words(script, settings) + (["+vcd"] if waves else [])
         try:
-            limited = ["/bin/sh", "-c", f'ulimit -t {processor}; exec "$@"', "sh"]
-            done = _called([*limited, *command], folder, min(seconds, _WALL_SECONDS), cancel)
+            done = _called(command, folder, min(seconds, _WALL_SECONDS), cancel, processor=processor)
         except subprocess.TimeoutExpired:
             raise OverTimeError(
                 f"{self.simulator} did not end a run within {seconds:.0f} seconds, since this machine is slow or the"

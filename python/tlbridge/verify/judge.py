@@ -102,6 +102,7 @@ class Beats:
             lines, times = self._read(run.folder / f"{side}.beats")
             first = next((at for at, time in enumerate(times) if time > run.reset_time), len(times))
             self.lines[side], self.times[side] = (lines[first:], times[first:]) if first else (lines, times)
+        self._split: Dict[str, Dict[str, Tuple[List[str], List[int]]]] = {}  # of each side, if it was asked for
 
     @classmethod
     def none(cls, design: Design) -> "Beats":
@@ -121,18 +122,30 @@ class Beats:
     def __len__(self) -> int:
         return sum(map(len, self.lines.values()))
 
+    def _by_channel(self, side: str) -> Dict[str, Tuple[List[str], List[int]]]:
+        """The lines and times of each channel of a side, which are split once."""
+        if side not in self._split:
+            parts: Dict[str, Tuple[List[str], List[int]]] = {channel: ([], []) for channel in CHANNELS}
+            for line, time in zip(self.lines[side], self.times[side]):
+                lines, times = parts[line[0]]
+                lines.append(line)
+                times.append(time)
+            self._split[side] = parts
+        return self._split[side]
+
     def of(self, side: str, channel: str) -> List[str]:
-        return [line for line in self.lines[side] if line[0] == channel]
+        return self._by_channel(side)[channel][0]
 
     def times_of(self, side: str, channel: str) -> List[int]:
-        return [time for time, line in zip(self.times[side], self.lines[side]) if line[0] == channel]
+        return self._by_channel(side)[channel][1]
 
     def near(self) -> List[str]:
         """The near beats of both links, in order of time."""
         found: List[Tuple[int, str]] = []
-        for side, lines in self.lines.items():
-            letters = "ACE" if side == "client" else "BD"
-            found += [(time, line) for time, line in zip(self.times[side], lines) if line[0] in letters]
+        for side in self.lines:
+            for channel in "ACE" if side == "client" else "BD":
+                lines, times = self._by_channel(side)[channel]
+                found += zip(times, lines)
         found.sort(key=operator.itemgetter(0))
         return [line for _, line in found]
 

@@ -2,8 +2,8 @@
 the design."""
 from __future__ import annotations
 
+import operator
 from collections import Counter
-from dataclasses import replace
 from pathlib import Path
 from typing import Any, Dict, List, Mapping, Optional, Sequence, Set, Tuple
 
@@ -50,17 +50,17 @@ class Coverage:
         if has_two:
             self.ratios.add(round(settings["client_half"] / settings["manager_half"], 2))
         for side, width in self.widths.items():
-            moments: Dict[str, Set[int]] = {}
             period = 2 * settings.get(f"{side}_half", _PERIOD // 2)
             for channel in self.channels:
                 lines = beats.of(side, channel)
                 times = beats.times_of(side, channel)
                 self._count(side, channel, width, lines)
-                moments[channel] = set(times)
-                counts[f"back to back, {side} {channel}"] += sum(b - a == period for a, b in zip(times, times[1:]))
-            for at, channel in enumerate(self.channels):
+                counts[f"back to back, {side} {channel}"] += [*map(operator.sub, times[1:], times)].count(period)
+            for at, channel in enumerate(self.channels[:-1]):
+                moments = set(beats.times_of(side, channel))
                 for other in self.channels[at + 1 :]:
-                    counts[f"in one cycle, {side} {channel}{other}"] += len(moments[channel] & moments[other])
+                    both = moments.intersection(beats.times_of(side, other))
+                    counts[f"in one cycle, {side} {channel}{other}"] += len(both)
         self._order(next(iter(self.widths)), beats)
 
     def _count(self, side: str, channel: str, width: int, lines: Sequence[str]) -> None:
@@ -69,12 +69,12 @@ class Coverage:
             return
         low = 8 + self.digits + 1 + 16 - 2
         if channel == "D":
-            found = Counter([line[2] + line[6] for line in lines])
+            found = Counter([line[2:7:4] for line in lines])
             denied = 8 + 2 * self.digits + 2
-            self.counts[f"denied beats, {side}"] += sum([line[denied] == "1" for line in lines])
-            self.counts[f"corrupt beats, {side}"] += sum([line[-1] == "1" for line in lines])
+            self.counts[f"denied beats, {side}"] += [line[denied] for line in lines].count("1")
+            self.counts[f"corrupt beats, {side}"] += [line[-1] for line in lines].count("1")
         else:
-            found = Counter([line[2] + line[6] + line[low : low + 2] for line in lines])
+            found = Counter([line[2:7:4] + line[low : low + 2] for line in lines])
         for key, number in found.items():
             try:
                 opcode, size = int(key[0], 16), int(key[1], 16)
@@ -88,29 +88,42 @@ class Coverage:
         """Follows requests and responses on the first link: how many are outstanding, and whether responses change the
         order."""
         order: List[str] = []
-        left_a = left_d = 0
-        width, digits = self.widths[side], self.digits
+        left_a = left_d = most = again = answered = overtaken = 0
+        width, end = self.widths[side], 8 + self.digits
         freed: Dict[str, int] = {}
-        for number, line in enumerate(beats.lines[side][:_ORDERED_LINES]):
-            if line[0] not in "AD" or is_unknown(line[: 8 + digits]):
+        lengths: Dict[str, int] = {}  # in beats, by the channel, opcode, param and size of a line
+        lines = beats.lines[side][:_ORDERED_LINES]
+        has_unknown = is_unknown("".join([line[:end] for line in lines]))
+        for number, line in enumerate(lines):
+            channel = line[0]
+            if channel not in "AD" or has_unknown and is_unknown(line[:end]):
                 continue
-            source = line[8 : 8 + digits]
-            each = beat_count(line[0], int(line[2], 16), int(line[6], 16), width)
-            if line[0] == "A":
-                if left_a == 0:
-                    left_a = each
-                    order.append(source)
-                    self.counts["most outstanding"] = max(self.counts["most outstanding"], len(order))
-                    self.counts["sources used again at once"] += freed.get(source, -9) >= number - 2
+            if channel == "A" and left_a:
                 left_a -= 1
                 continue
-            if left_d == 0:
-                left_d = each
-                if line[2] != "6" and source in order:
-                    self.counts["responses out of order"] += order[0] != source
-                    order.remove(source)
-                    freed[source] = number
-            left_d -= 1
+            if channel == "D" and left_d:
+                left_d -= 1
+                continue
+            source, head = line[8:end], line[:7]
+            if head not in lengths:
+                lengths[head] = beat_count(channel, int(line[2], 16), int(line[6], 16), width)
+            if channel == "A":
+                left_a = lengths[head] - 1
+                order.append(source)
+                most = max(most, len(order))
+                again += freed.get(source, -9) >= number - 2
+                continue
+            left_d = lengths[head] - 1
+            if line[2] != "6" and source in order:
+                answered += 1
+                overtaken += order[0] != source
+                order.remove(source)
+                freed[source] = number
+        if most:
+            self.counts["most outstanding"] = max(self.counts["most outstanding"], most)
+            self.counts["sources used again at once"] += again
+        if answered:
+            self.counts["responses out of order"] += overtaken
 
     # ---- storing and merging
 
@@ -262,10 +275,8 @@ def speed_of(traffic: Traffic, simulation: Simulation, judge: Judge, limits: Lim
 
 
 def _plain(message: Message) -> Message:
-    opcode = 7 if message.channel == "C" else message.opcode
-    return replace(
-        message, corrupt_seed=0, mask_seed=0, opcode=opcode, param=0 if message.channel == "C" else message.param
-    )
+    opcode, param = (7, 0) if message.channel == "C" else (message.opcode, message.param)
+    return message._replace(corrupt_seed=0, mask_seed=0, opcode=opcode, param=param)
 
 
 def not_compared(design: Design) -> List[str]:

@@ -6,7 +6,6 @@ from __future__ import annotations
 
 import math
 import time
-from dataclasses import replace
 from pathlib import Path
 from typing import Any, Callable, Dict, Iterator, List, Optional, Sequence, Tuple
 
@@ -148,7 +147,7 @@ class Shrinker:
         script, settings = self.fewer(script, settings)
         while True:
             before = (list(script), dict(settings))
-            free = [replace(message, at=0) for message in script]
+            free = [message._replace(at=0) for message in script]
             begin = {**settings, "client_offset": 0, "manager_offset": 0, "skipped": 0}
             better = self.fails(free, begin, 8) if free != script else None
             if better:
@@ -178,7 +177,7 @@ class Shrinker:
             at = taken[message.channel]
             taken[message.channel] += 1
             if at < len(sent[message.channel]):
-                pinned.append(replace(message, at=sent[message.channel][at]))
+                pinned.append(message._replace(at=sent[message.channel][at]))
         return pinned
 
     def window(self, script: Script, settings: Settings, pinned: Script) -> Tuple[Script, Settings]:
@@ -269,7 +268,7 @@ class Shrinker:
             for changes in _simplifications(script[at]):
                 if self.ended_early:
                     return script, settings
-                changed = script[:at] + [replace(script[at], **changes)] + script[at + 1 :]
+                changed = script[:at] + [script[at]._replace(**changes)] + script[at + 1 :]
                 better = self.fails(changed, settings) if changed[at] != script[at] else None
                 if better:
                     script, settings = changed, better

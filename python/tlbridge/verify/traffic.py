@@ -4,7 +4,7 @@ from __future__ import annotations
 
 import random
 from dataclasses import dataclass, replace
-from typing import Dict, List, Optional, Sequence, Tuple
+from typing import Dict, List, NamedTuple, Optional, Sequence, Tuple
 
 from ..protocol import CARRIES_DATA, NUMBERS
 from ..traffic import Draws
@@ -35,8 +35,7 @@ _FAR_CLOCKS = ((2000, 20000), (20000, 2000), (4000, 12000), (12000, 4000))  # ha
 _LONG_ROUND = 400  # messages, in a simulator for which a thousand cycles are nothing
 
 
-@dataclass(frozen=True)
-class Message:
+class Message(NamedTuple):
     """A message of a script. Its mask and its corrupt beats follow from the seeds, and 0 is a full mask and none
     corrupt."""
 
@@ -53,10 +52,9 @@ class Message:
 
     def word(self) -> str:
         """Returns the message as a line for $readmemh."""
-        return (
-            f"{self.at:08x}{self.tag:02x}{self.mask_seed:04x}{self.corrupt_seed:04x}{self.opcode:x}{self.param:x}"
-            f"{self.size:02x}{self.source:04x}{self.address:016x}\n"
-        )
+        _, opcode, param, size, source, address, tag, mask_seed, corrupt_seed, at = self
+        line = "%08x%02x%04x%04x%x%x%02x%04x%016x\n"
+        return line % (at, tag, mask_seed, corrupt_seed, opcode, param, size, source, address)
 
 
 @dataclass(frozen=True)
@@ -230,17 +228,17 @@ class Traffic:
         return script
 
     def size(self, sizes: str) -> int:
-        draw = self.random
-        size = draw.randint(0, self.largest_size)
+        draw, largest = self.random, self.largest_size
+        size = draw.randint(0, largest)
         if sizes == "small":
-            return min(size, draw.randint(0, self.largest_size))
+            return min(size, draw.randint(0, largest))
         if sizes == "width":
             middle = (self.narrow if draw.random() < 0.5 else self.wide).bit_length() - 1
-            return min(self.largest_size, max(0, middle + draw.randint(-1, 2)))
+            return min(largest, max(0, middle + draw.randint(-1, 2)))
         if sizes == "mixed":
-            return self.largest_size if draw.random() < 0.5 else draw.randint(0, min(2, self.largest_size))
+            return largest if draw.random() < 0.5 else draw.randint(0, min(2, largest))
         if sizes == "large" and draw.random() < 0.6:
-            return draw.randint(self.largest_size, self.limits.largest.bit_length() - 1)
+            return draw.randint(largest, self.limits.largest.bit_length() - 1)
         return size
 
     def settings(self, calm: Optional[int] = None) -> Dict[str, int]:
