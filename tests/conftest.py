@@ -11,7 +11,7 @@ import tempfile
 import zlib
 from collections import Counter
 from pathlib import Path
-from typing import Any, Iterator, List
+from typing import Any, Callable, Iterator, List, TypeVar
 
 import project
 import pytest
@@ -23,6 +23,13 @@ from differences import Differences
 LIMIT = 60
 LIMIT_OF_LONG = 1800
 BEGUN = pytest.StashKey[float]()
+Called = TypeVar("Called", bound=Callable[..., Any])
+
+
+def hook(**options: bool) -> Callable[[Called], Called]:
+    """Returns pytest.hookimpl with these options, and with its type."""
+    made: Callable[[Called], Called] = pytest.hookimpl(**options)
+    return made
 
 
 def pytest_addoption(parser: pytest.Parser) -> None:
@@ -81,7 +88,7 @@ def pytest_configure(config: pytest.Config) -> None:
     faulthandler.register(signal.SIGVTALRM, file=errors, all_threads=False, chain=True)
 
 
-@pytest.hookimpl(hookwrapper=True)
+@hook(hookwrapper=True)
 def pytest_runtest_protocol(item: pytest.Item) -> Iterator[None]:
     """Ends the process with a traceback if a test exceeds its limit."""
     signal.setitimer(signal.ITIMER_VIRTUAL, LIMIT_OF_LONG if item.get_closest_marker("long") else LIMIT)
@@ -95,14 +102,14 @@ def processor_seconds() -> float:
     return sum(of.ru_utime + of.ru_stime for of in used) + starter.seconds_of_runs()
 
 
-@pytest.hookimpl(hookwrapper=True)
+@hook(hookwrapper=True)
 def pytest_runtest_setup(item: pytest.Item) -> Iterator[None]:
     """Notes the processor time at which a test begins."""
     item.stash[BEGUN] = processor_seconds()
     yield
 
 
-@pytest.hookimpl(hookwrapper=True)
+@hook(hookwrapper=True)
 def pytest_runtest_makereport(item: pytest.Item, call: "pytest.CallInfo[None]") -> Iterator[None]:
     """Notes the processor time of a test, which the process of the summary reads, in its report."""
     outcome: Any = yield
@@ -140,12 +147,12 @@ def unit_of(nodeid: str) -> str:
     return f"{file}::{name.partition('[')[0]}, {zlib.crc32(nodeid.encode()) % SHARES}"
 
 
-@pytest.hookimpl(optionalhook=True)
+@hook(optionalhook=True)
 def pytest_xdist_make_scheduler(config: pytest.Config, log: Any) -> Any:
     """Runs each file in one process, as --dist loadfile does, except those above."""
     if config.getoption("dist") != "loadfile":
         return None
-    from xdist.scheduler import LoadScopeScheduling
+    from xdist.scheduler import LoadScopeScheduling  # type: ignore[import]
 
     class Units(LoadScopeScheduling):  # type: ignore[misc]
         def _split_scope(self, nodeid: str) -> str:
@@ -154,7 +161,7 @@ def pytest_xdist_make_scheduler(config: pytest.Config, log: Any) -> Any:
     return Units(config, log)
 
 
-@pytest.hookimpl(trylast=True)
+@hook(trylast=True)
 def pytest_collection_modifyitems(items: List[pytest.Item]) -> None:
     """Begins with the files that one process runs, and ends with the small units that fill all processes. pytest has
     put tests with the same build of a program next to each other before.
@@ -168,7 +175,7 @@ def differences() -> Differences:
     return Differences()
 
 
-@pytest.hookimpl(hookwrapper=True)
+@hook(hookwrapper=True)
 def pytest_pyfunc_call(pyfuncitem: pytest.Function) -> Iterator[None]:
     """Fails a test that found differences, once it has ended."""
     outcome: Any = yield
@@ -223,7 +230,7 @@ def print_processor_seconds(terminalreporter: Any) -> None:
         terminalreporter.write_line(f"{sum(value for value, _ in used):8.1f} s of processor time in {len(used)} tests")
 
 
-@pytest.hookimpl(hookwrapper=True, tryfirst=True)
+@hook(hookwrapper=True, tryfirst=True)
 def pytest_terminal_summary(terminalreporter: Any) -> Iterator[None]:
     """Prints why tests were left out, and in the last line `N passed, M failed, K left out`, for .ci/run."""
     yield

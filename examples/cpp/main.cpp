@@ -31,7 +31,7 @@ class Bench {
         const Request &request = requests[sent & 3];
         dut.up_a_opcode = request.opcode;
         dut.up_a_size = request.size;
-        dut.up_a_source = sent;
+        dut.up_a_source = static_cast<CData>(sent);
         dut.up_a_address = request.address;
         dut.up_a_mask = request.mask;
         dut.up_a_data = request.data;
@@ -41,7 +41,7 @@ class Bench {
         dut.down_d_valid = answers;
         dut.down_d_opcode = asked.opcode == 4 ? 1 : 0;  // AccessAckData, AccessAck
         dut.down_d_size = asked.size;
-        dut.down_d_source = answered;
+        dut.down_d_source = static_cast<CData>(answered);
         dut.down_d_data = 0x03020100;
         dut.eval();
         report_accepted(time);

@@ -76,19 +76,19 @@ static void judge(Link &link, Cycle &cycle) {
 }
 
 static void show(Vlinks &top, const Link &link, const Cycle &cycle) {
-    top.link = link.number;
+    top.link = static_cast<CData>(link.number);
     top.reset = cycle.reset ? 1u << link.number : 0;
     top.valid = top.ready = 0;
     for (int k = 0; k < Channels; k++) {
         const Beat &b = cycle.beats[k];
         top.valid |= cycle.valid[k] << k;
         top.ready |= cycle.ready[k] << k;
-        if (k == D || k == E) top.sink[k - D] = b.sink;
+        if (k == D || k == E) top.sink[k - D] = static_cast<SData>(b.sink);
         if (k == E) continue;
-        top.opcode[k] = b.opcode;
-        top.param[k] = b.param;
-        top.size[k] = b.size;
-        top.source[k] = b.source;
+        top.opcode[k] = static_cast<CData>(b.opcode);
+        top.param[k] = static_cast<CData>(b.param);
+        top.size[k] = static_cast<CData>(b.size);
+        top.source[k] = static_cast<SData>(b.source);
         top.corrupt[k] = b.corrupt;
         if (k < D) top.address[k] = b.address;
         if (k > B) continue;

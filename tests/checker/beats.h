@@ -12,9 +12,10 @@ struct Link {
 };
 
 inline std::mt19937_64 random_bits;
-inline uint64_t below(uint64_t n) { return random_bits() % n; }
+inline unsigned below(uint64_t n) { return static_cast<unsigned>(random_bits() % n); }
 inline bool chance(unsigned percent) { return below(100) < percent; }
-inline uint64_t low(uint64_t value, unsigned bits) { return bits >= 64 ? value : value & ((uint64_t(1) << bits) - 1); }
+inline uint64_t low64(uint64_t value, unsigned bits) { return bits >= 64 ? value : value & ((uint64_t(1) << bits) - 1); }
+inline unsigned low(uint64_t value, unsigned bits) { return static_cast<unsigned>(low64(value, bits)); }
 
 inline std::vector<unsigned> some_sources(unsigned bits) {
     std::vector<unsigned> sources;
@@ -29,14 +30,14 @@ inline std::vector<unsigned> some_sources(unsigned bits) {
 
 inline unsigned some_source(const Link &link) { return link.sources[below(link.sources.size())]; }
 
-inline uint64_t some_address(const Link &link) { return low(chance(30) ? below(8192) : chance(20) ? ~uint64_t(0) : random_bits(), link.address_bits); }
+inline uint64_t some_address(const Link &link) { return low64(chance(30) ? below(8192) : chance(20) ? ~uint64_t(0) : random_bits(), link.address_bits); }
 
 // Long bursts are rare, so that many messages come.
 inline unsigned some_size(const Link &link) {
     unsigned of_beat = 0;
     while ((1u << of_beat) < link.width) of_beat++;
     unsigned size = chance(3) ? below(13) : chance(50) ? below(of_beat + 1) : below(of_beat + 4);
-    return std::min<uint64_t>({size, 12, low(~uint64_t(0), link.size_bits)});
+    return std::min<unsigned>({size, 12, low(~uint64_t(0), link.size_bits)});
 }
 
 inline std::vector<bool> some_mask(const Link &link) {
@@ -79,7 +80,7 @@ inline Beat first_beat(const Link &link, Channel channel, const Beat *request_of
     if (Rules::responds(channel, b)) respond(link, b, request_of_cycle);
     b.sink = low(random_bits(), link.sink_bits);
     b.denied = chance(20);
-    if (channel != D) b.address = low(some_address(link) & ~((uint64_t(1) << b.size) - 1), link.address_bits);
+    if (channel != D) b.address = low64(some_address(link) & ~((uint64_t(1) << b.size) - 1), link.address_bits);
     b.mask = lawful_mask(link, channel, b);
     b.corrupt = message(channel, b.opcode).has_data && chance(10);
     return b;
@@ -93,7 +94,7 @@ inline void plant_fault(const Link &link, Channel channel, Beat &b) {
     case 2: b.size = low(chance(70) ? 13 + below(3) : b.size ^ (1u << below(8)), link.size_bits); break;
     case 3: b.size = low(chance(50) ? b.size + 1 : b.size - 1, link.size_bits); break;
     case 4: b.source = chance(50) ? some_source(link) : low(b.source ^ (1u << bit), link.source_bits); break;
-    case 5: if (channel != D) b.address = low(b.address ^ (uint64_t(1) << (chance(50) ? below(13) : below(64))), link.address_bits); break;
+    case 5: if (channel != D) b.address = low64(b.address ^ (uint64_t(1) << (chance(50) ? below(13) : below(64))), link.address_bits); break;
     case 6: b.sink = low(b.sink ^ (1u << bit), link.sink_bits); break;
     case 7: b.denied = !b.denied; break;
     case 8: b.corrupt = true; break;

@@ -2,7 +2,7 @@
 beats that are offered, the
 channels whose beat is accepted, the faults of A to D, and the count of faults after it."""
 from dataclasses import dataclass, replace
-from typing import Any, List
+from typing import Any, Dict, Iterator, List, Optional, Tuple
 
 from checker_model import ANSWERS, NAMES, Beat, Settings
 
@@ -23,7 +23,7 @@ LONG_PUT = Beat(size=4, source=5, address=0x4000, mask=0xFF)
 NONE = (0, 0, 0, 0)
 
 
-def both(a, d):
+def both(a: Any, d: Any) -> Dict[str, Any]:
     return {"A": a, "D": d}
 
 
@@ -248,7 +248,7 @@ class Unknown:
     report: str = ""
 
 
-def line(channel, beat=None, change=None, **fields):
+def line(channel: str, beat: Optional[Beat] = None, change: Optional[Dict[str, str]] = None, **fields: Any) -> str:
     """A cycle with one beat of a channel, in which some digits are x or z."""
     values = {name: f"{value:x}" for name, value in vars(beat or LAWFUL[channel]).items()}
     values.update(fields)
@@ -261,11 +261,11 @@ def line(channel, beat=None, change=None, **fields):
     return " ".join(words)
 
 
-def only(channel, fault):
+def only(channel: str, fault: int) -> Tuple[int, ...]:
     return tuple(fault if x == channel else 0 for x in "ABCD")
 
 
-def first_beats():
+def first_beats() -> Iterator[Unknown]:
     """A field of a first beat: which fault it has, and the words about it."""
     for digit in "xz":
         for channel in "ABC":
@@ -295,7 +295,7 @@ def first_beats():
                 yield Unknown(
                     f"{name} {value} of {channel}",
                     Settings(),
-                    [line(channel, **{name: value})],
+                    [line(channel, None, None, **{name: value})],
                     [only(channel, fault)],
                     report if fault else "",
                 )
@@ -312,7 +312,7 @@ def first_beats():
             yield Unknown(
                 f"{name} {value} of D",
                 Settings(),
-                [*asked, line("D", **{name: value})],
+                [*asked, line("D", None, None, **{name: value})],
                 [NONE, only("D", fault)],
                 report,
             )
@@ -338,7 +338,7 @@ def first_beats():
             )
 
 
-def later_beats():
+def later_beats() -> Iterator[Unknown]:
     """A field of a second beat; the burst is still open after it."""
     settings = Settings(RESYNC_AFTER_FAULT=0)
     asked = line("A", Beat(opcode=6, size=4, source=6, address=0x1000, mask=0xFF))
@@ -363,10 +363,10 @@ def later_beats():
                 rows.append(("mask", f"f{digit}", 5, f"Mask: mask is f{digit}, expected ff" if channel == "A" else ""))
             if channel == "B":  # PutPartialData fills all lanes, so no bit of a mask is outside
                 rows[-1] = ("mask", f"f{digit}", 0, "")
-            for name, value, fault, report in rows:
-                lines = [*before, line(channel, beat, **{name: value})]
+            for name, word, fault, report in rows:
+                lines = [*before, line(channel, beat, None, **{name: word})]
                 yield Unknown(
-                    f"{name} {value} of a later beat of {channel}",
+                    f"{name} {word} of a later beat of {channel}",
                     settings,
                     lines,
                     [NONE] * len(before) + [only(channel, fault)],
@@ -376,14 +376,14 @@ def later_beats():
                     lines = [*lines, line(channel, beat), line(channel, replace(beat, source=7))]
                     after = only(channel, 9 if channel == "D" else 0)
                     yield Unknown(
-                        f"after {name} {value} of a later beat of {channel}",
+                        f"after {name} {word} of a later beat of {channel}",
                         settings,
                         lines,
                         [NONE] * len(before) + [only(channel, fault), NONE, after],
                     )
 
 
-def signals():
+def signals() -> Iterator[Unknown]:
     """An unknown valid or ready is 0, and no beat is accepted in an unknown reset."""
     for channel in "ABCD":
         beat = replace(LAWFUL[channel], opcode=3) if channel in "CD" else replace(LAWFUL[channel], size=13)

@@ -3,22 +3,27 @@ rules.
 """
 import random
 from dataclasses import replace
+from typing import Any, Dict, Iterable, Iterator, List, Optional, Set, Tuple
 
 from checker_model import CHANNELS, NAMES, Beat, Checker, Settings, answers_a_request, has_data
 from tlbridge.traffic import Draws
 
+# A reset or not, the beats that are offered, the channels whose beats are accepted, and what the checker has to say.
+Cycle = Tuple[int, Dict[str, Beat], Set[str], Tuple[Dict[str, int], int, bool, List[str]]]
+Offered = Optional[Dict[str, Beat]]
 
-def judged(settings, cycles):
+
+def judged(settings: Settings, cycles: Iterable[Offered]) -> Iterator[Cycle]:
     """A script of cycles, each with beats that are all accepted: what the checker has to say of each. None is a
     reset.
     """
     checker = Checker(settings)
-    for beats in cycles:
-        reset, beats = int(beats is None), beats or {}
+    for offered in cycles:
+        reset, beats = int(offered is None), offered or {}
         yield reset, beats, set(beats), checker.cycle(reset, beats, set(beats))
 
 
-def messages(settings):
+def messages(settings: Settings) -> Iterator[Offered]:
     """Each opcode of each channel: each param, a corrupt bit, a size that is too large, each bit of a head that
     changes, and a burst of two beats.
     """
@@ -34,13 +39,14 @@ def messages(settings):
                 (1 << settings.DATA_BYTES) - 1 if channel in "AB" else 0,
             )
             asked = [{"A": Beat(4, 0, size, 5, 0x8000, (1 << settings.DATA_BYTES) - 1)}] if channel == "D" else []
-            for change in [
+            changes: List[Dict[str, int]] = [
                 {},
                 {"corrupt": 1},
                 {"size": 12},
                 {"size": 13},
                 *({"param": param} for param in range(1, 4 if channel == "D" else 8)),
-            ]:
+            ]
+            for change in changes:
                 yield from [None, *asked, {channel: replace(head, **change)}, {channel: head}, {channel: head}]
             if has_data(channel, head):
                 bits = {
@@ -62,7 +68,7 @@ def messages(settings):
                     ]
 
 
-def pairs_of_faults(settings):
+def pairs_of_faults(settings: Settings) -> Iterator[Offered]:
     """Beats with two faults at once: the first rule counts."""
     mask = (1 << settings.DATA_BYTES) - 1
     for channel in CHANNELS:
@@ -86,7 +92,7 @@ def pairs_of_faults(settings):
                         yield from [None, {"A": Beat(4, 0, size, 6, 0x8000, mask)}]
 
 
-def lanes(settings):
+def lanes(settings: Settings) -> Iterator[Offered]:
     """On A and B: each aligned block of lanes of each size, with its mask, and with one bit more or less at each end;
     and each bit of an address.
     """
@@ -105,7 +111,7 @@ def lanes(settings):
             yield from [None, {"C": Beat(6, 0, size, 5, 1 << bit), "B": Beat(6, 0, size, 5, 1 << bit, 0)}]
 
 
-def in_flight(settings):
+def in_flight(settings: Settings) -> Iterator[Offered]:
     """A request of each source in turn is answered later than the next one: with its size, another one, and once
     more.
     """
@@ -124,7 +130,7 @@ def in_flight(settings):
 
 
 class Cycles:
-    def __init__(self, settings: Settings, seed):
+    def __init__(self, settings: Settings, seed: object) -> None:
         self.settings, self.random = settings, random.Random(f"{seed} {settings}")
         self.draws = Draws(self.random, settings.SOURCE_BITS, settings.SINK_BITS, settings.ADDRESS_BITS)
         self.checker = Checker(settings)
@@ -132,12 +138,12 @@ class Cycles:
         self.sources = sorted(
             {0, 1, (1 << bits) - 1, 1 << (bits - 1), *(self.random.getrandbits(bits) for _ in range(2))}
         )
-        self.offered = {}  # beats that were not accepted yet
+        self.offered: Dict[str, Beat] = {}  # beats that were not accepted yet
 
-    def chance(self, percent):
+    def chance(self, percent: int) -> bool:
         return self.random.randrange(100) < percent
 
-    def first(self, channel):
+    def first(self, channel: str) -> Beat:
         choose, settings, link = self.random, self.settings, self.checker.link
         opcode = choose.choice([i for i, name in enumerate(NAMES[channel]) if name != "-"])
         beat = (settings.DATA_BYTES - 1).bit_length()
@@ -158,9 +164,10 @@ class Cycles:
                     made = replace(made, opcode=0, param=0)
         return made
 
-    def beat(self, channel):
+    def beat(self, channel: str) -> Beat:
         link = self.checker.link
-        made = link.open[channel][0] if link.open[channel] and not self.chance(3) else self.first(channel)
+        begun = link.open[channel]
+        made = begun[0] if begun and not self.chance(3) else self.first(channel)
         if channel in "AB":
             active = link.active(made)
             made = replace(
@@ -174,7 +181,7 @@ class Cycles:
         made = replace(made, corrupt=int(has_data(channel, made) and self.chance(20)))
         return self.spoilt(channel, made) if self.chance(20) else made
 
-    def spoilt(self, channel, made):
+    def spoilt(self, channel: str, made: Beat) -> Beat:
         settings, choose = self.settings, self.random
         bits = {
             "opcode": 3,
@@ -189,7 +196,7 @@ class Cycles:
         name = choose.choice(sorted(bits))
         return replace(made, **{name: getattr(made, name) ^ 1 << choose.randrange(bits[name])})
 
-    def cycles(self, count):
+    def cycles(self, count: int) -> Iterator[Cycle]:
         """Each cycle: reset, the beats that are offered, and the channels whose beats are accepted; then what the
         checker has to say of it.
         """
@@ -210,7 +217,7 @@ class Cycles:
             for channel in accepted:
                 self.offered.pop(channel, None)
 
-    def has_room(self, beat):
+    def has_room(self, beat: Beat) -> bool:
         """A request without room is for the tests of `overflow`."""
         in_flight, most = self.checker.link.in_flight, self.settings.MAX_OUTSTANDING
         return not most or len(in_flight) < most or beat.source in in_flight

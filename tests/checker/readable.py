@@ -22,7 +22,7 @@ for name, number in bits.items():
     text = text.replace(f"$bits({name})", number)
     text = re.sub(rf"\b{name}'\(", f"{number}'(", text)
 
-for bug in re.search(r"typedef enum int \{(.*?)\}", text, re.S).group(1).split(","):
+for bug in re.findall(r"typedef enum int \{(.*?)\}", text, re.S)[0].split(","):
     text = re.sub(rf"\b{bug.strip()}\b", "BUG_" + bug.strip(), text)
 text = re.sub(r"bug_t planted = \w+;", "localparam int planted = `PLANTED;", text)
 text = re.sub(r"'\{(.*?)\n\s*\}", lambda found: "{" + re.sub(r"\b\w+: ", "", found.group(1)) + "}", text, flags=re.S)

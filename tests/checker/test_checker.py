@@ -13,7 +13,7 @@ from typing import Any, Callable, Collection, Dict, Iterable, List, Sequence, Se
 
 import pytest
 from checker_model import CHANNELS, FAULTS, Beat, Checker, Settings
-from commands import run, said
+from commands import Word, run, said
 from directed import CASES, LIMITS, NO_BEAT, REFUSED, UNKNOWN
 from link_cycles import Cycles, in_flight, judged, lanes, messages, pairs_of_faults
 from once import made_once
@@ -120,7 +120,7 @@ class Bench:
 
         def make(folder: Path) -> None:
             (folder / "checker.sv").write_text(self.checker)
-            command = ["iverilog", "-g2012", "-s", "cycles", *words, "-o", folder / "cycles.vvp"]
+            command: List[Word] = ["iverilog", "-g2012", "-s", "cycles", *words, "-o", folder / "cycles.vvp"]
             done = run([*command, folder / "checker.sv", HERE / "cycles.sv"])
             assert done.returncode == 0, said(done)
 

@@ -23,7 +23,7 @@ from typing import Dict, List, Optional
 
 import pytest
 from board_library import is_newer
-from commands import run, said, succeed
+from commands import Word, run, said, succeed
 from once import made_once
 from planted import Planted, mistakes
 from project import EXAMPLES, ROOT, SV, needs_tools
@@ -60,7 +60,18 @@ def build_agree(folder: Path, flags: str, libraries: List[Path]) -> None:
     """The program `agree` over a checker for each line of links.txt."""
     lines = [f"`LINK({', '.join([*line[:7], *(f'''1'b{bit}''' for bit in line[7:])])})\n" for line in LINKS]
     (folder / "links.svh").write_text("".join(lines))
-    words = ["verilator", "--cc", "--exe", "--build", "-j", 2, "--assert", "-Wno-fatal", "-Wno-lint", f"-I{folder}"]
+    words: List[Word] = [
+        "verilator",
+        "--cc",
+        "--exe",
+        "--build",
+        "-j",
+        2,
+        "--assert",
+        "-Wno-fatal",
+        "-Wno-lint",
+        f"-I{folder}",
+    ]
     words += ["--top-module", "links", "-CFLAGS", f"-std=c++17 -O1 {flags}", "--Mdir", folder / "built", "-o", "agree"]
     succeed([*words, CHECKER, HERE / "links.sv", HERE / "agree.cpp", *libraries], timeout=900)
 
@@ -124,7 +135,16 @@ def replayed(checker: Path, link: List[str], vectors: Path, folder: Path) -> str
     needs_tools("iverilog", "vvp")
     number, *values = link
     given = [f"-Preplay.{name}={value}" for name, value in zip(COLUMNS, values)]
-    words = ["iverilog", "-g2012", "-s", "replay", "-o", folder / "replay", f"-Preplay.LINK={number}", *given]
+    words: List[Word] = [
+        "iverilog",
+        "-g2012",
+        "-s",
+        "replay",
+        "-o",
+        folder / "replay",
+        f"-Preplay.LINK={number}",
+        *given,
+    ]
     done = run([*words, checker, HERE / "replay.sv"])
     assert done.returncode == 0, said(done)
     return run(["vvp", "-n", folder / "replay", f"+vectors={vectors}/{number}"], timeout=900).stdout
@@ -237,7 +257,17 @@ def test_a_bug_of_the_adapter_breaks_a_rule(name: str, number: int, label: str, 
         [sys.executable, HERE / "trace.py", tmp_path / "model.aig", tmp_path / "counterexample", "adapter_proof"]
     )
     (tmp_path / "shown.sv").write_text(shown)
-    words = ["iverilog", "-g2012", f"-DPLANTED={number}", "-s", "shown", "-o", tmp_path / "shown", adapter, CHECKER]
+    words: List[Word] = [
+        "iverilog",
+        "-g2012",
+        f"-DPLANTED={number}",
+        "-s",
+        "shown",
+        "-o",
+        tmp_path / "shown",
+        adapter,
+        CHECKER,
+    ]
     succeed([*words, HERE / "adapter_proof.sv", tmp_path / "shown.sv"])
     printed = succeed(["vvp", "-n", tmp_path / "shown"])
     report = rf"^ERROR: \S* .*shown\.top\.{place}: [AD] beat [0-9]*: fault [0-9]* {fault.replace('_asserted', '')}: "

@@ -6,10 +6,13 @@ MODEL is the binary AIGER file that yosys wrote with its symbols, COUNTEREXAMPLE
 """
 import re
 import sys
+from typing import Dict, Tuple
 
 model, counterexample, top = sys.argv[1:]
 symbols = re.findall(rb"^i(\d+) (\w+)(?:\[(\d+)\])?$", open(model, "rb").read(), re.M)
-inputs, values, frames = {}, {}, 0
+inputs: Dict[str, Dict[int, int]] = {}
+values: Dict[Tuple[int, int], str] = {}
+frames = 0
 for number, name, bit in symbols:
     inputs.setdefault(name.decode(), {})[int(bit or 0)] = int(number)
 for number, frame, value in re.findall(r"^pi0*(\d+)@(\d+)=(\d)", open(counterexample).read(), re.M):
@@ -27,7 +30,7 @@ for frame in range(frames):
     for name, bits in inputs.items():
         print(
             f"        {name} = {max(bits) + 1}'b"
-            + "".join(values.get((bits.get(bit), frame), "0") for bit in range(max(bits), -1, -1))
+            + "".join(values.get((bits.get(bit, -1), frame), "0") for bit in range(max(bits), -1, -1))
             + ";"
         )
     print("        #5 clock = 1;\n        #5 clock = 0;")

@@ -11,9 +11,11 @@ import shutil
 import subprocess
 import sys
 from pathlib import Path
+from typing import Any, List, Optional, Sequence, Tuple
 from unittest import mock
 
 import pytest
+from differences import Differences
 from project import ROOT, needs_program
 from tlbridge import judge, run
 from tlbridge.compare import main as compare_main
@@ -105,22 +107,27 @@ E 09
 ORIGINS = {"A": (1, 1, 1, 1, 3, 4), "B": (7, 8), "C": (7, 7, 7, 7, 9), "D": (14, 15, 15, 19, 20), "E": (15,)}
 
 
-def changed(text, old, new):
+def changed(text: str, old: str, new: str) -> str:
     if old and text.count(old) != 1:
         raise AssertionError(f"{old!r} is there {text.count(old)} times")
     return text.replace(old, new) if old else text
 
 
-def times(text):
+def times(text: str) -> str:
     return "".join(f"{10 * at}\n" for at in range(1, text.count("\n") + 1))
 
 
-def said(*changes):
+def said(*changes: Any) -> str:
     """RIGHT with other lines for a channel."""
     lines = RIGHT.splitlines(True)
     for channel, *instead in changes:
         lines["ABCDE".index(channel)] = "".join(f"{channel}: {line}\n" for line in instead)
     return "".join(lines)
+
+
+# The module with what it imports, some of which tests change.
+JUDGE: Any = judge
+Step = Tuple[str, int, str, int]
 
 
 class Case:
@@ -129,16 +136,16 @@ class Case:
 
     def __init__(
         self,
-        name,
-        client=CLIENT,
-        manager=MANAGER,
-        answer="",
-        error="",
-        status=0,
-        words=(),
-        widths=("8", "4"),
-        with_times=False,
-    ):
+        name: str,
+        client: str = CLIENT,
+        manager: Optional[str] = MANAGER,
+        answer: str = "",
+        error: str = "",
+        status: int = 0,
+        words: Sequence[str] = (),
+        widths: Sequence[str] = ("8", "4"),
+        with_times: bool = False,
+    ) -> None:
         self.name, self.client, self.manager = name, client, manager
         self.answer, self.error, self.status = answer, error, status
         self.words, self.widths, self.with_times = words, widths, with_times
@@ -667,10 +674,18 @@ CASES = (
 class Comparison:
     """Runs the comparison over a program."""
 
-    def __init__(self, program):
+    def __init__(self, program: Path) -> None:
         self.program = str(program)
 
-    def compare(self, room, client, manager, *words, widths=("8", "4"), with_times=False):
+    def compare(
+        self,
+        room: Path,
+        client: Optional[str],
+        manager: Optional[str],
+        *words: str,
+        widths: Sequence[str] = ("8", "4"),
+        with_times: bool = False,
+    ) -> Tuple[Any, str, str]:
         """Runs the comparison in this process. Returns the status, the output and the error."""
         for name, text in (("client.beats", client), ("manager.beats", manager)):
             if text is not None:
@@ -683,7 +698,7 @@ class Comparison:
         try:
             with contextlib.redirect_stdout(out), contextlib.redirect_stderr(error):
                 try:
-                    status = compare_main(
+                    status: Any = compare_main(
                         [
                             *widths,
                             "client.beats",
@@ -700,12 +715,12 @@ class Comparison:
 
 
 @pytest.fixture
-def comparison():
+def comparison() -> Comparison:
     return Comparison(needs_program("tlbridge"))
 
 
 @pytest.mark.parametrize("case", CASES, ids=[case.name for case in CASES])
-def test_files_of_two_links(comparison, tmp_path, case):
+def test_files_of_two_links(comparison: Comparison, tmp_path: Path, case: Case) -> None:
     """The verdict, the differences and the error for two files of beats. Without an expected text only the status is
     compared."""
     status, answer, error = comparison.compare(
@@ -723,7 +738,7 @@ def test_files_of_two_links(comparison, tmp_path, case):
 HAS_DATA = {"A": "11110000", "B": "11110000", "C": "010-0101", "D": "010-010-"}
 
 
-def test_each_message_has_as_many_beats_as_its_bytes_need(differences):
+def test_each_message_has_as_many_beats_as_its_bytes_need(differences: Differences) -> None:
     """How many beats each message has on each width: one, or with data as many as its bytes need."""
     for channel, data in HAS_DATA.items():
         for opcode, mark in enumerate(data):
@@ -750,21 +765,24 @@ def test_each_message_has_as_many_beats_as_its_bytes_need(differences):
     rows = [run.Row(str(i), line, i) for i, line in enumerate(lines)]
     for wanted in ((0, 1, 2, 3, 4, 5, 6, 7), (1, 4, 4, 6), (6,), (7,)):
         origins = judge.Origins(iter(rows), 4, "C")
-        got = [row and row.number for row in map(origins.of, wanted)]
+        found = map(origins.of, wanted)
+        begun = [row.number if row else None for row in found]
         differences.same(
             f"the first lines of the messages {wanted}",
-            got,
+            begun,
             [(0, 1, 5, 6, 7, 11, 12, None)[number] for number in wanted],
         )
 
 
-def test_the_first_difference_is_the_earliest_of_all_channels(comparison, differences, tmp_path):
+def test_the_first_difference_is_the_earliest_of_all_channels(
+    comparison: Comparison, differences: Differences, tmp_path: Path
+) -> None:
     """It is the earliest of all channels, and at equal times that of the first channel."""
 
-    def put(width, data):
+    def put(width: int, data: int) -> str:
         return f"A 0 0 0 01 {0:016x} {1:0{(width + 3) // 4}x} {data:0{2 * width}x} 0\n"
 
-    def release(width, data):
+    def release(width: int, data: int) -> str:
         return f"C 7 1 0 01 {0:016x} {data:0{2 * width}x} 0\n"
 
     for a_time, c_time, said in (
@@ -799,9 +817,11 @@ def test_the_first_difference_is_the_earliest_of_all_channels(comparison, differ
     )
 
 
-def test_each_early_end_has_its_status_and_words(comparison, differences, tmp_path):
+def test_each_early_end_has_its_status_and_words(
+    comparison: Comparison, differences: Differences, tmp_path: Path
+) -> None:
     """Each way in which the comparison can end early, by its exit status and its words."""
-    for error, status, words in (
+    for ending, status, printed in (
         (run.FailureError("a reason"), 3, "tlbridge-compare: a reason\n"),
         (run.FailureError("a reason", 2), 2, "tlbridge-compare: a reason\n"),
         (
@@ -812,8 +832,9 @@ def test_each_early_end_has_its_status_and_words(comparison, differences, tmp_pa
         (OSError(28, "No space left on device"), 4, "tlbridge-compare: a temporary file: No space left on device\n"),
         (KeyboardInterrupt(), 130, ""),
     ):
-        with mock.patch("tlbridge.compare.compare", side_effect=error):
-            differences.same(f"an end by {error!r}", comparison.compare(tmp_path, CLIENT, MANAGER), (status, "", words))
+        with mock.patch("tlbridge.compare.compare", side_effect=ending):
+            got = comparison.compare(tmp_path, CLIENT, MANAGER)
+            differences.same(f"an end by {ending!r}", got, (status, "", printed))
     (tmp_path / "client.beats").unlink()
     (tmp_path / "client.beats").mkdir()
     differences.same(
@@ -872,18 +893,18 @@ def test_each_early_end_has_its_status_and_words(comparison, differences, tmp_pa
         )
 
 
-def outcome(words):
+def outcome(words: Sequence[str]) -> Tuple[Any, str, str]:
     """The status, the output and the error of the comparison with these words."""
     out, error = io.StringIO(), io.StringIO()
     with contextlib.redirect_stdout(out), contextlib.redirect_stderr(error):
         try:
-            status = compare_main([*words])
+            status: Any = compare_main([*words])
         except SystemExit as ended:
             status = ended.code
     return status, out.getvalue(), error.getvalue()
 
 
-def quiet_reads(count, width, mask, step=100, late=0):
+def quiet_reads(count: int, width: int, mask: str, step: int = 100, late: int = 0) -> Any:
     """These many reads of 4 bytes, one after the other, and their times: the lines and times of a link of `width`
     bytes."""
     lines, at = [], []
@@ -893,16 +914,18 @@ def quiet_reads(count, width, mask, step=100, late=0):
     return lines, at
 
 
-def test_a_run_of_several_parts_is_judged_as_one(comparison, differences, tmp_path):
+def test_a_run_of_several_parts_is_judged_as_one(
+    comparison: Comparison, differences: Differences, tmp_path: Path
+) -> None:
     """A run of several parts: its beats are numbered through, a refused beat ends the judgement of its channel in its
     part, and each part is written."""
 
-    def compare(client, manager, *words):
+    def compare(client: Any, manager: Any, *words: str) -> Tuple[Any, str, str]:
         for name, (lines, at) in (("client", client), ("manager", manager)):
             (tmp_path / f"{name}.beats.times").write_text("".join(f"{time}\n" for time in at))
         return comparison.compare(tmp_path, "\n".join(client[0]) + "\n", "\n".join(manager[0]) + "\n", *words)
 
-    kept = run.PART_BYTES, run.MOST_BYTES, judge.MOST_BYTES
+    kept = run.PART_BYTES, run.MOST_BYTES, JUDGE.MOST_BYTES
     try:
         run.PART_BYTES = 400  # of each read 77 bytes: parts of 6, 6 and 3 reads
         client, manager = quiet_reads(15, 8, "0f"), quiet_reads(15, 4, "f", late=5)
@@ -981,7 +1004,7 @@ def test_a_run_of_several_parts_is_judged_as_one(comparison, differences, tmp_pa
             ),
         )
         # no idle point: a request that never gets its response. Its 49 bytes and those of ten reads are more than 800
-        run.MOST_BYTES = judge.MOST_BYTES = 4096 + 800
+        run.MOST_BYTES = JUDGE.MOST_BYTES = 4096 + 800
         stuck = ["A 4 0 2 02 " + client[0][0][11:], *client[0]]
         for far, wanted, more in (
             (manager[0], 2, ""),
@@ -1004,21 +1027,21 @@ def test_a_run_of_several_parts_is_judged_as_one(comparison, differences, tmp_pa
                 ),
             )
         run.PART_BYTES, run.MOST_BYTES = kept[:2]
-        for link in ("client", "manager"):
-            (tmp_path / f"{link}.beats.times").unlink()
+        for name in ("client", "manager"):
+            (tmp_path / f"{name}.beats.times").unlink()
         for most, wanted in ((195, 0), (194, 4)):
-            judge.MOST_BYTES = most
+            JUDGE.MOST_BYTES = most
             differences.same(
                 f"a trace of 195 bytes, of at most {most}", comparison.compare(tmp_path, CLIENT, MANAGER)[0], wanted
             )
     finally:
-        run.PART_BYTES, run.MOST_BYTES, judge.MOST_BYTES = kept
+        run.PART_BYTES, run.MOST_BYTES, JUDGE.MOST_BYTES = kept
 
 
 # ---- Runs, event by event
 
 
-def asks(link, time, source=1):
+def asks(link: int, time: int, source: int = 1) -> Step:
     """A link accepts a Get of this source."""
     return (
         "beat",
@@ -1028,12 +1051,12 @@ def asks(link, time, source=1):
     )
 
 
-def answers(link, time, source=1):
+def answers(link: int, time: int, source: int = 1) -> Step:
     """A link accepts the response to it."""
     return "beat", link, f"D 1 0 2 {source:02x} 00 0 " + "0" * (16 if link == 0 else 8) + " 0", time
 
 
-def read(time, source=1):
+def read(time: int, source: int = 1) -> List[Step]:
     """A whole read in four moments."""
     return [
         asks(0, time, source),
@@ -1043,17 +1066,18 @@ def read(time, source=1):
     ]
 
 
-def events_of(steps, first=None, last=None):
+def events_of(steps: Sequence[Any], first: Any = None, last: Any = None) -> Any:
     """The notes of a run of these events, and of each part the times of its begin and end, whether it is
     cut, and the times of its beats."""
-    notes, parts = [], []
+    notes: List[str] = []
+    parts: List[Any] = []
+    tests_beats: List[bool] = []
 
-    def done(part):
+    def done(part: Any) -> None:
         rows = [row for kind in ("near", "far") for channel in "ABCDE" for row in part.rows(kind, channel)]
         parts.append((part.begin, part.end, part.is_cut, sorted(int(row.place) for row in rows)))
         tests_beats.append(part.beats == len(rows))
 
-    tests_beats = []
     of = run.Run(1, 8, 4, done, notes.append, first, last)
     try:
         for name, *values in steps:
@@ -1067,7 +1091,7 @@ def events_of(steps, first=None, last=None):
 
 LEFT_OUT = "beats after time 100 are left out: messages that began before it were under way"
 ENDS_THERE = "a part of the run ends there"
-RUNS = (
+RUNS: Tuple[Any, ...] = (
     ("a read", [("begins", 0), *read(10), ("finish", 20)], [], [(0, 20, False, [10, 11, 12, 13])]),
     ("no beat", [("begins", 0), ("finish", 20)], [], [(0, 20, False, [])]),
     (
@@ -1286,7 +1310,7 @@ RUNS = (
 
 # Reads at 10 to 13 and 30 to 33, from a time and to a time: the notes, and the times of the part and of its beats.
 FIRST, SECOND, NEAREST = [10, 11, 12, 13], [30, 31, 32, 33], "the nearest time at which nothing was under way"
-LIMITS = (
+LIMITS: Tuple[Any, ...] = (
     (5, None, [], (5, 50), FIRST + SECOND),
     (10, None, [], (10, 50), FIRST + SECOND),
     (20, None, [], (20, 50), SECOND),
@@ -1303,9 +1327,9 @@ LIMITS = (
 )
 
 
-def test_a_run_is_cut_at_quiet_moments(differences, tmp_path):
+def test_a_run_is_cut_at_quiet_moments(differences: Differences, tmp_path: Path) -> None:
     """A run is cut at moments at which no message is under way, and --from and --to move to the nearest of them."""
-    differences.same("the longest trace, in MiB", (run.MOST_BYTES / 2**20, judge.MOST_BYTES / 2**20), (64, 64))
+    differences.same("the longest trace, in MiB", (run.MOST_BYTES / 2**20, JUDGE.MOST_BYTES / 2**20), (64, 64))
     with mock.patch("tempfile.tempdir", str(tmp_path)):
         for name, steps, notes, parts in RUNS:
             differences.same(f"a run with {name}", events_of(steps), (notes, parts, True))
@@ -1347,11 +1371,13 @@ def test_a_run_is_cut_at_quiet_moments(differences, tmp_path):
         differences.same(f"{word!r} as it is shown", run.shown(word, most), wanted)
 
 
-def other_digit(digit):
+def other_digit(digit: str) -> str:
     return "1" if digit == "0" else "0"
 
 
-def test_each_wrong_field_of_a_far_beat_is_named(comparison, differences, tmp_path):
+def test_each_wrong_field_of_a_far_beat_is_named(
+    comparison: Comparison, differences: Differences, tmp_path: Path
+) -> None:
     """Each field of each far beat of a long run: first, middle and last beats of bursts, on all five channels."""
     counts = dict.fromkeys("ABCDE", 0)
     files = {"client": LONG_CLIENT.splitlines(), "manager": LONG_MANAGER.splitlines()}
@@ -1397,14 +1423,16 @@ def test_each_wrong_field_of_a_far_beat_is_named(comparison, differences, tmp_pa
     differences.same("fields of each channel", counts, {"A": 48, "B": 16, "C": 35, "D": 40, "E": 1})
 
 
-def write_of(width, data, digits):
+def write_of(width: int, data: int, digits: int) -> str:
     """A byte that is written at address 0, and its acknowledgement, on a link of this width."""
     source = f"{1:0{digits}x}"
     mask, lanes = f"{1:0{(width + 3) // 4}x}", f"{data:0{2 * width}x}"
     return f"A 0 0 0 {source} {0:016x} {mask} {lanes} 0\nD 0 0 0 {source} {0:0{digits}x} 0 {0:0{2 * width}x} 0\n"
 
 
-def test_a_wrong_byte_is_seen_at_each_pair_of_widths(comparison, differences, tmp_path):
+def test_a_wrong_byte_is_seen_at_each_pair_of_widths(
+    comparison: Comparison, differences: Differences, tmp_path: Path
+) -> None:
     """A write of one byte at address 0, right and wrong, with ids of two and of four digits."""
     for client, manager in (
         (1, 8),
@@ -1430,7 +1458,7 @@ def test_a_wrong_byte_is_seen_at_each_pair_of_widths(comparison, differences, tm
                 )
 
 
-def test_times_have_as_many_lines_as_beats(comparison, differences, tmp_path):
+def test_times_have_as_many_lines_as_beats(comparison: Comparison, differences: Differences, tmp_path: Path) -> None:
     """A file of times with more or fewer lines than beats is refused."""
     (tmp_path / "short").mkdir()
     for name, lines, words in (
@@ -1448,7 +1476,9 @@ def test_times_have_as_many_lines_as_beats(comparison, differences, tmp_path):
         (tmp_path / "short" / f"{name}.times").unlink()
 
 
-def test_the_trace_is_written_in_order_of_time(comparison, differences, tmp_path):
+def test_the_trace_is_written_in_order_of_time(
+    comparison: Comparison, differences: Differences, tmp_path: Path
+) -> None:
     """Without times of both links, the lines of the client come first."""
     header = "tilelink-trace 1 client 8 manager 4\n"
     differences.same("without times", comparison.compare(tmp_path, CLIENT, MANAGER, "--write-trace", "made")[0], 0)
@@ -1485,10 +1515,10 @@ def test_the_trace_is_written_in_order_of_time(comparison, differences, tmp_path
     )
 
 
-def test_a_long_run_is_cut_into_parts(comparison, differences, tmp_path):
+def test_a_long_run_is_cut_into_parts(comparison: Comparison, differences: Differences, tmp_path: Path) -> None:
     """A run that is too long for one trace is cut at moments at which nothing is under way, if its times are there."""
 
-    def link(width, mask, start):
+    def link(width: int, mask: str, start: int) -> Any:
         lines, at = [], []
         for number in range(40):
             lines += [
@@ -1509,11 +1539,11 @@ def test_a_long_run_is_cut_into_parts(comparison, differences, tmp_path):
         )
         client[60] = client[60].replace("A 4", "A 9")
         fault = comparison.compare(tmp_path, "\n".join(client) + "\n", "\n".join(manager) + "\n")
-        judge.MOST_BYTES = 194
-        for link in ("client", "manager"):
-            (tmp_path / f"{link}.beats.times").unlink()
+        JUDGE.MOST_BYTES = 194
+        for name in ("client", "manager"):
+            (tmp_path / f"{name}.beats.times").unlink()
         long = comparison.compare(tmp_path, CLIENT, MANAGER)
-        judge.MOST_BYTES = run.MOST_BYTES
+        JUDGE.MOST_BYTES = run.MOST_BYTES
     finally:
         run.PART_BYTES = kept
     differences.same(
@@ -1559,7 +1589,7 @@ def test_a_long_run_is_cut_into_parts(comparison, differences, tmp_path):
     differences.same("there are parts", len(parts) > 4, True)
 
 
-def script(path, text):
+def script(path: Path, text: str) -> str:
     path.parent.mkdir(parents=True, exist_ok=True)
     path.write_text("#!/bin/sh\n" + text)
     path.chmod(0o755)
@@ -1588,7 +1618,9 @@ WRONG_ANSWERS = (
 )
 
 
-def test_each_program_that_gives_no_answer_is_named(comparison, differences, tmp_path):
+def test_each_program_that_gives_no_answer_is_named(
+    comparison: Comparison, differences: Differences, tmp_path: Path
+) -> None:
     """What is said about a program that dies, prints something else, or is not built."""
     for name, text, status, words in (
         ("nothing", "cat > /dev/null\n", 2, "nothing printed nothing, so there is nothing to compare with"),
@@ -1697,8 +1729,8 @@ def test_each_program_that_gives_no_answer_is_named(comparison, differences, tmp
     )
     passes_on = script(tmp_path / "in_the_folder", f"exec '{comparison.program}' \"$@\"\n")
     for name in ("in_the_folder", "./in_the_folder", passes_on):
-        words = [sys.executable, str(COMPARE), "8", "4", "client.beats", "manager.beats", "--program", name]
-        ran = subprocess.run(words, cwd=tmp_path, capture_output=True, text=True, check=False)
+        command = [sys.executable, str(COMPARE), "8", "4", "client.beats", "manager.beats", "--program", name]
+        ran = subprocess.run(command, cwd=tmp_path, capture_output=True, text=True, check=False)
         differences.same(
             f"the program {Path(name).name if name == passes_on else name}", (ran.returncode, ran.stdout), (0, RIGHT)
         )
@@ -1724,7 +1756,7 @@ def test_each_program_that_gives_no_answer_is_named(comparison, differences, tmp
     )
 
 
-def run_script(compare, room, path=None):
+def run_script(compare: Path, room: Path, path: Optional[str] = None) -> Tuple[int, str, str]:
     words = [sys.executable, str(compare), "8", "4", "client.beats", "manager.beats"]
     environment = {
         **{name: value for name, value in os.environ.items() if name != "PYTHONDONTWRITEBYTECODE"},
@@ -1734,7 +1766,7 @@ def run_script(compare, room, path=None):
     return done.returncode, done.stdout, done.stderr
 
 
-def test_the_script_finds_package_and_program(comparison, differences, tmp_path):
+def test_the_script_finds_package_and_program(comparison: Comparison, differences: Differences, tmp_path: Path) -> None:
     """The script runs from a clone and as `make install` puts it; it finds the program, or the model if the program is
     not built."""
     comparison.compare(tmp_path, CLIENT, MANAGER)

@@ -22,33 +22,38 @@ import re
 import shlex
 import subprocess
 from html.parser import HTMLParser
+from pathlib import Path
+from typing import Any, Callable, Dict, Iterable, Iterator, List, Optional, Sequence, Set, Tuple
 
 import program_cases as cases
 import pytest
 import records
 import refusals
-from program_cases import CHANNELS, WHOLE, Run, Trace, compare
+from differences import Differences
+from program_cases import CHANNELS, WHOLE, Run, Trace, Words, compare
 from project import EXAMPLES, ROOT
 
 FATES = re.compile(r": (accepted|refused|waiting|not offered)(, |$)")
 SENTENCE = re.compile(r"line (\d+): |lines (\d+) to (\d+), (\d+) beats: not offered, ")
 
+Judge = Callable[[bytes], bool]
 
-def numbers_of(sentences):
+
+def numbers_of(sentences: Iterable[str]) -> Iterator[int]:
     """The numbers of the lines that these sentences speak of."""
     for sentence in sentences:
-        line, first, last, count = SENTENCE.match(sentence).groups()
-        numbers = [int(line)] if line else range(int(first), int(last) + 1)
+        ((line, first, last, count),) = SENTENCE.findall(sentence)[:1]
+        numbers = [int(line)] if line else [*range(int(first), int(last) + 1)]
         yield from numbers if line or len(numbers) == int(count) > 1 else ()
 
 
-def explains(trace):
+def explains(trace: Trace) -> Judge:
     """Whether an output has the far lines and the last lines of the trace's answer, and a sentence
     for each line of the trace."""
     wanted = trace.answer.splitlines()
     numbers = range(2, trace.text.count(b"\n") + 1)
 
-    def will_do(came):
+    def will_do(came: bytes) -> bool:
         lines = came.decode().splitlines()
         far = [line[4:] for line in lines if line[:4] == "    " and line[4:5] in CHANNELS]
         sentences = [line for line in lines if SENTENCE.match(line)]
@@ -64,16 +69,16 @@ def explains(trace):
     return will_do
 
 
-def error_of(said):
+def error_of(said: str) -> bytes:
     """Returns what this program prints on standard error if `tlbridge` prints `said`."""
     return re.sub("^tlbridge: ", "tlexplain: ", said).encode()
 
 
-def shows(trace):
+def shows(trace: Trace) -> Judge:
     """Whether an output has the fault of a text that is not a trace, the line, and a mark below it."""
     fault = trace.error.strip().removeprefix("tlbridge: ")
 
-    def will_do(came):
+    def will_do(came: bytes) -> bool:
         lines = came.decode().splitlines()
         return (
             lines[0].startswith(fault + ": ")
@@ -85,7 +90,7 @@ def shows(trace):
     return will_do
 
 
-def runs_of(trace):
+def runs_of(trace: Trace) -> Iterator[Run]:
     """A trace by no words and with lanes."""
     for words in ((), ("--lanes",)):
         name = f"{trace.name}, by {' '.join(words) or 'no words'}"
@@ -93,7 +98,7 @@ def runs_of(trace):
         yield Run(name, words, trace.text, answer, error_of(trace.error), trace.status)
 
 
-def stored_outputs(named):
+def stored_outputs(named: Any) -> Iterator[Run]:
     for end, words in (
         (".explain", ()),
         (".lanes", ("--lanes",)),
@@ -111,7 +116,7 @@ def stored_outputs(named):
             yield Run(str(path.relative_to(ROOT)), words, text, path.read_bytes(), error_of(error), status)
 
 
-def end_of(said):
+def end_of(said: str) -> Tuple[str, int]:
     """Returns the standard error and the status that belong to this whole output."""
     fault = re.match(r"(line \d+: 1\d [A-Z]\w+): ", said)
     if fault:
@@ -156,7 +161,7 @@ PLACES = (
 )
 
 
-def runs_of_places():
+def runs_of_places() -> Iterator[Run]:
     for lines, said, place, form in PLACES:
         number, fault = len(lines), said.partition(":")[0]
         shown = [f"line {number}: {said}", "    " + lines[-1], "    " + " " * place + "^"]
@@ -253,17 +258,17 @@ D 1 0 2 00 00 0 0000000004030201 0
 ANSWERED_SAID = "no request of source 00 waits for a response: its last one, in line 2, is answered"
 
 
-def says(line, end):
+def says(line: int, end: str) -> Judge:
     """Whether the sentence of a line ends so."""
 
-    def will_do(came):
+    def will_do(came: bytes) -> bool:
         found = re.search(f"^line {line}: .*", came.decode(), re.M)
         return found is not None and found[0].endswith(end)
 
     return will_do
 
 
-def runs_of_choices():
+def runs_of_choices() -> Iterator[Run]:
     text = STOPPED.encode()
     for words, lines in CHOICES:
         words = ("--no-remarks", *words)
@@ -278,7 +283,7 @@ def runs_of_choices():
     yield Run("neither", ("--no-remarks", "--only", "problems"), trace, none)
 
 
-def runs_of_waits():
+def runs_of_waits() -> Iterator[Run]:
     for lines, end in BUSY_RESPONSES:
         name = f"a busy source before {lines or 'nothing'!r}"
         yield Run(name, (), (BUSY + lines).encode(), says(3, BUSY_SAID + end), status=1)
@@ -295,41 +300,46 @@ class PageReader(HTMLParser):
     """What a page says: texts by class or tag, the lanes of its beats, ids, links, and for each message its ids and
     whether it is open."""
 
-    def __init__(self, page):
+    def __init__(self, page: str) -> None:
         super().__init__()
-        self.open, self.texts, self.lanes = [], {}, []
-        self.ids, self.links, self.messages, self.is_closed = [], [], [], True
+        self.open: List[Tuple[str, str]] = []
+        self.texts: Dict[str, List[str]] = {}
+        self.lanes: List[List[str]] = []
+        self.ids: List[str] = []
+        self.links: List[str] = []
+        self.messages: List[Tuple[Set[str], bool]] = []
+        self.is_closed = True
         self.feed(page)
         self.close()
         self.is_closed &= not self.open
 
-    def handle_starttag(self, tag, attributes):
-        attributes = dict(attributes)
-        kind = attributes.get("class") or (f"{self.open[-1][1]} small" if tag == "small" else tag)
+    def handle_starttag(self, tag: str, attributes: List[Tuple[str, Optional[str]]]) -> None:
+        values = {name: value or "" for name, value in attributes}
+        kind = values.get("class") or (f"{self.open[-1][1]} small" if tag == "small" else tag)
         if tag not in VOID_TAGS:
             self.open.append((tag, kind))
             self.texts.setdefault(kind, []).append("")
-        self.ids += [attributes["id"]] if "id" in attributes else []
-        self.links += [attributes["href"]] if tag == "a" else []
+        self.ids += [values["id"]] if "id" in values else []
+        self.links += [values["href"]] if tag == "a" else []
         if tag == "details":
-            self.messages.append((set(), "open" in attributes))
+            self.messages.append((set(), "open" in values))
         if tag == "article":
-            self.messages[-1][0].add(attributes["id"])
+            self.messages[-1][0].add(values["id"])
         if tag == "table":
             self.lanes.append([])
         if tag == "td":
-            self.lanes[-1].append(MARKS.get(attributes.get("class"), ""))
+            self.lanes[-1].append(MARKS.get(values.get("class", ""), ""))
 
-    def handle_endtag(self, tag):
+    def handle_endtag(self, tag: str) -> None:
         self.is_closed &= bool(self.open) and self.open.pop()[0] == tag
 
-    def handle_data(self, data):
+    def handle_data(self, data: str) -> None:
         for _, kind in self.open:
             self.texts[kind][-1] += data
         if self.open and self.open[-1][0] == "td" and not self.lanes[-1][-1]:
             self.lanes[-1][-1] = data
 
-    def said(self):
+    def said(self) -> Any:
         """The sentences, the remarks, the lines about all channels and the answer, as in the text output."""
         lines = list(zip(*(self.texts.get(kind, []) for kind in ("h3", "h3 small", "fields", "came"))))
         texts = []
@@ -346,9 +356,10 @@ class PageReader(HTMLParser):
         )
 
 
-def lanes_in(said):
+def lanes_in(said: Any) -> Any:
     """The lanes that pictures in text show, highest first, a list for each beat."""
-    found, named = [], None
+    found: List[List[str]] = []
+    named = None
     for line in said.splitlines():
         words = line.split()
         if line.startswith("    lane"):
@@ -363,9 +374,11 @@ def lanes_in(said):
     return found
 
 
-def folded(said):
+def folded(said: Any) -> Any:
     """The messages that `PageReader` has to find on a page, from the text output for the same trace."""
-    found, last, letter = [], {}, ""
+    found: List[Any] = []
+    last: Dict[str, int] = {}
+    letter = ""
     for text in said.splitlines():
         if text.startswith("    remark: "):
             found[last[letter]][1] = True
@@ -380,14 +393,14 @@ def folded(said):
     return [tuple(message) for message in found]
 
 
-def shows_page(stem):
+def shows_page(stem: str) -> Judge:
     """Whether a page says what the text of this example says, and shows the lanes that it draws."""
     text = (EXAMPLES / f"{stem}.explain").read_text()
     lines = (EXAMPLES / f"{stem}.trace").read_text().count("\n")
     drawn = EXAMPLES / f"{stem}.lanes"
     wanted = [line.strip() for line in text.splitlines() if not re.match("    [A-E] ", line)]
 
-    def will_do(came):
+    def will_do(came: bytes) -> bool:
         page = PageReader(came.decode())
         near_and_far = (len(page.texts.get("near", [])), len(page.texts.get("far", [])))
         far = len(re.findall("^    [A-E] ", text, re.M))
@@ -406,7 +419,7 @@ def shows_page(stem):
     return will_do
 
 
-def runs_of_pages():
+def runs_of_pages() -> Iterator[Run]:
     for stem in ("get", "partial_write", "refused_beat", "cut_burst", "remarks/grants_less"):
         text = (EXAMPLES / f"{stem}.trace").read_bytes()
         status = cases.status_of((EXAMPLES / f"{stem}.explain").read_text())
@@ -427,11 +440,11 @@ def runs_of_pages():
         spoilt,
         error=b"tlexplain: line 2: 15 Channel\n",
         status=3,
-        answer=lambda came: PageReader(came.decode()).texts["fault"][0].endswith(said),
+        answer=lambda came: "".join(PageReader(came.decode()).texts["fault"][:1]).endswith(said),
     )
 
 
-def runs_of_files():
+def runs_of_files() -> Iterator[Run]:
     """A trace in a file; standard input is not read."""
     get = str(EXAMPLES / "get.trace")
     said = (EXAMPLES / "get.explain").read_bytes()
@@ -464,23 +477,23 @@ BAD_TIMES = (
 )
 
 
-def has_heads(heads):
+def has_heads(heads: Sequence[str]) -> Judge:
     """Whether a page has these places of its lines."""
     return lambda came: PageReader(came.decode()).texts["h3 small"] == heads
 
 
-def begins(text):
+def begins(text: str) -> Judge:
     """Whether an output begins so."""
     return lambda came: came.decode().startswith(text)
 
 
-def runs_of_times(room):
+def runs_of_times(room: Path) -> Iterator[Run]:
     """Times with the lines of examples/get.trace, in text and on a page, and files of times that do not fit."""
     text = (EXAMPLES / "get.trace").read_bytes()
     said = (EXAMPLES / "get.explain").read_text()
     path = room / "link.times"
     for number, times in enumerate((*TIMES, *(times for times, _, _ in BAD_TIMES))):
-        path.with_suffix(f".{number}").write_text(times, newline="")
+        path.with_suffix(f".{number}").write_bytes(times.encode())
     for number, times in enumerate(TIMES):
         words, wanted = ("--times", str(path.with_suffix(f".{number}"))), said
         for line, time in enumerate(times.splitlines(), 2):
@@ -492,12 +505,12 @@ def runs_of_times(room):
         file = path.with_suffix(f".{number}")
         error = begins(f"tlexplain: {file}, line {line}: {begin}")
         yield Run(f"times {times!r}", ("--times", str(file)), text, error=error, status=3)
-    for file in (str(path), str(room), ""):
-        error = f"tlexplain: {file}: 21 Read\n    the file of the times could not be read\n".encode()
-        yield Run(f"times that cannot be read: {file!r}", ("--times", file), text, error=error, status=4)
+    for name in (str(path), str(room), ""):
+        unread = f"tlexplain: {name}: 21 Read\n    the file of the times could not be read\n".encode()
+        yield Run(f"times that cannot be read: {name!r}", ("--times", name), text, error=unread, status=4)
 
 
-def runs_in_order():
+def runs_in_order() -> Iterator[Run]:
     """A source that is used again before its response, without and with the order of time."""
     lines = STOPPED.splitlines(True)
     again = "".join([*lines[:2], lines[1].replace("1000", "1008"), lines[3], lines[3]]).encode()
@@ -518,12 +531,12 @@ def runs_in_order():
     yield Run("a response that is lost, in order", ("--in-order",), lost, at)
 
 
-def is_refusal(said):
+def is_refusal(said: bytes) -> bool:
     """Whether standard error begins with an error of the command line."""
     return said.startswith(b"error: ")
 
 
-def runs_of_words():
+def runs_of_words() -> Iterator[Run]:
     """Help, the version, the faults, and command lines that are refused."""
     for words in (("--help",), ("-h",)):
         yield Run(f"help: {words}", words, answer=lambda said: b"Usage: tlexplain" in said)
@@ -531,16 +544,16 @@ def runs_of_words():
         yield Run(f"version: {words}", words, answer=b"tlexplain 0.7.0\n")
     faults = (EXAMPLES / "faults" / "faults.text").read_bytes()
     yield Run("the faults", ("--faults",), answer=faults)
-    wrong_values = (("--only", "faults"), ("--from", "x"), ("--to", "-1"), ("--source", "g"))
+    wrong_values: Tuple[Words, ...] = (("--only", "faults"), ("--from", "x"), ("--to", "-1"), ("--source", "g"))
     wrong_values += (("--source", "10000"), ("--channel", "a"), ("--channel", "AB"), ("--channel",))
     wrong_values += (("--only", ""), ("--from", ""), ("--to", str(2**64)), ("--source", ""), ("--channel", ""))
-    wrong_words = (("a", "b"), ("--fast",), ("--lanes", "--lanes"), (b"--lanes\xff",))
+    wrong_words: Tuple[Words, ...] = (("a", "b"), ("--fast",), ("--lanes", "--lanes"), (b"--lanes\xff",))
     wrong_words += (("--json", "--html"), ("--times",), ("--times", "a", "--times", "b"))
-    for words in (*wrong_words, *wrong_values):
-        yield Run(f"refused: {words}", words, error=is_refusal, status=2)
+    for line in (*wrong_words, *wrong_values):
+        yield Run(f"refused: {line!r}", line, error=is_refusal, status=2)
 
 
-def runs_of_streams(get):
+def runs_of_streams(get: Trace) -> Iterator[Run]:
     read, write, too_long = map(said_of, ("21_Read", "22_Write", "23_TooLong"))
     most = b"\n" * cases.MAX_BYTES
     yield Run("a folder to read", (), error=read, status=4, input_from=str(ROOT))
@@ -550,12 +563,12 @@ def runs_of_streams(get):
     yield Run("a byte too many", (), most + b"\n", error=too_long, status=4)
 
 
-def said_of(fault):
+def said_of(fault: str) -> bytes:
     """Returns the standard error for a fault that no trace shows."""
     return (EXAMPLES / "faults" / f"{fault}.error").read_bytes()
 
 
-def block_traces():
+def block_traces() -> Iterator[Trace]:
     """Yields tests whose output has several blocks, with one or more lines that were not offered after each other
     line."""
     held = "A 4 0 3 00 0000000000000004 ff 0000000000000000 0"
@@ -569,11 +582,12 @@ def block_traces():
         yield Trace(f"lines that were not offered, {period}", text, answer, status=1)
 
 
-def at_terminal(path, text, environment):
+def at_terminal(path: Path, text: bytes, environment: Dict[str, str]) -> bytes:
     """Returns the output of the program at a terminal."""
     here, there = pty.openpty()
     started = subprocess.Popen([str(path)], stdin=subprocess.PIPE, stdout=there, env={**environment})
     os.close(there)
+    assert started.stdin
     started.stdin.write(text)
     started.stdin.close()
     came = b""
@@ -597,78 +611,78 @@ BLOCKS = tuple(block_traces())
 SHORT_BYTES, SPOILT, PARTS = 4000, 1000, 10
 
 
-def by_name(things):
+def by_name(things: Iterable[Any]) -> List[Any]:
     """The parameters of a test, each with its name as its id."""
     return [pytest.param(thing, id=thing.name) for thing in things]
 
 
 @pytest.mark.parametrize("trace", by_name((*TRACES, *cases.large_traces(), *BLOCKS)))
-def test_each_line_has_its_sentence(tlexplain, differences, trace):
+def test_each_line_has_its_sentence(tlexplain: Path, differences: Differences, trace: Trace) -> None:
     """The sentences, far lines and last lines of each trace, or the faulty line of a text that is none."""
     compare(differences, tlexplain, runs_of(trace))
 
 
 @pytest.mark.parametrize("name", WHOLE)
-def test_broken_texts(tlexplain, differences, name):
+def test_broken_texts(tlexplain: Path, differences: Differences, name: str) -> None:
     """A text cut after each of its bytes, and with each byte replaced."""
     for trace in (*cases.cut_traces(NAMED[name]), *cases.spoilt_traces(NAMED[name])):
         compare(differences, tlexplain, runs_of(trace))
 
 
 @pytest.mark.parametrize("run", by_name(STORED))
-def test_the_stored_output(tlexplain, differences, run):
+def test_the_stored_output(tlexplain: Path, differences: Differences, run: Run) -> None:
     """Whole outputs next to the traces of examples/."""
     compare(differences, tlexplain, [run])
 
 
 @pytest.mark.parametrize("run", by_name(runs_of_places()))
-def test_the_place_of_a_fault(tlexplain, differences, run):
+def test_the_place_of_a_fault(tlexplain: Path, differences: Differences, run: Run) -> None:
     """What is expected at the place of a version or of an id."""
     compare(differences, tlexplain, [run])
 
 
 @pytest.mark.parametrize("run", by_name(runs_of_choices()))
-def test_the_choice_of_lines(tlexplain, differences, run):
+def test_the_choice_of_lines(tlexplain: Path, differences: Differences, run: Run) -> None:
     """--from, --to, --channel, --source, --only and --no-remarks."""
     compare(differences, tlexplain, [run])
 
 
 @pytest.mark.parametrize("run", by_name(runs_of_waits()))
-def test_why_a_beat_waits(tlexplain, differences, run):
+def test_why_a_beat_waits(tlexplain: Path, differences: Differences, run: Run) -> None:
     """A source that is busy, for each reason why its response did not come."""
     compare(differences, tlexplain, [run])
 
 
 @pytest.mark.parametrize("run", by_name(runs_of_pages()))
-def test_a_page(tlexplain, differences, run):
+def test_a_page(tlexplain: Path, differences: Differences, run: Run) -> None:
     """A page says what the text says, and escapes markup."""
     compare(differences, tlexplain, [run])
 
 
 @pytest.mark.parametrize("run", by_name(runs_of_files()))
-def test_a_file(tlexplain, differences, run):
+def test_a_file(tlexplain: Path, differences: Differences, run: Run) -> None:
     """A trace in a file, and files that cannot be read."""
     compare(differences, tlexplain, [run])
 
 
-def test_times(tlexplain, differences, tmp_path):
+def test_times(tlexplain: Path, differences: Differences, tmp_path: Path) -> None:
     """Times with the lines of a trace, in text and on a page, and files of times that do not fit."""
     compare(differences, tlexplain, runs_of_times(tmp_path))
 
 
 @pytest.mark.parametrize("run", by_name(runs_in_order()))
-def test_lines_in_the_order_of_time(tlexplain, differences, run):
+def test_lines_in_the_order_of_time(tlexplain: Path, differences: Differences, run: Run) -> None:
     """Remarks that need the order of time."""
     compare(differences, tlexplain, [run])
 
 
 @pytest.mark.parametrize("run", by_name(runs_of_words()))
-def test_the_words(tlexplain, differences, run):
+def test_the_words(tlexplain: Path, differences: Differences, run: Run) -> None:
     """Help, the version, the faults, and each refusal of a command line."""
     compare(differences, tlexplain, [run])
 
 
-def test_streams(tlexplain, differences):
+def test_streams(tlexplain: Path, differences: Differences) -> None:
     """Streams that fail, and a text of one byte too many."""
     compare(differences, tlexplain, runs_of_streams(NAMED["a Get to a narrower bus"]))
 
@@ -676,7 +690,7 @@ def test_streams(tlexplain, differences):
 @pytest.mark.parametrize(
     "environment, is_coloured", (({}, True), ({"NO_COLOR": ""}, True), ({"NO_COLOR": "1"}, False)), ids=str
 )
-def test_colours_at_a_terminal(tlexplain, environment, is_coloured):
+def test_colours_at_a_terminal(tlexplain: Path, environment: Dict[str, str], is_coloured: bool) -> None:
     """Colours are shown only at a terminal, and not if NO_COLOR is set."""
     came = at_terminal(tlexplain, (EXAMPLES / "get.trace").read_bytes(), environment)
     assert (b"\x1b[32maccepted\x1b[0m" in came) == is_coloured
@@ -685,20 +699,22 @@ def test_colours_at_a_terminal(tlexplain, environment, is_coloured):
 COMMANDS = sorted((EXAMPLES / "faults").glob("*.command"))
 
 
-@pytest.mark.parametrize("command", COMMANDS, ids=lambda path: path.stem)
-def test_the_commands_of_faults_that_no_trace_shows(tlexplain, command):
+@pytest.mark.parametrize("command", COMMANDS, ids=lambda path: str(path.stem))
+def test_the_commands_of_faults_that_no_trace_shows(tlexplain: Path, command: Path) -> None:
     """The lines for the shell of examples/faults end with status 4, and each says what it has to."""
     line = command.read_text().replace("./tlexplain", shlex.quote(str(tlexplain)))
     ended = subprocess.run(["sh", "-c", line], cwd=ROOT, capture_output=True, timeout=120)
     assert (ended.returncode, ended.stdout, ended.stderr) == (4, b"", said_of(command.stem))
 
 
-def test_four_faults_have_commands():
+def test_four_faults_have_commands() -> None:
     assert len(COMMANDS) == 4
 
 
 @pytest.mark.parametrize("words", ((), ("--json",)), ids=("text", "json"))
-def test_each_growth_of_memory_refused(tlexplain, differences, tmp_path, words):
+def test_each_growth_of_memory_refused(
+    tlexplain: Path, differences: Differences, tmp_path: Path, words: Tuple[str, ...]
+) -> None:
     """If each allocation from the Nth on fails, for any N, the program reports only that memory ran out, or its output
     is complete."""
     runs, text = refusals.Refusals(tlexplain, refusals.shim(tmp_path), differences), BLOCKS[0].text
@@ -715,21 +731,21 @@ def test_each_growth_of_memory_refused(tlexplain, differences, tmp_path, words):
     differences.same("how these runs end", seen, {2, 4, whole.status})
 
 
-def json_texts():
+def json_texts() -> List[bytes]:
     return [
         *(trace.text for trace in cases.stored_traces()),
         *(path.read_bytes() for path in sorted(EXAMPLES.rglob("*.trace"))),
     ]
 
 
-def test_json_says_what_the_text_says(tlexplain, differences):
+def test_json_says_what_the_text_says(tlexplain: Path, differences: Differences) -> None:
     """The sentences made from the records of each trace are those of the text."""
     for text in json_texts():
         differences.same(f"{text[:200]!r}", records.json_failure(str(tlexplain), text), None)
 
 
 @pytest.mark.parametrize("part", range(PARTS))
-def test_json_of_traces_with_random_mistakes(tlexplain, differences, part):
+def test_json_of_traces_with_random_mistakes(tlexplain: Path, differences: Differences, part: int) -> None:
     """The same for traces with up to three mistakes."""
     short = [text for text in json_texts() if len(text) < SHORT_BYTES]
     for number, text in enumerate(records.spoilt_texts(short, SPOILT, 1)):

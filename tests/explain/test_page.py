@@ -20,10 +20,12 @@ import subprocess
 import sys
 import time
 from pathlib import Path
+from typing import Any, Dict, Iterator, List, Tuple
 
 import pytest
 import records
 from browser import WINDOW, Browser
+from differences import Differences
 from project import EXAMPLES, ROOT, needs_program, needs_tools
 from random_traces import lawful_trace
 
@@ -47,9 +49,10 @@ FOLLOW = (HERE / "page_follow.js").read_text()
 CONTRAST = (HERE / "page_contrast.js").read_text()
 
 
-def pictures(said):
+def pictures(said: Any) -> Any:
     """The pictures that `--lanes` draws, of each line: lists of marks, highest lane first."""
-    found, line = {}, None
+    found: Dict[int, List[Any]] = {}
+    line: List[Any] = []
     for text in said.splitlines():
         if number := re.match(r"line (\d+): ", text):
             line = found[int(number[1])] = []
@@ -64,25 +67,25 @@ def pictures(said):
     return {number: [marks for _, marks, _ in drawn] for number, drawn in found.items()}
 
 
-def mark(cell):
+def mark(cell: Any) -> str:
     kind, text = cell
-    return text if not kind else TOKENS[kind]
+    return str(text) if not kind else TOKENS[kind]
 
 
 class Looks:
     """What is seen of a page in a browser, and what is wrong with it."""
 
-    def __init__(self, browser, differences, folder):
+    def __init__(self, browser: Browser, differences: Differences, folder: Path) -> None:
         self.browser, self.differences, self.folder = browser, differences, folder
         self.tlexplain, self.tlbridge = needs_program("tlexplain"), needs_program("tlbridge")
 
-    def see(self, name, holds, told=""):
+    def see(self, name: str, holds: object, told: object = "") -> None:
         self.differences.holds(name, holds, f"{told}"[:400])
 
-    def said(self, program, *words, text):
+    def said(self, program: Path, *words: Any, text: bytes) -> bytes:
         return subprocess.run([program, *words], input=text, capture_output=True).stdout
 
-    def look_at(self, name, text):
+    def look_at(self, name: str, text: bytes) -> None:
         explain = self.tlexplain
         page = self.folder / "page.html"
         page.write_bytes(self.said(explain, "--html", text=text))
@@ -101,13 +104,13 @@ class Looks:
         self.colours(name)
         self.print(name, came)
 
-    def compare(self, name, text, came, said):
+    def compare(self, name: str, text: bytes, came: Any, said: Any) -> None:
         lines = said.splitlines()
         self.see(f"{name}: the answer", came["answer"].splitlines() == lines[-6:], came["answer"])
         self.see(
             f"{name}: the overview", came["overview"] == records.overview(said, text.count(b"\n")), came["overview"]
         )
-        came["lines"].sort(key=lambda line: int(re.search(r"\d+", line.get("run") or line["line"])[0]))
+        came["lines"].sort(key=lambda line: int(re.findall(r"\d+", line.get("run") or line["line"])[0]))
         sentences = [line for line in lines if re.match(r"lines? \d", line)]
         shown = [
             line.get("run") or f"{line['line']}: {line['name']}, {line['fields']}: {line['came']}"
@@ -160,7 +163,7 @@ class Looks:
             came["links"],
         )
 
-    def use(self, name, came):
+    def use(self, name: str, came: Any) -> None:
         followed = self.browser.run(FOLLOW)
         self.see(
             f"{name}: {followed['followed']} bytes are followed",
@@ -227,7 +230,7 @@ class Looks:
         at = self.browser.run("document.activeElement.parentElement.querySelector('.beat').id")
         self.see(f"{name}: Down", at == same[min(1, len(same) - 1)], at)
 
-    def fold(self, name, came, beats):
+    def fold(self, name: str, came: Any, beats: Any) -> None:
         """Messages are folded to one row, except those with a fault or a remark. Links and buttons open and close
         them."""
         has_problem = {
@@ -273,7 +276,7 @@ class Looks:
             " document.querySelectorAll('.message')[at].open = open)"
         )
 
-    def colours(self, name):
+    def colours(self, name: str) -> None:
         papers = []
         for scheme in ("light", "dark"):
             self.browser.media(scheme=scheme)
@@ -282,7 +285,7 @@ class Looks:
             self.see(f"{name}: contrast in {scheme}", seen["least"] >= 4.5, f"{seen['least']:.2f} at {seen['where']}")
         self.see(f"{name}: light and dark", papers[0] > 0.8 and papers[1] < 0.05, papers)
 
-    def print(self, name, came):
+    def print(self, name: str, came: Any) -> None:
         self.browser.media("print")
         hidden = self.browser.run(
             """[...document.querySelectorAll('.beat')].filter(it => !it.checkVisibility() || !it.offsetHeight).length +
@@ -295,12 +298,12 @@ class Looks:
         self.see(f"{name}: printed", hidden == 0 and paper[:4] == b"%PDF" and pages >= 1, (hidden, pages))
         self.browser.media()
 
-    def look_at_notes(self, name):
+    def look_at_notes(self, name: str) -> None:
         """The page of a waveform: its notes, which wrap within the window, scroll there, and are printed whole."""
         dump, page = self.folder / "dump.vcd", self.folder / "waves.html"
         text = (ROOT / "examples" / "waves" / "dump.vcd").read_text()
         dump.write_text(text.replace("$scope module bench", "$scope module bench<i>&amp;" + "x" * 200))
-        words = [
+        words: List[Any] = [
             sys.executable,
             ROOT / "tlbridge-trace",
             dump,
@@ -351,7 +354,7 @@ class Looks:
         )
         self.browser.media()
 
-    def time(self, lines):
+    def time(self, lines: int) -> None:
         """The page of a long trace: the program and the browser each take about a second at most."""
         text = lawful_trace(8, 4, lines, 1)
         page, begun = self.folder / "page.html", time.perf_counter()
@@ -374,7 +377,7 @@ class Looks:
 
 
 @pytest.fixture(scope="module")
-def browser(tmp_path_factory):
+def browser(tmp_path_factory: pytest.TempPathFactory) -> Iterator[Browser]:
     needs_tools("chromium")
     browser = Browser("chromium", tmp_path_factory.mktemp("browser"))
     yield browser
@@ -382,27 +385,27 @@ def browser(tmp_path_factory):
 
 
 @pytest.fixture
-def looks(browser, differences, tmp_path):
+def looks(browser: Browser, differences: Differences, tmp_path: Path) -> Looks:
     return Looks(browser, differences, tmp_path)
 
 
 @pytest.mark.parametrize("path", sorted(EXAMPLES.rglob("*.trace")), ids=lambda path: str(path.relative_to(EXAMPLES)))
-def test_the_page_of_an_example(looks, path):
+def test_the_page_of_an_example(looks: Looks, path: Path) -> None:
     looks.look_at(path.stem, path.read_bytes())
 
 
 @pytest.mark.parametrize("seed, widths", enumerate(((8, 8), (1, 16), (64, 8), (4, 32), (128, 16))))
-def test_the_page_of_a_random_trace(looks, seed, widths):
+def test_the_page_of_a_random_trace(looks: Looks, seed: int, widths: Tuple[int, int]) -> None:
     looks.look_at(f"random, {widths}", lawful_trace(*widths, 60, seed))
 
 
-def test_the_page_of_markup_in_place_of_a_line(looks):
+def test_the_page_of_markup_in_place_of_a_line(looks: Looks) -> None:
     looks.look_at("markup", b'tilelink-trace 1 client 8 manager 8\n<b>"A&amp;"</b> <script>alert(1)</script>\n')
 
 
-def test_the_notes_of_a_waveform(looks):
+def test_the_notes_of_a_waveform(looks: Looks) -> None:
     looks.look_at_notes("notes of a waveform")
 
 
-def test_the_page_of_a_long_trace_is_there_in_time(looks):
+def test_the_page_of_a_long_trace_is_there_in_time(looks: Looks) -> None:
     looks.time(10_000)

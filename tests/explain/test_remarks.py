@@ -16,9 +16,13 @@ import random
 import re
 import subprocess
 from collections import Counter, defaultdict, deque
+from pathlib import Path
+from typing import Any, DefaultDict, Deque, Dict, List, Optional, Tuple
+from typing import Counter as CounterType
 
 import pytest
 import starter
+from differences import Differences
 from project import MODEL, needs_program, script
 from random_traces import lawful_trace
 from tlbridge.protocol import RESPONSES
@@ -30,19 +34,22 @@ REPORTS = ("TtoB", "TtoN", "BtoN", "TtoT", "BtoB", "NtoN")
 # The permissions in their order.
 RIGHTS = "NBT"
 
+# How often each remark is made: a line, and the text.
+Remarks = CounterType[Tuple[Optional[int], str]]
 
-def name_of(message):
-    return "GrantAck" if message.channel == "E" else model.OPCODES[message.channel][message.head["opcode"]][0]
+
+def name_of(message: Any) -> str:
+    return "GrantAck" if message.channel == "E" else str(model.OPCODES[message.channel][message.head["opcode"]][0])
 
 
 class Model:
     """The remarks on a text: pairs of a line and the text after `remark: `, without the section of the
     specification."""
 
-    def __init__(self, text):
+    def __init__(self, text: bytes) -> None:
         (version, client, manager), script = model.read(text)
         self.digits = model.ID_DIGITS[version]
-        self.remarks = Counter()
+        self.remarks: Remarks = Counter()
         lines = defaultdict(list)
         for number, line in enumerate(text.decode().splitlines()[1:], 2):
             lines[line[0]].append(number)
@@ -63,7 +70,7 @@ class Model:
         self.look_at_all()
 
     @staticmethod
-    def accepted_of(text):
+    def accepted_of(text: bytes) -> Tuple[Dict[str, int], Dict[str, bool]]:
         """How many beats of each channel are accepted, and on which channels all are."""
         ended = starter.run([MODEL, "check"], text=text)
         reports = [line.split() for line in ended.stdout.decode().splitlines() if line.startswith("= ")]
@@ -71,17 +78,17 @@ class Model:
             words[1]: words[2] in ("done", "cut") for words in reports
         }
 
-    def id(self, number):
+    def id(self, number: int) -> str:
         return f"{number:0{self.digits}x}"
 
-    def say(self, line, sentence):
+    def say(self, line: int, sentence: str) -> None:
         self.remarks[line, sentence] += 1
 
-    def look_at_beat(self, message, beat, number):
+    def look_at_beat(self, message: Any, beat: Any, number: int) -> None:
         if message.channel == "D" and message.head["denied"] and message.has_data and not beat.corrupt:
             self.say(number, "data that are denied have to be corrupt")
 
-    def look_at_all(self):
+    def look_at_all(self) -> None:
         a, b, c, d, e = (self.messages[channel] for channel in "ABCDE")
         for message in a:
             if name_of(message) == "AcquirePerm" and message.head["param"] == 0:
@@ -93,8 +100,8 @@ class Model:
         acks = [message for message in d if name_of(message) == "ReleaseAck"]
         grants = [message for message in d if name_of(message).startswith("Grant")]
 
-        def source(message):
-            return message.head["source"]
+        def source(message: Any) -> int:
+            return int(message.head["source"])
 
         self.exchange("A", a, "D", [m for m in d if m not in acks], source, "response of source", None)
         self.exchange(
@@ -109,8 +116,10 @@ class Model:
         self.exchange("C", releases, "D", acks, source, "ReleaseAck of source", "Release of source")
         self.exchange("D", grants, "E", e, lambda m: m.head["sink"], "GrantAck of sink", "Grant of sink")
 
-    def exchange(self, asking, asks, answering, answers, key, lacks, answered):
-        waiting = defaultdict(deque)
+    def exchange(
+        self, asking: Any, asks: Any, answering: Any, answers: Any, key: Any, lacks: Any, answered: Any
+    ) -> None:
+        waiting: DefaultDict[Any, Deque[Any]] = defaultdict(deque)
         for ask in asks:
             waiting[key(ask)].append(ask)
         for answer in answers:
@@ -131,7 +140,7 @@ class Model:
                     what, known = f"{'ProbeAck' if is_probe else 'response'} of source", known[0]
                 self.say(ask.line, f"no {what} {self.id(known)} answers it")
 
-    def judge(self, ask, answer):
+    def judge(self, ask: Any, answer: Any) -> None:
         asked, name = name_of(ask), name_of(answer)
         if name == "GrantAck":
             return
@@ -147,10 +156,11 @@ class Model:
                 self.say(answer.line, f"it reports {report}, but {asked}, in line {ask.line}, leaves {cap}")
 
 
-def said_by(program, text):
+def said_by(program: Path, text: bytes) -> Remarks:
     """The remarks that the program makes."""
     ended = subprocess.run([program], input=text, capture_output=True)
-    found, line = Counter(), None
+    found: Remarks = Counter()
+    line = None
     for said in ended.stdout.decode().splitlines():
         number = re.match(r"line (\d+):", said)
         remark = re.fullmatch(r"    remark: (.*) \(TileLink 1\.8: \w+\)", said)
@@ -163,7 +173,7 @@ def said_by(program, text):
     return found
 
 
-def other(line, randomness):
+def other(line: str, randomness: random.Random) -> str:
     """A line with another opcode, param, source, sink or denied; most such lines still cross the bridge."""
     words = line.split(" ")
     channel = words[0]
@@ -193,7 +203,7 @@ def other(line, randomness):
     return " ".join(words)
 
 
-def spoilt(lines, randomness):
+def spoilt(lines: List[str], randomness: random.Random) -> List[str]:
     """The lines with one to four mistakes in them: one is another, or comes not at all, or twice."""
     lines = list(lines)
     for _ in range(randomness.randint(1, 4)):
@@ -205,7 +215,7 @@ def spoilt(lines, randomness):
     return lines
 
 
-def lawful_failure(program, number, lines):
+def lawful_failure(program: Path, number: int, lines: int) -> Tuple[Optional[str], int]:
     """Returns the error in the output for the lawful trace of this number with `lines` lines, or None, and the lines
     that it has."""
     widths = [(client, manager) for client in model.WIDTHS for manager in model.WIDTHS]
@@ -221,11 +231,11 @@ def lawful_failure(program, number, lines):
 class Row:
     """A line of a trace, wherever mistakes move it."""
 
-    def __init__(self, text):
+    def __init__(self, text: str) -> None:
         self.text = text
 
 
-def exchanges_of(text):
+def exchanges_of(text: bytes) -> Any:
     """The header of a lawful trace, its rows, and its exchanges: in each the messages that follow each other, as lists
     of rows."""
     (_, client, manager), script = model.read(text)
@@ -242,8 +252,9 @@ def exchanges_of(text):
     releases = [message for message in found["C"] if name_of(message).startswith("Release")]
     place = {id(row): at for at, row in enumerate(rows)}
 
-    def answered(asks, answers, key):
-        waiting, found = defaultdict(deque), []
+    def answered(asks: Any, answers: Any, key: Any) -> Any:
+        waiting: DefaultDict[Any, Deque[Any]] = defaultdict(deque)
+        found = []
         for message in sorted([*asks, *answers], key=lambda message: place[id(message.rows[0])]):
             if message in answers:
                 found.append((waiting[key(message)].popleft(), message))
@@ -251,7 +262,7 @@ def exchanges_of(text):
                 waiting[key(message)].append(message)
         return found
 
-    def by(name):
+    def by(name: str) -> Any:
         return lambda message: message.head[name]
 
     return (
@@ -270,20 +281,20 @@ def exchanges_of(text):
     )
 
 
-def without(rows, exchange):
+def without(rows: List[Any], exchange: Any) -> Any:
     """The rows without the answer of an exchange, and those of which a remark may speak."""
     gone = {id(row) for row in exchange[1].rows}
     return [row for row in rows if id(row) not in gone], [exchange[0].rows[0]]
 
 
-def repeated(rows, exchange):
+def repeated(rows: List[Any], exchange: Any) -> Any:
     """The rows with the answer of an exchange twice."""
     again = [Row(row.text) for row in exchange[1].rows]
     behind = rows.index(exchange[1].rows[-1]) + 1
     return [*rows[:behind], *again, *rows[behind:]], [exchange[1].rows[0], again[0], exchange[0].rows[0]]
 
 
-def shared(rows, exchanges, randomness):
+def shared(rows: List[Any], exchanges: Any, randomness: random.Random) -> Any:
     """The rows in which a request has the source of one that is not answered yet."""
     place = {id(row): at for at, row in enumerate(rows)}
     asked = [(place[id(ask.rows[0])], place[id(answer.rows[0])], ask, answer) for ask, answer in exchanges]
@@ -301,7 +312,7 @@ def shared(rows, exchanges, randomness):
     return rows, [ask.rows[0], other.rows[0]]
 
 
-def mistaken(what, rows, exchanges, randomness):
+def mistaken(what: str, rows: List[Any], exchanges: Any, randomness: random.Random) -> Any:
     """The rows with this mistake, and those of which its remark may speak."""
     pairs = exchanges[what.split()[-1]]
     if what.startswith("shared"):
@@ -323,7 +334,7 @@ MISTAKES = (
 )
 
 
-def in_order_failure(program, seed, what):
+def in_order_failure(program: Path, seed: int, what: str) -> Optional[str]:
     """Returns the error in the remarks on a conversation with this mistake, or on a lawful one."""
     randomness = random.Random(f"in order {seed} {what}")
     client, manager = (randomness.choice(model.WIDTHS[2:6]) for _ in range(2))
@@ -351,7 +362,7 @@ LAWFUL_LINES, EACH, LAWFUL_PARTS = 1_000_000, 10_000, 11
 CONVERSATIONS = 6
 
 
-def random_remarks(number, seed=1):
+def random_remarks(number: int, seed: int = 1) -> Any:
     """The remarks that are wanted on a random trace of this number, and those that come."""
     randomness = random.Random(f"{seed} {number}")
     client, manager = randomness.choice(model.WIDTHS[4:7]), randomness.choice(model.WIDTHS[4:7])
@@ -368,7 +379,7 @@ def random_remarks(number, seed=1):
 @pytest.mark.parametrize(
     "part", [pytest.param(part, marks=[pytest.mark.long] if part else []) for part in range(PARTS)]
 )
-def test_random_traces_with_mistakes(differences, part):
+def test_random_traces_with_mistakes(differences: Differences, part: int) -> None:
     """The remarks are those of the model, and there are some."""
     count = 0
     for number in range(PART * part, PART * (part + 1)):
@@ -381,7 +392,7 @@ def test_random_traces_with_mistakes(differences, part):
 
 @pytest.mark.long
 @pytest.mark.parametrize("part", range(LAWFUL_PARTS))
-def test_lawful_traces_have_no_remark(differences, part):
+def test_lawful_traces_have_no_remark(differences: Differences, part: int) -> None:
     """Long traces, of which each may end before it has all its lines, so there are some more of them."""
     numbers, lines = range(LAWFUL_LINES * 11 // 10 // EACH + 1), 0
     for number in numbers[part::LAWFUL_PARTS]:
@@ -394,6 +405,6 @@ def test_lawful_traces_have_no_remark(differences, part):
 @pytest.mark.long
 @pytest.mark.parametrize("what", ("", *MISTAKES), ids=lambda what: what or "lawful")
 @pytest.mark.parametrize("seed", range(CONVERSATIONS))
-def test_a_conversation_in_order(seed, what):
+def test_a_conversation_in_order(seed: int, what: str) -> None:
     """A lawful one has no remark, and one with a mistake has one."""
     assert in_order_failure(needs_program("tlexplain"), seed, what) is None

@@ -11,6 +11,7 @@ import html
 import re
 import subprocess
 from pathlib import Path
+from typing import Any, Iterator, Sequence, Tuple
 
 import pytest
 from project import ROOT, needs_program
@@ -99,20 +100,20 @@ QUOTED = re.compile(r'"((?:[^"\\]|\\.|\\\n)*)"')
 ESCAPES = {"\\n": "\n", '\\"': '"', "\\\\": "\\", "\\'": "'", "\\t": "\t", "\\r": "\r"}
 
 
-def run(program, words, text):
+def run(program: Path, words: Sequence[str], text: bytes) -> Tuple[bytes, bytes, int]:
     said = subprocess.run(
         ["tlexplain", *words], executable=program, input=text, capture_output=True, timeout=60, cwd=HERE
     )
     return said.stdout, said.stderr, said.returncode
 
 
-def plain(text):
+def plain(text: str) -> str:
     """A text with each run of blanks as one, without what a page escapes: help is broken into lines, and HTML has its
     own quotes."""
     return html.unescape(re.sub(r"\s+", " ", text))
 
 
-def literals(path):
+def literals(path: Path) -> Iterator[str]:
     """The texts in quotes of a source file, outside comments and tests, each in the parts between its `#` and `{}`."""
     source = re.sub(r"(?m)^\s*//.*$|b?'\\?\"'", "", path.read_text())
     for found in QUOTED.finditer(source):
@@ -123,7 +124,7 @@ def literals(path):
                 yield part
 
 
-def stored():
+def stored() -> str:
     """All stored outputs as one text, with the links of pages and without them."""
     files = [path for path in HERE.iterdir() if path.suffix in (".text", ".json", ".html", ".error")]
     for end in (".explain", ".lanes", ".json", ".html", ".order"):
@@ -133,7 +134,7 @@ def stored():
     return text + re.sub(r"<a href[^>]*>|</a>", "", text)
 
 
-def unseen():
+def unseen() -> Iterator[str]:
     """The texts in quotes that no stored output has, with their files."""
     said, never = stored(), {plain(text) for texts in NEVER.values() for text in texts}
     stale = set(never)
@@ -147,7 +148,7 @@ def unseen():
 
 
 @pytest.mark.parametrize("name, trace, options, status", CASES, ids=[name for name, *_ in CASES])
-def test_the_stored_output(name, trace, options, status):
+def test_the_stored_output(name: str, trace: str, options: Any, status: int) -> None:
     """The output, the standard error and the status are the stored ones."""
     error = HERE / f"{name}.error"
     wanted = (
@@ -158,12 +159,12 @@ def test_the_stored_output(name, trace, options, status):
     assert run(needs_program("tlexplain"), options.split(), (HERE / f"{trace}.trace").read_bytes()) == wanted
 
 
-def test_a_page_of_many_remarks():
+def test_a_page_of_many_remarks() -> None:
     """A page lists only so many, and says that there may be more."""
     text, end = MANY
     assert end.encode() in run(needs_program("tlexplain"), ["--html"], text.encode())[0]
 
 
-def test_each_sentence_is_in_a_stored_output():
+def test_each_sentence_is_in_a_stored_output() -> None:
     """Each text in quotes of the sources is shown by an output, or has its reason in NEVER."""
     assert list(unseen()) == []

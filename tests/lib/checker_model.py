@@ -306,7 +306,7 @@ class Checker:
         return faults, request
 
     def cycle(
-        self, reset: bool, beats: Mapping[str, Beat], accepted: Collection[str]
+        self, reset: int, beats: Mapping[str, Beat], accepted: Collection[str]
     ) -> Tuple[Dict[str, int], int, bool, List[str]]:
         """The faults, the count after the edge, `overflow`, and the reports, of a cycle with these offered beats."""
         link = self.link

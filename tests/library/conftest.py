@@ -6,7 +6,7 @@ from typing import List
 
 import pytest
 from board_library import is_newer
-from commands import run, said
+from commands import Word, run, said
 from library_tree import PAIRS, programs
 from once import made_once
 from project import ROOT, needs_library, needs_tools
@@ -27,7 +27,15 @@ def prefix(tmp_path_factory: pytest.TempPathFactory) -> Path:
         pytest.skip(f"out/{old[0]} is older than its sources (`make install PAIRS=\"{' '.join(PAIRS)}\"`)")
 
     def install(folder: Path) -> None:
-        words = ["make", "-C", ROOT, "install", f"PREFIX={folder}/prefix", f"PAIRS={' '.join(PAIRS)}", programs()]
+        words: List[Word] = [
+            "make",
+            "-C",
+            ROOT,
+            "install",
+            f"PREFIX={folder}/prefix",
+            f"PAIRS={' '.join(PAIRS)}",
+            programs(),
+        ]
         done = run(words, timeout=3600)
         assert done.returncode == 0, said(done)
 

@@ -23,7 +23,7 @@ import time
 import venv
 import zipfile
 from pathlib import Path
-from typing import List, NamedTuple
+from typing import Any, Dict, List, NamedTuple, Sequence, Set, Tuple
 
 import library_symbols
 import pytest
@@ -54,7 +54,7 @@ VERSIONS = {
 # ---- Installing
 
 
-def make(top, *words, source=ROOT):
+def make(top: Path, *words: Any, source: Path = ROOT) -> str:
     """Runs make in `source` for the tree below a folder. Returns its output if it failed, otherwise nothing."""
     command = ["make", "--no-print-directory", "-C", str(source), *words, f"DESTDIR={top}", f"PREFIX={STAGED_PREFIX}"]
     command += ["CFLAGS=-O0"] * (source != ROOT)
@@ -69,13 +69,13 @@ def make(top, *words, source=ROOT):
     return "" if done.returncode == 0 else f"{' '.join(words)}:\n{done.stdout[-2000:]}"
 
 
-def plain_environment():
+def plain_environment() -> Dict[str, str]:
     """The environment without the variables of another make, as this may be a part of `make test BUILDS=both`."""
     left_out = ("MAKEFLAGS", "MFLAGS", "MAKELEVEL", "BUILDS", "C", "M", "DESTDIR", "PREFIX", "PAIRS", "PROGRAMS")
     return {name: value for name, value in os.environ.items() if name not in left_out}
 
 
-def is_fresh(*made):
+def is_fresh(*made: Path) -> bool:
     """Whether all of these files are there, and no source of a crate is newer."""
     if not all(path.exists() for path in made):
         return False
@@ -87,7 +87,15 @@ def is_fresh(*made):
     return all(path.stat().st_mtime <= oldest for path in sources if path.is_file())
 
 
-def with_stand_ins(folder, pairs):
+def copy_of(source: Path, place: Path) -> None:
+    """Copies a file or a folder."""
+    if source.is_dir():
+        shutil.copytree(source, place)
+    else:
+        shutil.copy2(source, place)
+
+
+def with_stand_ins(folder: Path, pairs: Sequence[str]) -> Path:
     """A copy of what makes the library, with the plain bridge in the place of each proved archive."""
     for name in (
         "sv",
@@ -100,7 +108,7 @@ def with_stand_ins(folder, pairs):
         "crates.txt",
     ):
         (folder / name).parent.mkdir(parents=True, exist_ok=True)
-        (shutil.copytree if (ROOT / name).is_dir() else shutil.copy2)(ROOT / name, folder / name)
+        copy_of(ROOT / name, folder / name)
     (folder / "out").mkdir()
     for pair in (*pairs, "trace"):
         made, archive = folder / "out" / f"plain_{pair}.o", folder / "out" / f"libtlbridge_{pair}.a"
@@ -116,7 +124,7 @@ def with_stand_ins(folder, pairs):
     return folder
 
 
-def calls_of_trace(folder):
+def calls_of_trace(folder: Path) -> Path:
     """A source with the calls of the trace library, which do nothing."""
     source = folder / "trace.c"
     source.write_text(
@@ -205,7 +213,7 @@ def test_the_tree_has_the_program(name: str, installed: Installed) -> None:
 # ---- The files
 
 
-def expected_files(parts, pairs):
+def expected_files(parts: Sequence[str], pairs: Sequence[str]) -> Dict[str, int]:
     """Each file of the tree with its mode, by the files of this repository."""
     files = {
         "include/tlbridge.h": 0o644,
@@ -250,7 +258,8 @@ def test_each_file_is_there_with_its_mode(installed: Installed) -> None:
     tree = installed.tree
     parts = installed.parts
     pairs = installed.pairs
-    wanted, found = expected_files(parts, pairs), {}
+    wanted = expected_files(parts, pairs)
+    found: Dict[str, int] = {}
     links = {"share/tlbridge/include": "../../include", "share/doc/tlbridge": "../tlbridge"}
     if "install-library" in parts:
         links["lib/libtlbridge.so"] = f"libtlbridge.so.{INTERFACE}"
@@ -288,7 +297,7 @@ def test_no_file_names_the_folder_that_it_was_installed_from_or_into(installed: 
 # ---- The pages
 
 
-def anchors(page):
+def anchors(page: Path) -> Set[str]:
     """The names by which the headings of a page can be linked."""
     headings = re.findall(r"^#+ (.+)$", page.read_text(), re.M)
     return {re.sub(r"[^\w\- ]", "", re.sub(r"[`*]", "", heading).lower()).replace(" ", "-") for heading in headings}
@@ -318,7 +327,7 @@ def test_each_link_of_a_page_leads_somewhere(installed: Installed) -> None:
 # ---- The commands
 
 
-def options_of(tree, name):
+def options_of(tree: Path, name: str) -> Set[str]:
     """The options that a command's help has."""
     found = set()
     for words in ((), ("run",), ("check",)) if name in ("tlbridge", "tlbridge-model") else ((),):
@@ -337,7 +346,7 @@ def options_of(tree, name):
     return found
 
 
-def completed(tree, name, words):
+def completed(tree: Path, name: str, words: Sequence[str]) -> Set[str]:
     """Returns the completions of bash after these words of a command."""
     script = (
         '. "$1"; shift; COMP_WORDS=("$@"); COMP_CWORD=$(($# - 1)); complete -p "${1##*/}" > /dev/null && _tlbridge'
@@ -493,31 +502,29 @@ def test_each_option_has_its_entry_in_the_man_page_and_its_completion(installed:
         ("tlbridge-verify", ["--largest", "6"], {"64"}),
         ("tlbridge-prove", ["--seconds", ""], set()),
     ):
-        found = completed(tree, name, words) if shutil.which("bash") else wanted
-        tests.test(found == wanted, f"{name} {' '.join(words)}: bash completes {sorted(found)}")
+        shown = completed(tree, name, words) if shutil.which("bash") else wanted
+        tests.test(shown == wanted, f"{name} {' '.join(words)}: bash completes {sorted(shown)}")
     # also of a program that is not built: what bash completes has an entry in the man page, and the other way round
     for page in sorted((tree / "share" / "man" / "man1").glob("tl*.1")):
         name, text = page.stem, page.read_text().replace("\\-", "-")
-        entries = {*re.findall(r"--[a-z][a-z-]*", " ".join(re.findall(r"^\.TP\n(.*)$", text, re.M)))} | (
+        written = {*re.findall(r"--[a-z][a-z-]*", " ".join(re.findall(r"^\.TP\n(.*)$", text, re.M)))} | (
             {"--ignore-unmasked", "--program"} if name == "tlbridge-trace" else set()
         )
         beginnings = (
             [["run", "--"], ["check", "--"], ["--"]] if name in ("tlbridge", "tlbridge-model") else [["8", "4", "--"]]
         )
-        completes = (
-            set().union(*(completed(tree, name, words) for words in beginnings)) - {"--some-file"}
-            if shutil.which("bash")
-            else entries
-        )
+        completes = written
+        if shutil.which("bash"):
+            completes = {option for words in beginnings for option in completed(tree, name, words)} - {"--some-file"}
         tests.test(
-            completes == entries,
+            completes == written,
             (
-                f"{name}: bash completes {sorted(completes - entries)}, and not {sorted(entries - completes)} of its"
+                f"{name}: bash completes {sorted(completes - written)}, and not {sorted(written - completes)} of its"
                 " man page"
             ),
         )
     statuses_fit(tests, tree)
-    model = [tree / "bin" / "tlbridge-model", "run", tree / "share" / "tlbridge" / "examples" / "get.trace"]
+    model: List[Any] = [tree / "bin" / "tlbridge-model", "run", tree / "share" / "tlbridge" / "examples" / "get.trace"]
     answer = subprocess.run(model, stdout=subprocess.PIPE, text=True).stdout
     tests.test(answer == (ROOT / "examples" / "get.answer").read_text(), f"the installed model prints {answer}")
     tests.verdict()
@@ -618,7 +625,7 @@ def test_a_library_of_other_pairs_has_only_those(installed: Installed, tmp_path:
         tests.test(not failure, f"make {failure}")
     for name in ("libtlbridge.a", "libtlbridge.so"):
         found = library_symbols.defined(tree / "lib" / name, *(["-D"] if name.endswith(".so") else []))
-        of = {re.match(r"tl_(\d+_\d+)_", name)[1] for name in found if re.match(r"tl_\d+_\d+_", name)}
+        of = {pair for name in found for pair in re.findall(r"^tl_(\d+_\d+)_", name)}
         tests.test(of == {pair}, f"lib/{name} has the calls of {of}, after PAIRS={pair}")
     scoreboard = subprocess.run(
         [
@@ -706,7 +713,7 @@ def built(folder: Path, room: Path, kind: str, **environment: str) -> "subproces
     )
 
 
-def wheel_of(folder, room, **environment):
+def wheel_of(folder: Path, room: Path, **environment: str) -> Tuple[str, Dict[str, bytes], str]:
     """Builds the wheel of a folder. Returns its name, and its files, or the error."""
     done = built(folder, room, "wheel", **environment)
     name = done.stdout.strip()
@@ -789,7 +796,7 @@ def test_the_library_of_a_wheel(installed: Installed, tmp_path: Path) -> None:
         name, files, error = wheel_of(place, room, **({} if library is None else {"TLBRIDGE_LIBRARY": library}))
         tests.test(
             files.get("tlbridge/libtlbridge.so") == text,
-            f"a wheel with {what} has the library {files.get('tlbridge/libtlbridge.so')}: {error}",
+            f"a wheel with {what} has the library {files.get('tlbridge/libtlbridge.so')!r}: {error}",
         )
         tests.test(
             bool(re.fullmatch(rf"tlbridge-{re.escape(VERSION)}-py3-none-any\.whl", name)) == (text is None),
@@ -972,7 +979,7 @@ def test_a_project_elsewhere_finds_the_library(installed: Installed, tmp_path: P
 # ---- The words of make
 
 
-def with_everything(folder, pairs):
+def with_everything(folder: Path, pairs: Sequence[str]) -> Path:
     """A copy of all that `make install` takes, with stand-ins for the proved archives and for the programs, and with a
     compiled file of Python.
     """
@@ -988,7 +995,7 @@ def with_everything(folder, pairs):
         *(path.name for path in ROOT.glob("tl*-*") if path.is_file()),
     ):
         (folder / name).parent.mkdir(exist_ok=True)
-        (shutil.copytree if (ROOT / name).is_dir() else shutil.copy2)(ROOT / name, folder / name)
+        copy_of(ROOT / name, folder / name)
     for place in ("python/tlbridge", "python/tlbridge/waves"):
         (folder / place / "__pycache__").mkdir(exist_ok=True)
         (folder / place / "__pycache__" / "old.pyc").write_text("")
@@ -998,11 +1005,11 @@ def with_everything(folder, pairs):
     return folder
 
 
-def said_by_make(source, *words, **environment):
+def said_by_make(source: Path, *words: Any, **environment: str) -> Tuple[int, str]:
     """The status and the output of make with these words."""
     environment = {**plain_environment(), **environment}
     done = subprocess.run(
-        [shutil.which("make"), "--no-print-directory", "-C", str(source), *words],
+        [shutil.which("make") or "make", "--no-print-directory", "-C", str(source), *words],
         stdin=subprocess.DEVNULL,
         stdout=subprocess.PIPE,
         stderr=subprocess.STDOUT,
@@ -1030,7 +1037,7 @@ def test_the_words_of_make(installed: Installed, tmp_path: Path) -> None:
             status == 2 and said.startswith("make: give both widths in bytes, for example make library C=8 M=4\n"),
             f"make library {' '.join(words)}: status {status}, {said}",
         )
-    runs = {  # what `make -n` has to print, and what it must not
+    runs: Dict[Tuple[str, ...], Tuple[List[str], List[str]]] = {  # what `make -n` has to print, and what it must not
         ("library", "C=1", "M=128"): (["tools/make-library 1 128\n"], ["install"]),
         ("install-files",): (
             [
@@ -1072,12 +1079,12 @@ def test_the_words_of_make(installed: Installed, tmp_path: Path) -> None:
             [],
         ),
     }
-    for words, (wanted, others) in runs.items():
-        status, said = said_by_make(source, "-n", *words)
+    for target, (wanted, others) in runs.items():
+        status, said = said_by_make(source, "-n", *target)
         lacking, wrong = [text for text in wanted if text not in said], [text for text in others if text in said]
         tests.test(
             status == 0 and not lacking and not wrong,
-            f"make -n {' '.join(words)}: status {status}; not printed: {lacking}; printed: {wrong}",
+            f"make -n {' '.join(target)}: status {status}; not printed: {lacking}; printed: {wrong}",
         )
     said = said_by_make(source, "-n", "install", "PREFIX=/p")[1]
     steps = [
@@ -1097,7 +1104,7 @@ def test_the_words_of_make(installed: Installed, tmp_path: Path) -> None:
     )
     tools.mkdir()
     for tool in ("sh", "sed", "find", "uname", "tr", "install"):
-        (tools / tool).symlink_to(shutil.which(tool))
+        (tools / tool).symlink_to(str(shutil.which(tool)))
     for words in (("programs",), ("install-tlbridge", f"PREFIX={room}/p"), ("install-tlexplain", f"PREFIX={room}/p")):
         status, said = said_by_make(source, *words, PATH=str(tools))
         tests.test(
@@ -1132,13 +1139,13 @@ def test_the_archive_of_make_dist_has_the_files_of_the_tree(installed: Installed
     if status:
         return tests.verdict()
     with tarfile.open(source / name) as archive:
-        found = {
+        found: Dict[str, object] = {
             member.name: (
                 stat.S_IMODE(member.mode) if member.isfile() else member.linkname if member.issym() else "folder"
             )
             for member in archive.getmembers()
         }
-    wanted = {f"tlbridge-{VERSION}": "folder"}
+    wanted: Dict[str, object] = {f"tlbridge-{VERSION}": "folder"}
     for path in tree.rglob("*"):
         inner = path.relative_to(tree)
         if str(inner) not in ("bin/tlbridge", "bin/tlexplain"):

@@ -48,7 +48,7 @@ def test_parts_that_were_made_are_not_made_again(prefix: Path) -> None:
     assert "make-library" not in make("library", "C=8", "M=4")
 
 
-WITHOUT_RT = {
+WITHOUT_RT: Dict[str, List[Word]] = {
     "make out/libtlbridge_8_4.a": ["make", "-C", ROOT, "-W", "crates.txt", "out/libtlbridge_8_4.a"],
     "make programs": ["make", "-C", ROOT, "programs"],
     "tools/make-library": [ROOT / "tools" / "make-library", "8", "4"],

@@ -16,8 +16,11 @@ None may refuse a beat or keep one waiting, and far beats that are offered again
 """
 
 import subprocess
+from pathlib import Path
+from typing import Any, Dict, List, Sequence
 
 import pytest
+from differences import Differences
 from project import EXAMPLES, ROOT, needs_program
 from random_traces import Maker, lawful_trace
 
@@ -35,21 +38,21 @@ class UnreadableError(Exception):
 class Link:
     """The widths and the version of a trace, and its near beats: lines by channel."""
 
-    def __init__(self, version, client, manager, beats):
+    def __init__(self, version: int, client: int, manager: int, beats: Dict[str, List[str]]) -> None:
         self.version, self.client, self.manager, self.beats = version, client, manager, beats
 
     @classmethod
-    def of_text(cls, text):
+    def of_text(cls, text: str) -> "Link":
         first, *lines = text.splitlines()
         _, version, _, client, _, manager = first.split(" ")
         return cls(
-            version,
+            int(version),
             int(client),
             int(manager),
             {channel: [line for line in lines if line[0] == channel] for channel in "ABCDE"},
         )
 
-    def text(self):
+    def text(self) -> str:
         lines = [line for channel in "ABCDE" for line in self.beats.get(channel, [])]
         return "\n".join([f"tilelink-trace {self.version} client {self.client} manager {self.manager}", *lines, ""])
 
@@ -58,7 +61,7 @@ class Answer:
     """The program's answer: the far beats as lines by channel, and each channel's verdict and number of accepted
     beats."""
 
-    def __init__(self, program, text):
+    def __init__(self, program: Path, text: str) -> None:
         done = subprocess.run(
             [program, "run", "--sync"], input=text.encode("latin-1"), capture_output=True, timeout=60, check=False
         )
@@ -72,19 +75,19 @@ class Answer:
         self.verdicts = {words[1]: words[2] for words in reports}
         self.accepted = {words[1]: int(words[3]) for words in reports}
 
-    def stopped(self):
+    def stopped(self) -> List[str]:
         return [f"{channel} {kind}" for channel, kind in self.verdicts.items() if kind in ("refused", "waiting")]
 
 
-def accepted(link, answer, channels):
+def accepted(link: Link, answer: Answer, channels: str) -> Dict[str, List[str]]:
     return {channel: link.beats[channel][: answer.accepted[channel]] for channel in channels}
 
 
-def arrived(answer, channels):
+def arrived(answer: Answer, channels: str) -> Dict[str, List[str]]:
     return {channel: answer.far[channel] for channel in channels}
 
 
-def link_fails(program, link, sent_again):
+def link_fails(program: Path, link: Link, sent_again: Any) -> List[str]:
     """What is wrong with a history of one link: beats that are refused, or far beats of a first bridge that change at
     their own width."""
     answer = Answer(program, link.text())
@@ -92,11 +95,11 @@ def link_fails(program, link, sent_again):
     return answer.stopped() + [f"{channel} changed" for channel in changed]
 
 
-def second_bridge(program, version, middle, last, beats):
+def second_bridge(program: Path, version: int, middle: int, last: int, beats: Any) -> Answer:
     """Two bridges in a row. A, C and E go on from `middle` to `last` bytes. B and D begin with `middle` bytes and are
     laid out at `last` bytes first, by a bridge the other way round, as far as the requests that came have it, until
     nothing more comes."""
-    responses = {"B": [], "D": []}
+    responses: Dict[str, List[str]] = {"B": [], "D": []}
     while True:
         there = Link(version, middle, last, {**{channel: beats[channel] for channel in TO_MANAGER}, **responses})
         answer = Answer(program, there.text())
@@ -107,13 +110,13 @@ def second_bridge(program, version, middle, last, beats):
         responses = came
 
 
-def comes_back(far, sent):
+def comes_back(far: Sequence[str], sent: Sequence[str]) -> bool:
     """Whether the far beats that arrived are the first ones of those that were sent. A wider link between marks all of
     its beat corrupt, so more may be corrupt."""
     return all(came[:-1] == beat[:-1] and came[-1] >= beat[-1] for came, beat in zip(far, sent))
 
 
-def second_fails(program, version, middle, last, beats):
+def second_fails(program: Path, version: int, middle: int, last: int, beats: Any) -> List[str]:
     answer = second_bridge(program, version, middle, last, beats)
     sent = arrived(Answer(program, Link(version, middle, middle, beats).text()), TO_CLIENT)
     found = answer.stopped()
@@ -125,7 +128,7 @@ def second_fails(program, version, middle, last, beats):
     return found
 
 
-def fails(program, text):
+def fails(program: Path, text: str) -> List[str]:
     """Each error after the bridge of this trace, in words."""
     answer = Answer(program, text)
     link = Link.of_text(text)
@@ -151,12 +154,12 @@ def fails(program, text):
     return found
 
 
-def random_trace(number):
+def random_trace(number: int) -> str:
     client, manager = PAIRS[number % len(PAIRS)]
     return lawful_trace(client, manager, 150, number, sources=(1, 3, 8)[number % 3], sizes=range(9)).decode()
 
 
-def soaked(number):
+def soaked(number: int) -> str:
     """The text of a random case, every second one with faults. The pairs of widths are spread
     over all of them."""
     case = Maker("chain", SPREAD * number)
@@ -167,7 +170,7 @@ def soaked(number):
 EXAMPLE_TRACES = sorted(EXAMPLES.rglob("*.trace"))
 
 
-def test_the_examples(differences):
+def test_the_examples(differences: Differences) -> None:
     """Each readable trace of examples/. Most of them are."""
     program, count = needs_program("tlbridge"), 0
     for path in EXAMPLE_TRACES:
@@ -181,11 +184,11 @@ def test_the_examples(differences):
 
 
 @pytest.mark.parametrize("number", range(MOST))
-def test_a_random_trace(number):
+def test_a_random_trace(number: int) -> None:
     assert fails(needs_program("tlbridge"), random_trace(number)) == []
 
 
 @pytest.mark.parametrize("number", range(MOST))
-def test_a_random_case(number):
+def test_a_random_case(number: int) -> None:
     """Every second one with faults."""
     assert fails(needs_program("tlbridge"), soaked(number)) == []

@@ -14,9 +14,12 @@ import sys
 import tempfile
 import termios
 import time
+from pathlib import Path
+from typing import Any, Dict, Iterable, List, Optional, Tuple
 
 import program_cases as cases
 import pytest
+from differences import Differences
 from program_cases import WHOLE, Trace, compare, runs_of
 
 # Each side in its own thread, and both in one, with the smallest rings and turns. Then sizes around those of stage and
@@ -68,13 +71,13 @@ EXAMPLES = [trace for trace in TRACES if trace.name.endswith(".trace")]
 ON_ALL_SIZES = [*(NAMED[name] for name in CROSSED), *EXAMPLES]
 
 
-def by_name(things):
+def by_name(things: Iterable[Any]) -> List[Any]:
     """The parameters of a test, each with its name as its id."""
     return [pytest.param(thing, id=thing.name) for thing in things]
 
 
 @pytest.mark.parametrize("order", SMALLEST, ids=" ".join)
-def test_the_smallest_rings(tlbridge, differences, order):
+def test_the_smallest_rings(tlbridge: Path, differences: Differences, order: Tuple[str, ...]) -> None:
     """Each trace that has an answer, by the smallest rings."""
     for trace in (*TRACES, *cases.large_traces()):
         if not trace.error:
@@ -82,14 +85,16 @@ def test_the_smallest_rings(tlbridge, differences, order):
 
 
 @pytest.mark.parametrize("trace", by_name(ON_ALL_SIZES))
-def test_the_answer_is_the_same_for_all_sizes(tlbridge, differences, trace):
+def test_the_answer_is_the_same_for_all_sizes(tlbridge: Path, differences: Differences, trace: Trace) -> None:
     """For every size of the rings and every number of turns."""
     orders = [("run", "--ring", ring, "--turns", turns) for ring in RINGS for turns in TURNS]
     compare(differences, tlbridge, runs_of(trace, (*orders, *USUAL)))
 
 
 @pytest.mark.parametrize("name, ring, turns", LARGE, ids=[name for name, _, _ in LARGE])
-def test_large_traces_over_other_rings(tlbridge, differences, name, ring, turns):
+def test_large_traces_over_other_rings(
+    tlbridge: Path, differences: Differences, name: str, ring: str, turns: str
+) -> None:
     """In two threads and in one."""
     trace = next(trace for trace in cases.large_traces() if trace.name == name)
     order = ("run", "--ring", ring, "--turns", turns)
@@ -98,7 +103,7 @@ def test_large_traces_over_other_rings(tlbridge, differences, name, ring, turns)
 
 @pytest.mark.parametrize("order", (("check",), SMALLEST[0]), ids=" ".join)
 @pytest.mark.parametrize("name", WHOLE)
-def test_broken_texts(tlbridge, differences, name, order):
+def test_broken_texts(tlbridge: Path, differences: Differences, name: str, order: Tuple[str, ...]) -> None:
     """A text cut after each of its bytes, and with bytes replaced: by `check`, and with the smallest rings."""
     whole = NAMED[name]
     for trace in (*cases.cut_traces(whole), *cases.spoilt_traces(whole)):
@@ -106,7 +111,9 @@ def test_broken_texts(tlbridge, differences, name, order):
 
 
 @pytest.mark.parametrize("letters", (b"ABCDE", b"EDCBA"), ids=bytes.decode)
-def test_the_order_of_lines_means_nothing_between_channels(tlbridge, differences, letters):
+def test_the_order_of_lines_means_nothing_between_channels(
+    tlbridge: Path, differences: Differences, letters: bytes
+) -> None:
     """Each trace with its lines channel by channel, in two orders."""
     for trace in ON_ALL_SIZES:
         first, *lines = trace.text.splitlines(True)
@@ -123,7 +130,7 @@ READ, WRITE, TOO_LONG = (f"tlbridge: {fault}\n".encode() for fault in ("21 Read"
 ORDERS = (("run",), ("run", "--sync"), ("check",))
 
 
-def ended(started, text=None):
+def ended(started: "subprocess.Popen[bytes]", text: Optional[bytes] = None) -> Any:
     """How a run ends: its status and both outputs."""
     try:
         output, error = started.communicate(text, timeout=120)
@@ -133,12 +140,12 @@ def ended(started, text=None):
     return started.returncode, output or b"", error or b""
 
 
-def start(program, words, **given):
-    streams = {"stdin": subprocess.PIPE, "stdout": subprocess.PIPE, "stderr": subprocess.PIPE, **given}
+def start(program: Path, words: Tuple[str, ...], **given: Any) -> "subprocess.Popen[bytes]":
+    streams: Dict[str, Any] = {"stdin": subprocess.PIPE, "stdout": subprocess.PIPE, "stderr": subprocess.PIPE, **given}
     return subprocess.Popen([str(program), *words], cwd=tempfile.gettempdir(), **streams)
 
 
-def start_with(program, words, text):
+def start_with(program: Path, words: Tuple[str, ...], text: bytes) -> "subprocess.Popen[bytes]":
     """Starts a run that reads this text one byte at a time, and whose next read then fails. It fails because the other
     end of the socket is closed before it has read what was sent to it."""
     here, there = socket.socketpair(socket.AF_UNIX, socket.SOCK_SEQPACKET)
@@ -153,18 +160,18 @@ def start_with(program, words, text):
     return started
 
 
-def closed(number):
+def closed(number: int) -> Dict[str, Any]:
     """A standard stream that is closed, by its number."""
     return {("stdin", "stdout", "stderr")[number]: None, "preexec_fn": lambda: os.close(number)}
 
 
-def answer_by(trace, words):
+def answer_by(trace: Trace, words: Tuple[str, ...]) -> bytes:
     """The whole answer to a trace by these words."""
     return (cases.checked(trace.answer) if words == ("check",) else trace.answer).encode()
 
 
 @pytest.mark.parametrize("words", ORDERS, ids=" ".join)
-def test_a_closed_stream(tlbridge, differences, words):
+def test_a_closed_stream(tlbridge: Path, differences: Differences, words: Tuple[str, ...]) -> None:
     """Standard input or output that is closed is a fault; standard error that is closed changes no status."""
     for name, stream, text, wanted in (
         ("standard input", 0, None, (4, b"", READ)),
@@ -175,12 +182,12 @@ def test_a_closed_stream(tlbridge, differences, words):
         differences.same(name, ended(start(tlbridge, words, **closed(stream)), text), wanted)
 
 
-def test_help_to_a_closed_stream(tlbridge):
+def test_help_to_a_closed_stream(tlbridge: Path) -> None:
     assert ended(start(tlbridge, ("--help",), **closed(1))) == (4, b"", WRITE)
 
 
 @pytest.mark.parametrize("words", ORDERS, ids=" ".join)
-def test_nobody_reads_the_output(tlbridge, words):
+def test_nobody_reads_the_output(tlbridge: Path, words: Tuple[str, ...]) -> None:
     reads, writes = os.pipe()
     os.close(reads)
     try:
@@ -191,13 +198,13 @@ def test_nobody_reads_the_output(tlbridge, words):
 
 
 @pytest.mark.parametrize("words", ORDERS, ids=" ".join)
-def test_an_input_that_never_ends(tlbridge, words):
+def test_an_input_that_never_ends(tlbridge: Path, words: Tuple[str, ...]) -> None:
     with open("/dev/zero", "rb") as zeros:
         assert ended(start(tlbridge, words, stdin=zeros)) == (4, b"", TOO_LONG)
 
 
 @pytest.mark.parametrize("words", ORDERS, ids=" ".join)
-def test_each_read_that_fails(tlbridge, differences, words):
+def test_each_read_that_fails(tlbridge: Path, differences: Differences, words: Tuple[str, ...]) -> None:
     """The text comes byte by byte, and the read after each of its bytes fails."""
     for count in range(len(GET.text) + 1):
         came = ended(start_with(tlbridge, words, GET.text[:count]))
@@ -205,7 +212,7 @@ def test_each_read_that_fails(tlbridge, differences, words):
 
 
 @pytest.mark.parametrize("words", ORDERS, ids=" ".join)
-def test_an_input_that_is_open_only_for_writes(tlbridge, words):
+def test_an_input_that_is_open_only_for_writes(tlbridge: Path, words: Tuple[str, ...]) -> None:
     source = os.open(os.devnull, os.O_WRONLY)
     try:
         assert ended(start(tlbridge, words, stdin=source)) == (4, b"", READ)
@@ -213,10 +220,11 @@ def test_an_input_that_is_open_only_for_writes(tlbridge, words):
         os.close(source)
 
 
-@pytest.mark.parametrize("trace", (GET, FIVE), ids=lambda trace: trace.name)
+@pytest.mark.parametrize("trace", (GET, FIVE), ids=lambda trace: str(trace.name))
 @pytest.mark.parametrize("words", ORDERS, ids=" ".join)
-def test_an_input_that_comes_byte_by_byte(tlbridge, words, trace):
+def test_an_input_that_comes_byte_by_byte(tlbridge: Path, words: Tuple[str, ...], trace: Trace) -> None:
     started = start(tlbridge, words)
+    assert started.stdin
     for at in range(len(trace.text)):
         os.write(started.stdin.fileno(), trace.text[at : at + 1])
     assert ended(started) == (0, answer_by(trace, words), b"")
@@ -236,23 +244,27 @@ SIZES = (*range(8, 64, 2), 128, 256, 512)
 @pytest.mark.parametrize(
     "words", (("run", "--ring", "4096", "--turns", "1000"), ("run", "--sync"), ("check",)), ids=" ".join
 )
-def test_more_and_more_memory(tlbridge, differences, words):
+def test_more_and_more_memory(tlbridge: Path, differences: Differences, words: Tuple[str, ...]) -> None:
     """Each run reports that memory ran out and writes nothing, or writes the whole answer. If memory was too small for
     the program to begin, or to read its arguments, it only has to write nothing. Both ends have to occur."""
     answer = cases.checked(LONG_ANSWER) if words == ("check",) else LONG_ANSWER
     whole, no_memory, seen = (0, answer.encode(), b""), (4, b"", b"tlbridge: 13 OutOfMemory\n"), []
     for size in SIZES:
         most = size << 20
+
+        def limit(most: int = most) -> None:
+            resource.setrlimit(resource.RLIMIT_AS, (most, most))
+
         ran = subprocess.run(
             [str(tlbridge), *words],
             input=LONG,
             capture_output=True,
             cwd=tempfile.gettempdir(),
-            preexec_fn=lambda most=most: resource.setrlimit(resource.RLIMIT_AS, (most, most)),
+            preexec_fn=limit,
         )
         came = ran.returncode, ran.stdout, ran.stderr
         seen.append(came)
         is_right = came in (no_memory, whole) if came[0] in (0, 3, 4) else came[1] == b""
-        differences.holds(f"{size} MiB", is_right, f"status {came[0]}, {came[1][:80]}, {came[2][:80]}")
+        differences.holds(f"{size} MiB", is_right, f"status {came[0]}, {came[1][:80]!r}, {came[2][:80]!r}")
     differences.holds("too little memory", no_memory in seen, "it never came")
     differences.holds("enough memory", whole in seen, "it never came")

@@ -11,6 +11,8 @@ import re
 import subprocess
 import tempfile
 from dataclasses import dataclass
+from pathlib import Path
+from typing import Any, Iterable, List, Optional, Tuple
 
 import pytest
 import starter
@@ -77,7 +79,7 @@ class Case:
     """One run of both programs."""
 
     name: str
-    words: tuple
+    words: Tuple[str, ...]
     text: bytes = b""
     output_to: str = ""
 
@@ -90,11 +92,11 @@ class Ended:
     output: bytes
     error: bytes
 
-    def __str__(self):
+    def __str__(self) -> str:
         return f"status {self.status}, standard error {self.error!r}, standard output {self.output[:300]!r}"
 
 
-def run(program, case):
+def run(program: Path, case: Case) -> Ended:
     words, folder = [str(program), *case.words], tempfile.gettempdir()
     with contextlib.ExitStack() as open_files:
         output = open_files.enter_context(open(case.output_to, "wb")) if case.output_to else None
@@ -113,7 +115,7 @@ def run(program, case):
     return Ended(ended.returncode, ended.stdout or b"", first)
 
 
-def stored_end(path):
+def stored_end(path: Path) -> Optional[Ended]:
     """How a run of a trace has to end, by its `.answer` or `.error` file."""
     answer, error = path.with_suffix(".answer"), path.with_suffix(".error")
     if error.exists():
@@ -125,24 +127,24 @@ def stored_end(path):
     return Ended(0 if all(verdict == b"done" for verdict in verdicts) else 1, text, b"")
 
 
-def agree(case):
+def agree(case: Case) -> None:
     """Fails if the model and the program end in different ways."""
     came, wanted = run(MODEL, case), run(needs_program("tlbridge"), case)
     assert came == wanted, f"{case.name}\nthe model: {came}\nthe program: {wanted}"
 
 
-def by_path(paths):
+def by_path(paths: Iterable[Path]) -> List[Any]:
     return [pytest.param(path, id=str(path.relative_to(ROOT))) for path in paths]
 
 
 @pytest.mark.parametrize("path", by_path(path for path in TRACES if stored_end(path)))
-def test_the_stored_answer(path):
+def test_the_stored_answer(path: Path) -> None:
     """The model gives the answer or the fault that is stored next to a trace."""
     assert run(MODEL, Case(path.name, ("run", str(path)))) == stored_end(path)
 
 
 @pytest.mark.parametrize("path", by_path(TRACES))
-def test_a_trace(path):
+def test_a_trace(path: Path) -> None:
     """The answer to each trace of examples/, from a file and from standard input."""
     text = path.read_bytes()
     agree(Case("run FILE", ("run", str(path))))
@@ -151,28 +153,28 @@ def test_a_trace(path):
 
 
 @pytest.mark.parametrize("words", (*BAD_WORDS, *GOOD_WORDS), ids=str)
-def test_a_command_line(words):
+def test_a_command_line(words: Tuple[str, ...]) -> None:
     agree(Case(f"the words {words}", words, (EXAMPLES / "get.trace").read_bytes()))
 
 
 @pytest.mark.parametrize("file", FILES)
-def test_a_file(file):
+def test_a_file(file: str) -> None:
     """Files that cannot be read, are empty, or never end."""
     agree(Case(f"the file '{file}'", ("run", file), (EXAMPLES / "get.trace").read_bytes()))
 
 
 @pytest.mark.parametrize("word", ("run", "check"))
-def test_a_full_output(word):
+def test_a_full_output(word: str) -> None:
     agree(Case(f"{word}, and standard output is full", (word,), (EXAMPLES / "get.trace").read_bytes(), "/dev/full"))
 
 
-def test_help_to_a_full_output():
+def test_help_to_a_full_output() -> None:
     agree(Case("help, and standard output is full", ("--help",), b"", "/dev/full"))
 
 
 @pytest.mark.parametrize("count", (64 * 2**20, 64 * 2**20 + 1))
 @pytest.mark.parametrize("word", ("run", "check"))
-def test_the_longest_text(word, count):
+def test_the_longest_text(word: str, count: int) -> None:
     """A text of 64 MiB is read, and one byte more is too long."""
     agree(Case(f"{word} of {count} bytes", (word,), b"\n" * count))
 
@@ -180,7 +182,7 @@ def test_the_longest_text(word, count):
 @pytest.mark.parametrize(
     "words", (("--help",), ("run", "--help"), ("check", "--help"), ("help", "run"), ("-h",), ("help",)), ids=" ".join
 )
-def test_the_help(words):
+def test_the_help(words: Tuple[str, ...]) -> None:
     """The model's help has each option of the program's, and says that the model is unverified."""
     came, wanted = run(MODEL, Case("", words)), run(needs_program("tlbridge"), Case("", words))
     missing = {*re.findall(rb"--[a-z]+", wanted.output)} - {*re.findall(rb"--[a-z]+", came.output)}

@@ -8,10 +8,13 @@ import os
 import shlex
 import subprocess
 import tempfile
+from pathlib import Path
+from typing import Any, Collection, Iterable, Iterator, List, Tuple, Union
 
 import program_cases as cases
 import pytest
-from program_cases import LONG_TEXT, MAX_BYTES, RUNS, WHOLE, WIDE, Run, compare, expected, fault, runs_of
+from differences import Differences
+from program_cases import LONG_TEXT, MAX_BYTES, RUNS, WHOLE, WIDE, Run, Trace, compare, expected, fault, runs_of
 from project import EXAMPLES, ROOT
 
 TRACES = cases.stored_traces()
@@ -21,47 +24,49 @@ LARGE = tuple(cases.large_traces())
 FAULTY = (*cases.faulty_traces(NAMED[WHOLE[0]]), *cases.mask_traces(NAMED[WIDE]))
 
 
-def by_name(things):
+def by_name(things: Iterable[Any]) -> List[Any]:
     """The parameters of a test, each with its name as its id."""
     return [pytest.param(thing, id=thing.name) for thing in things]
 
 
 @pytest.mark.parametrize("trace", by_name((*TRACES, *LARGE)))
-def test_each_run_gives_the_expected_answer(tlbridge, differences, trace):
+def test_each_run_gives_the_expected_answer(tlbridge: Path, differences: Differences, trace: Trace) -> None:
     """Worked cases, examples, and the longest messages: by each kind of run and by `check`."""
     compare(differences, tlbridge, runs_of(trace))
 
 
 @pytest.mark.parametrize("order", SYNC_AND_CHECK, ids=" ".join)
-def test_texts_of_several_pieces(tlbridge, differences, order):
+def test_texts_of_several_pieces(tlbridge: Path, differences: Differences, order: Tuple[str, ...]) -> None:
     """Texts of more than two pieces, and faults before, at and after the end of the first one."""
     for trace in cases.long_traces():
         compare(differences, tlbridge, runs_of(trace, [order]))
 
 
 @pytest.mark.parametrize("name", WHOLE)
-def test_a_text_cut_after_each_byte(tlbridge, differences, name):
+def test_a_text_cut_after_each_byte(tlbridge: Path, differences: Differences, name: str) -> None:
     """A text that is cut has an answer, or its first fault, whichever byte is the last one."""
     for trace in cases.cut_traces(NAMED[name]):
         compare(differences, tlbridge, runs_of(trace, RUNS[:1]))
 
 
 @pytest.mark.parametrize("name", WHOLE)
-def test_each_replaced_byte_is_a_fault(tlbridge, differences, name):
+def test_each_replaced_byte_is_a_fault(tlbridge: Path, differences: Differences, name: str) -> None:
     """The first fault of a text and its line, with each byte replaced in turn."""
     for trace in cases.spoilt_traces(NAMED[name]):
         compare(differences, tlbridge, runs_of(trace, RUNS[:1]))
 
 
 @pytest.mark.parametrize("trace", by_name(FAULTY))
-def test_a_line_that_is_none(tlbridge, differences, trace):
+def test_a_line_that_is_none(tlbridge: Path, differences: Differences, trace: Trace) -> None:
     """A line in place of another one has its fault."""
     compare(differences, tlbridge, runs_of(trace, RUNS[:1]))
 
 
 @pytest.mark.parametrize("order", SYNC_AND_CHECK, ids=" ".join)
 @pytest.mark.parametrize("third", range(3), ids=("whole", "without its end", "with another letter"))
-def test_the_end_of_a_piece_within_each_byte(tlbridge, differences, third, order):
+def test_the_end_of_a_piece_within_each_byte(
+    tlbridge: Path, differences: Differences, third: int, order: Tuple[str, ...]
+) -> None:
     """The end of the first piece divides five lines at each of their bytes."""
     for number, trace in enumerate(cases.parted_traces(NAMED[WHOLE[0]])):
         if number % 3 == third:
@@ -69,14 +74,16 @@ def test_the_end_of_a_piece_within_each_byte(tlbridge, differences, third, order
 
 
 @pytest.mark.parametrize("order", SYNC_AND_CHECK, ids=" ".join)
-def test_bursts_and_waits_across_the_end_of_a_piece(tlbridge, differences, order):
+def test_bursts_and_waits_across_the_end_of_a_piece(
+    tlbridge: Path, differences: Differences, order: Tuple[str, ...]
+) -> None:
     """Bursts, waits and faults with the end of the first piece within them."""
     for trace in cases.boundary_traces():
         compare(differences, tlbridge, runs_of(trace, [order]))
 
 
 @pytest.mark.parametrize("order", (*SYNC_AND_CHECK, ("run", "--ring", "4096", "--turns", "1000")), ids=" ".join)
-def test_messages_of_many_pieces(tlbridge, differences, order):
+def test_messages_of_many_pieces(tlbridge: Path, differences: Differences, order: Tuple[str, ...]) -> None:
     """Texts of more than two pieces whose answer the unverified model computes, with their channels in turns and one
     after the other."""
     for trace in cases.pieced_traces():
@@ -86,18 +93,25 @@ def test_messages_of_many_pieces(tlbridge, differences, order):
 # ---- The words, the streams and the statuses
 
 
-def stored_words():
+def stored(part: Any) -> bytes:
+    """The part of an output that was read before."""
+    assert isinstance(part, bytes)
+    return part
+
+
+def stored_words() -> List[Run]:
     """Runs of command lines that are not a command, with the messages of program.words."""
-    found, alike = [], []
+    found: List[Run] = []
+    alike: List[Run] = []
     for mark, rest in cases.marked_lines("program.words", ("words:", ">", "!", "status:")):
         if mark == "words:":
             alike.append(Run(f"words: {rest}", tuple(shlex.split(rest))))
             continue
         for run in alike:
             if mark == ">":
-                run.answer += f"{rest}\n".encode()
+                run.answer = stored(run.answer) + f"{rest}\n".encode()
             elif mark == "!":
-                run.error += f"{rest}\n".encode()
+                run.error = stored(run.error) + f"{rest}\n".encode()
             else:
                 run.status = int(rest)
         if mark == "status:":
@@ -105,30 +119,32 @@ def stored_words():
     return found
 
 
-def refused(message):
+def refused(message: str) -> bytes:
     """Returns the standard error for a command line that the program itself refuses."""
     return f"error: {message}\n\nUsage: tlbridge <COMMAND>\n\nFor more information, try '--help'.\n".encode()
 
 
-def runs_of_words():
+def runs_of_words() -> Iterator[Run]:
     """Command lines that are refused, and help that can't be written."""
     yield from stored_words()
     for option, most in (("--ring", 4096), ("--turns", 1000)):
         outside = "0", str(most + 1)
+        given: List[Tuple[Tuple[str, ...], str]]
         given = [((f"{option}={number}",), number) for number in (*outside, "-1", "abc", "", str(2**64))]
         given += [((option, number), number) for number in outside]
         for words, number in given:
             error = refused(f"invalid value '{number}' for '{option} <N>': it has to be a number from 1 to {most}")
             yield Run(f"refused: {words}", ("run", *words), error=error, status=2)
     not_text = refused("a word of the command line is not UTF-8")
-    for words in ((b"run\xff",), ("run", b"\xff.trace")):
-        yield Run(f"refused: {words}", words, error=not_text, status=2)
+    no_text: Tuple[Tuple[Union[str, bytes], ...], ...] = ((b"run\xff",), ("run", b"\xff.trace"))
+    for line in no_text:
+        yield Run(f"refused: {line!r}", line, error=not_text, status=2)
     write, full = b"tlbridge: 22 Write\n", "/dev/full"
     yield Run("help that can't be written", ("--help",), error=write, status=4, answer_to=full)
     yield Run("a refusal that can't be written", ("walk",), status=2, error_to=full)
 
 
-def runs_of_files(get):
+def runs_of_files(get: Trace) -> Iterator[Run]:
     """Traces that a file holds, while standard input holds no trace."""
     nothing = b"no trace\n"
     files = [*EXAMPLES.glob("*.trace"), *(EXAMPLES / "faults").glob("*.trace")]
@@ -142,8 +158,8 @@ def runs_of_files(get):
         yield Run(f"a file among other words: {words}", words, nothing, get.answer.encode())
     unreadable = [str(EXAMPLES), str(EXAMPLES / "none.trace"), f"{get_file}/none", "", "-"]
     for order in ("run", "check"):
-        for path in unreadable:
-            yield Run(f"{order} of the file '{path}'", (order, path), get.text, error=b"tlbridge: 21 Read\n", status=4)
+        for name in unreadable:
+            yield Run(f"{order} of the file '{name}'", (order, name), get.text, error=b"tlbridge: 21 Read\n", status=4)
         yield Run(
             f"{order} of a file that never ends",
             (order, "/dev/zero"),
@@ -159,7 +175,7 @@ def runs_of_files(get):
     yield Run("run of the file 'check'", ("run", "check"), get.text, error=b"tlbridge: 21 Read\n", status=4)
 
 
-def runs_of_streams(get, words):
+def runs_of_streams(get: Trace, words: Tuple[str, ...]) -> Iterator[Run]:
     """Runs whose streams fail or are too long."""
     read, write = b"tlbridge: 21 Read\n", b"tlbridge: 22 Write\n"
     too_long, header = b"tlbridge: 23 TooLong\n", fault(1, "14 Header").encode()
@@ -175,19 +191,19 @@ def runs_of_streams(get, words):
 
 
 @pytest.mark.parametrize("run", by_name(runs_of_words()))
-def test_the_words(tlbridge, differences, run):
+def test_the_words(tlbridge: Path, differences: Differences, run: Run) -> None:
     """Help, the version, and each refusal of a command line."""
     compare(differences, tlbridge, [run])
 
 
 @pytest.mark.parametrize("run", by_name(runs_of_files(NAMED["get.trace"])))
-def test_files(tlbridge, differences, run):
+def test_files(tlbridge: Path, differences: Differences, run: Run) -> None:
     """Traces in a file, and files that cannot be read."""
     compare(differences, tlbridge, [run])
 
 
 @pytest.mark.parametrize("order", ("run", "check"))
-def test_streams(tlbridge, differences, order):
+def test_streams(tlbridge: Path, differences: Differences, order: str) -> None:
     """Streams that fail, and texts of the longest length or one byte more."""
     compare(differences, tlbridge, runs_of_streams(NAMED["a Get to a narrower bus"], (order,)))
 
@@ -204,7 +220,7 @@ THREADS = (
 )
 
 
-def most_threads(program, words):
+def most_threads(program: Path, words: Tuple[str, ...]) -> int:
     """The most threads that a run over the long text is seen to have."""
     most = 0
     with tempfile.TemporaryFile() as trace:
@@ -218,6 +234,6 @@ def most_threads(program, words):
 
 
 @pytest.mark.parametrize("words, wanted", THREADS, ids=[" ".join(words) for words, _ in THREADS])
-def test_the_number_of_threads(tlbridge, words, wanted):
+def test_the_number_of_threads(tlbridge: Path, words: Tuple[str, ...], wanted: Collection[int]) -> None:
     """A run in one thread has one; a run in two starts a few at a time, and leaves none behind."""
     assert most_threads(tlbridge, words) in wanted

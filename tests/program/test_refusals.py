@@ -10,10 +10,12 @@ time.
 import os
 import re
 import subprocess
+from pathlib import Path
 
 import pytest
+from differences import Differences
 from project import ROOT, programs_are_required
-from refusals import CHECK, FILE, FIVE, NO_TRACE, ORDERS, RUN, SYNC, Refusals, larger_text, shim
+from refusals import CHECK, FILE, FIVE, NO_TRACE, ORDERS, RUN, SYNC, Refusals, Words, larger_text, shim
 
 # The kinds of runs that are tried in the quick tests.
 QUICK = (RUN, SYNC, (*CHECK, FILE))
@@ -24,19 +26,19 @@ CALLS = ROOT / "crates" / "bridge_tests" / "out" / "bridge_tests_tests"
 
 
 @pytest.fixture(scope="session")
-def library(tmp_path_factory):
+def library(tmp_path_factory: pytest.TempPathFactory) -> Path:
     """The library that is preloaded."""
     return shim(tmp_path_factory.mktemp("refuse"))
 
 
 @pytest.fixture
-def refusals(tlbridge, library, differences):
+def refusals(tlbridge: Path, library: Path, differences: Differences) -> Refusals:
     return Refusals(tlbridge, library, differences)
 
 
 @pytest.mark.parametrize("how", ("growth", "from"))
 @pytest.mark.parametrize("order", QUICK, ids=" ".join)
-def test_each_growth_refused(refusals, order, how):
+def test_each_growth_refused(refusals: Refusals, order: Words, how: str) -> None:
     """A run is seen to allocate, to read and to write. First only the Nth growth fails, and then each one from the Nth
     on, for N from 1 until a run meets no refusal.
 
@@ -49,20 +51,20 @@ def test_each_growth_refused(refusals, order, how):
 
 
 @pytest.mark.parametrize("order", QUICK, ids=" ".join)
-def test_each_start_of_a_thread_refused(refusals, order):
+def test_each_start_of_a_thread_refused(refusals: Refusals, order: Words) -> None:
     """The whole answer comes."""
     refusals.starts(FIVE, order)
 
 
 @pytest.mark.parametrize("order", QUICK, ids=" ".join)
-def test_each_read_fails(refusals, order):
+def test_each_read_fails(refusals: Refusals, order: Words) -> None:
     """A read that fails or is interrupted is `21 Read`. One that ends the input gives the answer to the shorter
     text."""
     refusals.reads(FIVE, order, PIECE)
 
 
 @pytest.mark.parametrize("order", QUICK, ids=" ".join)
-def test_each_write_fails(refusals, order):
+def test_each_write_fails(refusals: Refusals, order: Words) -> None:
     """A write that fails, is interrupted or takes no byte is `22 Write`, after some of the bytes before it and no
     others."""
     refusals.writes(FIVE, order, PIECE)
@@ -70,7 +72,7 @@ def test_each_write_fails(refusals, order):
 
 @pytest.mark.long
 @pytest.mark.parametrize("text", (FIVE, larger_text()), ids=("five lines", "a larger text"))
-def test_rounds_allocate_nothing(refusals, text):
+def test_rounds_allocate_nothing(refusals: Refusals, text: bytes) -> None:
     """The rounds of a run in two threads allocate nothing, except one growth for each start of a thread. So runs over
     rings of many sizes, and with many numbers of rounds, have the same number of growths beyond those. (In one thread
     the answer grows as the beats come.)
@@ -81,7 +83,7 @@ def test_rounds_allocate_nothing(refusals, text):
 @pytest.mark.long
 @pytest.mark.parametrize("how", ("growth", "from"))
 @pytest.mark.parametrize("order", ORDERS, ids=" ".join)
-def test_each_growth_refused_in_each_kind_of_run(refusals, order, how):
+def test_each_growth_refused_in_each_kind_of_run(refusals: Refusals, order: Words, how: str) -> None:
     """As above."""
     refusals.growths(FIVE, order, how)
 
@@ -92,21 +94,21 @@ def test_each_growth_refused_in_each_kind_of_run(refusals, order, how):
     ((NO_TRACE, RUN), (larger_text(), SYNC), (larger_text(), LARGEST_RINGS)),
     ids=("a text that is no trace", "a larger text in one thread", "a larger text in two"),
 )
-def test_each_growth_refused_in_other_texts(refusals, text, order):
+def test_each_growth_refused_in_other_texts(refusals: Refusals, text: bytes, order: Words) -> None:
     """As above, by single growths."""
     refusals.growths(text, order, "growth")
 
 
 @pytest.mark.long
 @pytest.mark.parametrize("order", ORDERS, ids=" ".join)
-def test_each_start_refused_in_each_kind_of_run(refusals, order):
+def test_each_start_refused_in_each_kind_of_run(refusals: Refusals, order: Words) -> None:
     """The whole answer comes."""
     refusals.starts(FIVE, order)
 
 
 @pytest.mark.long
 @pytest.mark.parametrize("order", ORDERS, ids=" ".join)
-def test_more_and_more_memory_for_the_process(refusals, order):
+def test_more_and_more_memory_for_the_process(refusals: Refusals, order: Words) -> None:
     """A larger trace gives `13 OutOfMemory`, or the whole answer. If memory is too small for the loader of programs or
     for the stack, the system ends the run, and standard output has to be empty."""
     refusals.limits(larger_text(), order)
@@ -114,14 +116,14 @@ def test_more_and_more_memory_for_the_process(refusals, order):
 
 @pytest.mark.long
 @pytest.mark.parametrize("order", ((*SYNC, FILE), *ORDERS), ids=" ".join)
-def test_each_read_of_a_byte_fails(refusals, order):
+def test_each_read_of_a_byte_fails(refusals: Refusals, order: Words) -> None:
     """The input comes byte by byte."""
     refusals.reads(FIVE, order)
 
 
 @pytest.mark.long
 @pytest.mark.parametrize("order", ORDERS, ids=" ".join)
-def test_each_write_of_a_byte_fails(refusals, order):
+def test_each_write_of_a_byte_fails(refusals: Refusals, order: Words) -> None:
     """The output goes byte by byte: `22 Write`, after exactly the bytes before it."""
     refusals.writes(FIVE, order)
 
@@ -129,13 +131,13 @@ def test_each_write_of_a_byte_fails(refusals, order):
 @pytest.mark.long
 @pytest.mark.parametrize("text", (FIVE, larger_text()), ids=("five lines", "a larger text"))
 @pytest.mark.parametrize("order", ORDERS, ids=" ".join)
-def test_input_and_output_in_pieces(refusals, order, text):
+def test_input_and_output_in_pieces(refusals: Refusals, order: Words, text: bytes) -> None:
     """The answer is the same in pieces of some sizes."""
     refusals.pieces(text, order)
 
 
 @pytest.mark.long
-def test_each_refusal_in_the_tests_of_calls(library, differences):
+def test_each_refusal_in_the_tests_of_calls(library: Path, differences: Differences) -> None:
     """The tests in both growth_tests.rt of crates/bridge_tests, as `rt test` leaves them built. A test passes if
     nothing was refused, or only something that starts a thread. Otherwise it has to report that memory ran out: at
     least once in the call that it tests, and else in a call that prepares it."""

@@ -13,8 +13,11 @@ import os
 import subprocess
 import time
 from collections import Counter
+from pathlib import Path
+from typing import Any, List, Sequence, Tuple
 
 import pytest
+from differences import Differences
 from project import needs_program
 from random_traces import CHANNELS, OPCODES, PAIRS, Maker, model
 
@@ -31,7 +34,7 @@ ORDERS = (
 FEW = len(PAIRS)
 
 
-def run(program, order, text):
+def run(program: Path, order: Sequence[str], text: bytes) -> Tuple[Any, bytes, bytes]:
     """How a run ends: its status and both outputs."""
     try:
         ended = subprocess.run([program, *order], input=text, capture_output=True, timeout=120)
@@ -40,7 +43,7 @@ def run(program, order, text):
     return ended.returncode, ended.stdout, ended.stderr
 
 
-def judge(differences, program, seed, number):
+def judge(differences: Differences, program: Path, seed: object, number: int) -> "Counter[Any]":
     """Compares one case by each kind of run. Returns what is counted of it."""
     maker = Maker(seed, number)
     text = maker.text()
@@ -51,7 +54,7 @@ def judge(differences, program, seed, number):
     return Counter([maker.kind, f"version {maker.version}", (maker.client, maker.manager), *ends_of(wanted)])
 
 
-def ends_of(wanted):
+def ends_of(wanted: Any) -> List[str]:
     """What is counted of an answer: its status, the fault of the text or the verdict of each channel, and what has
     arrived."""
     ends = [f"status {wanted.status}"]
@@ -68,9 +71,9 @@ def ends_of(wanted):
     return ends
 
 
-def test_a_case_of_each_pair_of_widths(tlbridge, differences):
+def test_a_case_of_each_pair_of_widths(tlbridge: Path, differences: Differences) -> None:
     """A short run of the same, for each change."""
-    seen = Counter()
+    seen: "Counter[Any]" = Counter()
     for number in range(FEW):
         seen += judge(differences, tlbridge, "quick", number)
     differences.same("pairs of widths that no case had", {*PAIRS} - {*seen}, set())
@@ -78,9 +81,10 @@ def test_a_case_of_each_pair_of_widths(tlbridge, differences):
 
 @pytest.mark.long
 @pytest.mark.parametrize("seed", SEEDS)
-def test_random_traces(differences, seed, capsys):
+def test_random_traces(differences: Differences, seed: int, capsys: pytest.CaptureFixture[str]) -> None:
     """Random cases for some time. How many there were of each kind, end and message is printed."""
-    program, until, seen, number = needs_program("tlbridge"), time.monotonic() + SECONDS, Counter(), 0
+    program, until, number = needs_program("tlbridge"), time.monotonic() + SECONDS, 0
+    seen: "Counter[Any]" = Counter()
     while time.monotonic() < until or number < FEW:
         seen += judge(differences, program, seed, number)
         number += 1

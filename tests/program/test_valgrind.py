@@ -8,6 +8,7 @@ reports are shown, except those that valgrind.supp describes; that file has the 
 import re
 import subprocess
 from pathlib import Path
+from typing import Tuple
 
 import pytest
 from project import EXAMPLES, needs_program, needs_tools
@@ -18,10 +19,10 @@ ORDERS = (("run", "--sync"), ("run",), ("run", "--ring", "1", "--turns", "1"))
 
 
 @pytest.mark.long
-@pytest.mark.parametrize("path", sorted(EXAMPLES.glob("*.trace")), ids=lambda path: path.stem)
+@pytest.mark.parametrize("path", sorted(EXAMPLES.glob("*.trace")), ids=lambda path: str(path.stem))
 @pytest.mark.parametrize("order", ORDERS, ids=" ".join)
-@pytest.mark.parametrize("tool", TOOLS, ids=lambda tool: tool[0])
-def test_no_report(tmp_path, tool, order, path):
+@pytest.mark.parametrize("tool", TOOLS, ids=lambda tool: str(tool[0]))
+def test_no_report(tmp_path: Path, tool: Tuple[str, ...], order: Tuple[str, ...], path: Path) -> None:
     """valgrind reports nothing, and the answer is the stored one."""
     needs_tools("valgrind")
     log, (name, *options) = tmp_path / "log", tool

@@ -11,6 +11,7 @@ import types
 import unittest
 from dataclasses import replace
 from pathlib import Path
+from typing import Any, Callable, Dict, List, Tuple
 from unittest import mock
 
 import pytest
@@ -23,14 +24,23 @@ from tlbridge.library import AnswerFields, BeatFields, HandleFields, StandingsFi
 
 PAIRS = [tuple(map(int, pair.split(":"))) for pair in library_pairs()]
 
+ANY_BEAT: Any = Beat  # the class, for fields of wrong names and types
+
+
+def finished(side: tlbridge.Side) -> tlbridge.Totals:
+    """The receipt of a side that has finished."""
+    receipt = side.finish()
+    assert receipt
+    return receipt
+
 
 class Structures(unittest.TestCase):
     """The structures of the package are those of include/tlbridge.h."""
 
-    def offsets(self, fields):
+    def offsets(self, fields: Any) -> Dict[str, int]:
         return {name: getattr(fields, name).offset for name, _ in fields._fields_}
 
-    def test_layout(self):
+    def test_layout(self) -> None:
         self.assertEqual(
             self.offsets(BeatFields),
             dict(
@@ -64,7 +74,7 @@ class Structures(unittest.TestCase):
         self.assertEqual([getattr(AnswerFields, name).size for name, _ in AnswerFields._fields_], [8, 8, 8, 8, 1, 1])
 
     @pytest.mark.usefixtures("library")
-    def test_answers(self):
+    def test_answers(self) -> None:
         """Each number of the header has a name and a sentence of docs/FAULTS.md's table of words."""
         header = (ROOT / "include" / "tlbridge.h").read_text()
         numbers = {int(number) for number in re.findall(r"^    TL_[A-Z_]+ = (\d+),?$", header, re.M)}
@@ -103,13 +113,13 @@ OTHERS = {
 }
 
 
-def read(passed, name):
+def read(passed: Any, name: str) -> int:
     """The value of a field of the C structure."""
-    return passed.mask | passed.mask_high << 64 if name == "mask" else getattr(passed, name)
+    return int(passed.mask | passed.mask_high << 64 if name == "mask" else getattr(passed, name))
 
 
 class Beats(unittest.TestCase):
-    def test_each_bit(self):
+    def test_each_bit(self) -> None:
         """Each bit of each field of each channel is passed in its own field, and comes back from there."""
         for channel, bits in BITS.items():
             none, lanes = Beat().passed(channel, 8)
@@ -118,7 +128,7 @@ class Beats(unittest.TestCase):
             )
             for name in (*bits, *(name for name in ("denied", "corrupt") if name in OTHERS[channel])):
                 for bit in range(bits.get(name, 1)):
-                    beat = Beat(**{name: 1 << bit})
+                    beat = ANY_BEAT(**{name: 1 << bit})
                     passed, lanes = beat.passed(channel, 8)
                     with self.subTest(channel=channel, field=name, bit=bit):
                         got = {
@@ -128,17 +138,17 @@ class Beats(unittest.TestCase):
                         self.assertEqual({other: value for other, value in got.items() if value}, {name: 1 << bit})
                         came = beat_of(channel, passed, lanes)
                         self.assertEqual(
-                            came, Beat(**{name: 1 << bit, **({"data": bytes(8)} if channel != "E" else {})})
+                            came, ANY_BEAT(**{name: 1 << bit}, **({"data": bytes(8)} if channel != "E" else {}))
                         )
 
-    def test_each_lane(self):
+    def test_each_lane(self) -> None:
         for channel in "ABCD":
             for width in (1, 8, 128):
                 data = bytes(range(1, width + 1))
                 passed, lanes = Beat(data=data).passed(channel, width)
                 self.assertEqual((lanes, beat_of(channel, passed, lanes).data), (data, data))
 
-    def test_of_another_channel(self):
+    def test_of_another_channel(self) -> None:
         values = {
             "opcode": 1,
             "param": 1,
@@ -155,20 +165,20 @@ class Beats(unittest.TestCase):
             for name, value in values.items():
                 with self.subTest(channel=channel, field=name):
                     if name in bits or name in OTHERS[channel]:
-                        Beat(**{name: value}).passed(channel, 1)
+                        ANY_BEAT(**{name: value}).passed(channel, 1)
                     else:
                         with self.assertRaisesRegex(ValueError, f"^a beat of {channel} has no {name}$"):
-                            Beat(**{name: value}).passed(channel, 1)
+                            ANY_BEAT(**{name: value}).passed(channel, 1)
 
-    def test_data_is_kept(self):
+    def test_data_is_kept(self) -> None:
         """A change of the bytes that it was made of changes nothing."""
         given = bytearray(b"\1\2")
-        beat = Beat(data=given)
+        beat = ANY_BEAT(data=given)
         given[0] = 9
         self.assertEqual((beat.data, type(beat.data)), (b"\1\2", bytes))
-        self.assertEqual(Beat(data=[3, 4]).data, b"\3\4")
+        self.assertEqual(ANY_BEAT(data=[3, 4]).data, b"\3\4")
 
-    def test_words(self):
+    def test_words(self) -> None:
         for words, values in (
             ("opcode has 8 bits, and 256 does not fit", dict(opcode=256)),
             ("mask has 128 bits, and -1 does not fit", dict(mask=-1)),
@@ -176,43 +186,43 @@ class Beats(unittest.TestCase):
             ("corrupt is one bit, not 'x'", dict(corrupt="x")),
         ):
             with self.assertRaises(ValueError) as refused:
-                Beat(**values)
+                ANY_BEAT(**values)
             self.assertEqual(str(refused.exception), words)
         with self.assertRaisesRegex(TypeError, "^data are bytes, lane 0 first$"):
-            Beat(data=8)
+            ANY_BEAT(data=8)
         for name in BITS["A"]:
             with self.subTest(name), self.assertRaises(TypeError):
-                Beat(**{name: 4.0})
+                ANY_BEAT(**{name: 4.0})
         with self.assertRaisesRegex(ValueError, "^the link has 4 lanes, but data has 5 bytes$"):
             Beat(data=bytes(5)).passed("A", 4)
 
-    def test_limits(self):
+    def test_limits(self) -> None:
         for name, bits in dict(opcode=8, param=8, size=8, source=16, sink=16, address=64, mask=128).items():
-            self.assertEqual(getattr(Beat(**{name: (1 << bits) - 1}), name), (1 << bits) - 1)
+            self.assertEqual(getattr(ANY_BEAT(**{name: (1 << bits) - 1}), name), (1 << bits) - 1)
             for value in (1 << bits, -1):
                 with self.subTest(name, value=value), self.assertRaises(ValueError):
-                    Beat(**{name: value})
+                    ANY_BEAT(**{name: value})
 
-    def test_passed(self):
+    def test_passed(self) -> None:
         passed, lanes = Beat(opcode=1, mask=(3 << 64) | 5, data=b"\1\2", address=7).passed("A", 2)
         self.assertEqual((passed.opcode, passed.mask, passed.mask_high, passed.address, lanes), (1, 5, 3, 7, b"\1\2"))
         self.assertEqual(Beat(sink=3).passed("E", 4)[1], b"\0\0\0\0")
         self.assertEqual(beat_of("A", passed, lanes), Beat(opcode=1, mask=(3 << 64) | 5, data=b"\1\2", address=7))
 
-    def test_bits_are_truths(self):
+    def test_bits_are_truths(self) -> None:
         came = BeatFields(denied=1, corrupt=0)
         beat = beat_of("D", came, b"")
         self.assertIs(beat.denied, True)
         self.assertIs(beat.corrupt, False)
 
-    def test_shorter_data(self):
+    def test_shorter_data(self) -> None:
         with self.assertRaises(ValueError):
             Beat(data=b"\1").passed("A", 2)
 
 
 @pytest.mark.usefixtures("library")
 class Sides(unittest.TestCase):
-    def test_each_count(self):
+    def test_each_count(self) -> None:
         """Where the far beats of each channel wait: on the way from stage to ring to inbox."""
         sends = {
             "A": Beat(opcode=4, size=2, mask=0xF),
@@ -237,7 +247,7 @@ class Sides(unittest.TestCase):
                 self.assertTrue(bridge.meet().drained)
                 self.assertIsNone(bridge.receiver(channel).take(channel))
 
-    def test_many_at_once(self):
+    def test_many_at_once(self) -> None:
         """A call moves more than 255 beats: those of all channels together, of each as many as a near beat of 128 bytes
         has on a link of 1."""
         if not {(128, 1), (1, 128)} <= {*PAIRS}:
@@ -255,19 +265,19 @@ class Sides(unittest.TestCase):
             bridge.manager.offer("D", Beat(opcode=1, size=7, data=bytes(128)))
             self.assertEqual((bridge.manager.pump(), bridge.client.fetch()), (256, 256))
 
-    def test_not_ready(self):
+    def test_not_ready(self) -> None:
         with Bridge(8, 4) as bridge:
             bridge.client.offer("E", Beat(sink=1))
             with self.assertRaises(RefusedError) as refused:
                 bridge.client.offer("E", Beat(sink=2))
             self.assertEqual((refused.exception.status.number, refused.exception.status.name), (254, "NotReady"))
 
-    def test_closed(self):
+    def test_closed(self) -> None:
         with Bridge(8, 4) as bridge:
             bridge.client.close("E")
             self.assertFalse(bridge.client.ready("E"))
 
-    def test_totals(self):
+    def test_totals(self) -> None:
         """Each channel has a different number of beats. The sender counts them when they are pumped, and the taker when
         they are taken."""
         with Bridge(8, 4) as bridge:
@@ -293,7 +303,7 @@ class Sides(unittest.TestCase):
             self.assertEqual(len(list(bridge.receive_all("D"))), 1)
             self.assertEqual((bridge.client.totals().d, bridge.manager.totals().d), (1, 1))
 
-    def test_receipt(self):
+    def test_receipt(self) -> None:
         """A side gives a receipt once its channels are closed and nothing is staged; the other side has all once it
         took as many."""
         with Bridge(8, 4, ring=1) as bridge:
@@ -305,7 +315,7 @@ class Sides(unittest.TestCase):
             self.assertEqual(bridge.client.pump(), 1)
             self.assertIsNone(bridge.client.finish())
             bridge.client.close("E")
-            receipt = bridge.client.finish()
+            receipt = finished(bridge.client)
             self.assertEqual(receipt, replace(bridge.client.totals(), finished=1))
             self.assertEqual(receipt.e, 2)
             self.assertFalse(bridge.client.ready("E"))
@@ -315,36 +325,38 @@ class Sides(unittest.TestCase):
                 self.assertIsNotNone(bridge.manager.take("E"))
             self.assertTrue(bridge.manager.drained(receipt))
 
-    def test_receipt_of_the_manager(self):
+    def test_receipt_of_the_manager(self) -> None:
         with Bridge(8, 4) as bridge:
             bridge.offer("B", Beat(opcode=6, size=2, mask=0xF))
             bridge.manager.close("B")
             bridge.manager.close("D")
             self.assertIsNone(bridge.manager.finish())
             bridge.settle()
-            receipt = bridge.manager.finish()
+            receipt = finished(bridge.manager)
             self.assertEqual((receipt.finished, receipt.b, receipt.d), (2, 1, 0))
             self.assertFalse(bridge.client.drained(receipt))
             self.assertIsNotNone(bridge.client.take("B"))
             self.assertTrue(bridge.client.drained(receipt))
 
-    def test_receipt_refused(self):
+    def test_receipt_refused(self) -> None:
         """A receipt of another bridge, and sides that were freed, are refused."""
         with Bridge(8, 4) as bridge, Bridge(8, 4) as other:
             for channel in "ACE":
                 bridge.client.close(channel)
-            receipt = bridge.client.finish()
+            receipt = finished(bridge.client)
             self.assertTrue(bridge.manager.drained(receipt))
             with self.assertRaises(RefusedError) as refused:
                 other.manager.drained(receipt)
             self.assertEqual(refused.exception.status.name, "BridgeMismatch")
             bridge.free()
-            for call in (bridge.client.totals, bridge.client.finish, lambda: bridge.manager.drained(receipt)):
+            calls: Tuple[Callable[[], object], ...]
+            calls = (bridge.client.totals, bridge.client.finish, lambda: bridge.manager.drained(receipt))
+            for call in calls:
                 with self.assertRaises(RefusedError) as refused:
                     call()
                 self.assertEqual(refused.exception.status.name, "NotOpen")
 
-    def test_ring(self):
+    def test_ring(self) -> None:
         for ring in (-1, 1 << 64):
             with self.subTest(ring=ring), self.assertRaisesRegex(ValueError, f"a ring of {ring} beats"):
                 Bridge(8, 4, ring=ring)
@@ -352,14 +364,14 @@ class Sides(unittest.TestCase):
             bridge.client.offer("C", Beat(opcode=7, size=3, data=bytes(8)))
             self.assertEqual((bridge.client.pump(), bridge.meet().c), (1, Counts(1, 1, 0)))
 
-    def test_wide_ring(self):
+    def test_wide_ring(self) -> None:
         """A number of beats of 64 bits is passed as it is."""
         for ring in (4097, (1 << 32) + 1, (1 << 63) + 16, (1 << 64) - 1):
             with self.subTest(ring=ring), self.assertRaises(RefusedError) as refused:
                 Bridge(8, 4, ring=ring)
             self.assertEqual(refused.exception.status.name, "RingSize")
 
-    def test_channels(self):
+    def test_channels(self) -> None:
         """Each call on each side takes only a channel of its own, of one letter."""
         with Bridge(8, 4) as bridge:
             for side, name, sends, takes in (
@@ -392,7 +404,7 @@ class Sides(unittest.TestCase):
                             str(refused.exception), f"the {name}'s side {verb} {', '.join(own)}, and not {channel!r}"
                         )
 
-    def test_widths(self):
+    def test_widths(self) -> None:
         """Each side takes and gives as many lanes as its own link has."""
         for client, manager in PAIRS:
             with self.subTest(client=client, manager=manager), Bridge(client, manager) as bridge:
@@ -403,7 +415,7 @@ class Sides(unittest.TestCase):
                 self.assertEqual([beat.data for beat in bridge.receive_all("C")], [b"\7" + bytes(manager - 1)])
                 self.assertEqual([beat.data for beat in bridge.receive_all("B")], [b"\x09" + bytes(client - 1)])
 
-    def test_left(self):
+    def test_left(self) -> None:
         """A bridge that is left is freed; a side of one that was freed refuses."""
         with Bridge(8, 4) as bridge:
             pass
@@ -419,11 +431,11 @@ class Sides(unittest.TestCase):
 
 class Library(unittest.TestCase):
     @pytest.mark.usefixtures("library")
-    def test_one(self):
+    def test_one(self) -> None:
         self.assertIs(load(), load())
 
     @pytest.mark.usefixtures("library")
-    def test_another(self):
+    def test_another(self) -> None:
         """load() with a path loads that library, and later calls return it."""
         first = load()
         with tempfile.TemporaryDirectory() as room:
@@ -437,7 +449,7 @@ class Library(unittest.TestCase):
                 tlbridge.library._loaded = first
 
     @pytest.mark.usefixtures("library")
-    def test_found(self):
+    def test_found(self) -> None:
         """The variable TLBRIDGE_LIBRARY comes first, then the package's own file, then that of the installed tree, then
         the loader's."""
         named = os.environ["TLBRIDGE_LIBRARY"]
@@ -480,7 +492,7 @@ class Library(unittest.TestCase):
                     self.assertEqual((ran.stdout, ran.stderr), (f"{wanted}\n", ""))
 
     @pytest.mark.usefixtures("library")
-    def test_words(self):
+    def test_words(self) -> None:
         """A status and each error that has one say its number, its name and its sentence."""
         said = "8 SourceBusy: the source's last request still waits for its response"
         status = status_of(8)
@@ -492,7 +504,7 @@ class Library(unittest.TestCase):
         )
 
     @pytest.mark.usefixtures("library")
-    def test_nothing_else_is_printed(self):
+    def test_nothing_else_is_printed(self) -> None:
         """A bridge that cannot be made leaves nothing that is freed."""
         program = (
             "import tlbridge\nfor widths in ((8, 3), (8, 4, 0), (8, 4, -1)):\n  try: tlbridge.Bridge(*widths)\n  except"
@@ -504,13 +516,13 @@ class Library(unittest.TestCase):
             (0, ["MissingLibraryError", "RefusedError", "ValueError"], ""),
         )
 
-    def run_apart(self, program, **environment):
+    def run_apart(self, program: str, **environment: str) -> "subprocess.CompletedProcess[str]":
         environment = {**os.environ, "PYTHONPATH": os.pathsep.join(sys.path), **environment}
         return subprocess.run(
             [sys.executable, "-c", program], env=environment, capture_output=True, text=True, timeout=60
         )
 
-    def test_named_wrongly(self):
+    def test_named_wrongly(self) -> None:
         program = (
             "import tlbridge\ntry:\n  tlbridge.load()\nexcept tlbridge.MissingLibraryError as error:\n "
             " print('missing', error)"
@@ -522,7 +534,7 @@ class Library(unittest.TestCase):
             self.assertEqual(ran.stdout.count(path), 1, ran.stdout)
 
     @pytest.mark.usefixtures("library")
-    def test_another_version(self):
+    def test_another_version(self) -> None:
         """A library of another version is refused by its number."""
         program = (
             "import tlbridge, tlbridge.bridge as b\nb.VERSION = 4\ntry:\n  tlbridge.Bridge(8, 4)\n"
@@ -531,7 +543,7 @@ class Library(unittest.TestCase):
         self.assertEqual(self.run_apart(program).stdout, "the library is of version 7, and this package of 4\n")
 
     @pytest.mark.usefixtures("library")
-    def test_memory(self):
+    def test_memory(self) -> None:
         """A thousand bridges and boards, made and left, take no more memory than the first hundred."""
         program = (
             "import resource, tlbridge\n"
@@ -553,17 +565,18 @@ class Library(unittest.TestCase):
 class Answers:
     """A library whose answer to each trace is given, and which notes its calls."""
 
-    def __init__(self, text=b"", number=0, line=0, all_done=1):
-        self.text, self.number, self.line, self.all_done, self.calls = text, number, line, all_done, []
+    def __init__(self, text: bytes = b"", number: int = 0, line: int = 0, all_done: int = 1) -> None:
+        self.text, self.number, self.line, self.all_done = text, number, line, all_done
+        self.calls: List[Any] = []
 
-        def answers(data, length, check, made):
+        def answers(data: Any, length: Any, check: Any, made: Any) -> int:
             if not isinstance(data, bytes):
                 raise TypeError("the library takes bytes")
             self.calls.append((data, length, int(check)))
             made._obj.line = self.line
             if self.number == 0:
                 made._obj.text, made._obj.length, made._obj.all_done = (
-                    ctypes.cast(self.text, ctypes.c_void_p).value,
+                    ctypes.cast(ctypes.c_char_p(self.text), ctypes.c_void_p).value,
                     len(self.text),
                     self.all_done,
                 )
@@ -576,11 +589,11 @@ class Answers:
 class OfTraces(unittest.TestCase):
     """answer() passes the whole text, reads the whole answer, and frees it."""
 
-    def answer(self, library, *words, **more):
+    def answer(self, library: Any, *words: Any, **more: Any) -> Any:
         with mock.patch("tlbridge.traces.load", return_value=library):
             return tlbridge.run_trace(*words, **more)
 
-    def test_answered(self):
+    def test_answered(self) -> None:
         for text, given, is_done in (
             ("A\0é\n", "A\0é\n".encode(), False),
             (b"\xff\0", b"\xff\0", True),
@@ -594,17 +607,17 @@ class OfTraces(unittest.TestCase):
         self.answer(library, "")
         self.assertEqual(library.calls, [(b"", 0, 0), "free"])
 
-    def test_the_status_of_an_answer_is_one_byte(self):
+    def test_the_status_of_an_answer_is_one_byte(self) -> None:
         self.assertIs(tlbridge.library.PROTOTYPES["tl_answer_trace"][0], ctypes.c_uint8)
 
-    def test_freed_if_it_is_no_text(self):
+    def test_freed_if_it_is_no_text(self) -> None:
         library = Answers(b"\xff")
         with self.assertRaises(UnicodeDecodeError):
             self.answer(library, "")
         self.assertEqual(library.calls, [(b"", 0, 0), "free"])
 
     @pytest.mark.usefixtures("library")
-    def test_faults(self):
+    def test_faults(self) -> None:
         for number, line, said in (
             (14, 1, "line 1: 14 Header"),
             (17, 70000000000, "line 70000000000: 17 Shape"),
@@ -619,7 +632,7 @@ class OfTraces(unittest.TestCase):
 
 
 class Names(unittest.TestCase):
-    def test_all(self):
+    def test_all(self) -> None:
         """`from tlbridge import *` gives each public name of the package that is no module."""
         public = {
             name
@@ -631,14 +644,14 @@ class Names(unittest.TestCase):
 
 @pytest.mark.usefixtures("library")
 class Counted(unittest.TestCase):
-    def test_wide_counts(self):
+    def test_wide_counts(self) -> None:
         """The calls that count return 64 bits."""
         board = Scoreboard(8, 4, allow_no_beats=True)
         for name in ("tl_scoreboard_finish", "tl_scoreboard_differences", "tl_scoreboard_beats"):
             self.assertIs(getattr(load(), name).restype, ctypes.c_uint64)
         board.end()
 
-    def test_wide_times(self):
+    def test_wide_times(self) -> None:
         """A time of 64 bits is passed on as it is."""
         late = (1 << 62) + (1 << 40) + 5
         board = Scoreboard(8, 4)
@@ -654,7 +667,7 @@ class Counted(unittest.TestCase):
             ],
         )
 
-    def test_two_boards(self):
+    def test_two_boards(self) -> None:
         """Each board has its own lines and counts."""
         boards = [Scoreboard(8, 4), Scoreboard(4, 8) if (4, 8) in PAIRS else Scoreboard(8, 4)]
         boards[0].beat("client", "E", 1, Beat(sink=1))
@@ -667,7 +680,7 @@ class Counted(unittest.TestCase):
             ],
         )
 
-    def test_no_pair(self):
+    def test_no_pair(self) -> None:
         with self.assertRaisesRegex(
             MissingLibraryError, "the library has no pair 3:3, or there is no memory; it has .*8:4"
         ):

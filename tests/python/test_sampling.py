@@ -2,6 +2,7 @@
 which request's lanes a response is read. Expected lanes follow from docs/SPECIFICATION.md: byte i of a message is on
 lane (address + i) mod width."""
 import unittest
+from typing import Any, Dict, Set, Tuple
 
 from tlbridge.protocol import CARRIES_DATA, GRANTS
 from tlbridge.sampling import LinkSampler, digits_of, is_known, number_of_bits
@@ -19,7 +20,7 @@ WITH_DATA = {channel: tuple(opcodes) for channel, opcodes in CARRIES_DATA.items(
 WITHOUT = {"A": (4, 5, 6, 7), "B": (4, 5, 6, 7), "C": (0, 2, 4, 6), "D": (0, 2, 4, 6)}
 
 
-def bits_of(channel, width, **values):
+def bits_of(channel: str, width: int, **values: Any) -> Dict[str, str]:
     """The bits of a beat: of each field its number, or its text."""
     wide = {"mask": width, "data": 8 * width}
     return {
@@ -28,7 +29,7 @@ def bits_of(channel, width, **values):
     }
 
 
-def sampled(sampler, **beats):
+def sampled(sampler: Any, **beats: Dict[str, str]) -> Dict[str, Any]:
     """The accepted beats of an edge, by channel: each beat, and the words about its unknown bits."""
     return {
         channel: (beat, unknown)
@@ -36,11 +37,11 @@ def sampled(sampler, **beats):
     }
 
 
-def lanes_of(address, size, width):
+def lanes_of(address: int, size: int, width: int) -> Set[int]:
     return {(address + i) % width for i in range(min(1 << size, width))}
 
 
-def unknown_in(lane, width, letter="x"):
+def unknown_in(lane: int, width: int, letter: str = "x") -> Tuple[str, str]:
     """Data with an unknown bit on a lane, and its digits."""
     bits = ["01011010"] * width
     bits[lane] = f"0{letter}011010"
@@ -50,7 +51,7 @@ def unknown_in(lane, width, letter="x"):
 
 
 class Numbers(unittest.TestCase):
-    def test_each(self):
+    def test_each(self) -> None:
         for bits, number, digits in (
             ("0", 0, "0"),
             ("1", 1, "1"),
@@ -72,7 +73,7 @@ class Numbers(unittest.TestCase):
 
 
 class Sampler(unittest.TestCase):
-    def test_each_field(self):
+    def test_each_field(self) -> None:
         """Each bit of each field comes to its own field; an unknown bit is 0 and is told."""
         for channel, fields in FIELDS.items():
             for field, bits in fields.items():
@@ -103,14 +104,14 @@ class Sampler(unittest.TestCase):
                                 digits = "x"
                             self.assertEqual(unknown, [f"{field} is {digits}"] if reads else [])
 
-    def test_sinks(self):
+    def test_sinks(self) -> None:
         """The sink is read of Grant and GrantData, and on E."""
         for opcode in range(8):
             unknown = sampled(LinkSampler(4), D=bits_of("D", 4, opcode=opcode, sink="x" * 16))["D"][1]
             self.assertEqual(unknown, ["sink is xxxx"] if opcode in GRANTS else [])
         self.assertEqual(sampled(LinkSampler(4), E=bits_of("E", 4, sink="1" * 15 + "z"))["E"][1], ["sink is fffx"])
 
-    def test_each_lane(self):
+    def test_each_lane(self) -> None:
         """An unknown bit of data is told on the lanes of the message, and nowhere else."""
         for width in (1, 2, 8, 128):
             for size in range(0, width.bit_length() + 1):
@@ -119,7 +120,7 @@ class Sampler(unittest.TestCase):
                     for lane in {0, 1, width // 2, width - 1} & {*range(width)}:
                         self.check(width, size, address, lane)
 
-    def check(self, width, size, address, lane):
+    def check(self, width: int, size: int, address: int, lane: int) -> None:
         data, digits = unknown_in(lane, width)
         is_on = lane in lanes_of(address, size, width)
         for channel, opcodes in WITH_DATA.items():
@@ -149,14 +150,14 @@ class Sampler(unittest.TestCase):
                     if channel == "D":
                         break
 
-    def test_lanes_of_responses(self):
+    def test_lanes_of_responses(self) -> None:
         """Each step is an edge: requests as `A source lane`, and responses as `D source lane opcode`, whose unknown
         byte is on that lane. A response is read on the lane of its request."""
 
-        def get(source, lane):
+        def get(source: int, lane: int) -> Dict[str, str]:
             return bits_of("A", 4, opcode=4, size=0, source=source, address=0x100 + lane, mask=1 << lane)
 
-        for steps in (
+        sequences: Tuple[Any, ...] = (
             [("A", 1, 2), ("D", 1, 2, 1)],
             [("A", 1, 2), ("A", 2, 3), ("D", 2, 3, 1), ("D", 1, 2, 1)],
             [("A", 1, 2), ("D", 1, 2, 1), ("A", 1, 3), ("D", 1, 3, 1)],
@@ -168,11 +169,12 @@ class Sampler(unittest.TestCase):
             [("A", 1, 2), (("A", 2, 1), ("D", 1, 2, 1)), (("A", 1, 0), ("D", 2, 1, 1)), ("D", 1, 0, 1)],
             [("A", 0xFFFF, 3), ("A", 0xFF, 1), ("D", 0xFFFF, 3, 1), ("D", 0xFF, 1, 1)],
             [("D", 1, 0, 1), ("A", 1, 2), ("D", 1, 2, 5)],
-        ):
+        )
+        for steps in sequences:
             for lane_seen in range(4):
                 sampler = LinkSampler(4)
                 for step in steps:
-                    beats = step if isinstance(step[0], tuple) else (step,)
+                    beats: Any = step if isinstance(step[0], tuple) else (step,)
                     data, digits = unknown_in(lane_seen, 4)
                     accepted = {}
                     for beat in reversed(beats):  # a response before its request in the dictionary
@@ -189,7 +191,7 @@ class Sampler(unittest.TestCase):
                                     got["D"][1], [f"data is {digits}"] if beat[3] != 6 and lane_seen == beat[2] else []
                                 )
 
-    def test_order(self):
+    def test_order(self) -> None:
         """The beats of an edge come in the order of their channels, and the words about a beat in the order of its
         fields."""
         beats = {

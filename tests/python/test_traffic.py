@@ -4,6 +4,7 @@ field."""
 import random
 import unittest
 from dataclasses import replace
+from typing import Any, Dict, List, Optional, Tuple
 
 import pytest
 from tlbridge import Beat, Bridge, RefusedError, Scoreboard
@@ -13,18 +14,20 @@ from tlbridge.traffic import Draws
 WIDTHS = {"client": 8, "manager": 4}
 FOR_NOW = ("NotReady", "SourceBusy", "NoRequest")
 
+Links = Dict[str, List[Tuple[str, Beat]]]  # of each link, its beats with their channels
+
 
 class Traffic:
     """The near beats of each channel, as drawn, and the beats of each link in the order in which it accepts them."""
 
-    def __init__(self, seed):
+    def __init__(self, seed: int) -> None:
         self.random = random.Random(seed)
         self.draws = Draws(self.random)
-        self.left = {channel: [] for channel in "ABCDE"}
-        self.asked = []
-        self.links = {"client": [], "manager": []}
+        self.left: Dict[str, List[Beat]] = {channel: [] for channel in "ABCDE"}
+        self.asked: List[Tuple[int, int]] = []
+        self.links: Links = {"client": [], "manager": []}
 
-    def message(self, channel):
+    def message(self, channel: str) -> List[Beat]:
         """The near beats of a message."""
         choose, draws, width = self.random, self.draws, WIDTHS["client" if channel in FROM_CLIENT else "manager"]
         opcode, size, given = RELEASE_ACK, choose.randrange(7), {"source": choose.randrange(4)}
@@ -33,15 +36,15 @@ class Traffic:
             opcode = choose.choice((0, 1, 2, 4, 5))
         elif channel in "ABC":
             opcode = choose.choice([*OPCODES[channel]])
-        head = draws.head(channel, opcode, size, **given)
+        head: Any = draws.head(channel, opcode, size, **given)
         if channel == "E":
             return [Beat(**head)]
         return [
-            Beat(**head, data=beat.data.to_bytes(width, "little"), corrupt=beat.corrupt, mask=beat.mask)
+            Beat(**head, data=beat.data.to_bytes(width, "little"), corrupt=bool(beat.corrupt), mask=beat.mask)
             for beat in draws.beats(channel, head, width)
         ]
 
-    def run(self, steps):
+    def run(self, steps: int) -> Links:
         """Offers and takes at random, and lists the beats of each link."""
         with Bridge(8, 4, ring=self.random.choice((1, 16, 4096))) as bridge:
             for _ in range(steps):
@@ -55,7 +58,7 @@ class Traffic:
                     self.take(bridge, channel)
         return self.links
 
-    def offer(self, bridge, channel, begins=True):
+    def offer(self, bridge: Any, channel: str, begins: bool = True) -> None:
         if not self.left[channel] and begins and (channel != "D" or self.asked or self.random.random() < 0.1):
             self.left[channel] = self.message(channel)
         if not self.left[channel]:
@@ -68,7 +71,7 @@ class Traffic:
             return
         self.links["client" if channel in FROM_CLIENT else "manager"].append((channel, self.left[channel].pop(0)))
 
-    def take(self, bridge, channel):
+    def take(self, bridge: Any, channel: str) -> None:
         bridge.settle()
         beat = bridge.receiver(channel).take(channel)
         if beat is None:
@@ -78,7 +81,7 @@ class Traffic:
             self.asked.append((beat.source, beat.size))
         self.links[link].append((channel, beat))
 
-    def goes_on(self, link):
+    def goes_on(self, link: str) -> bool:
         """Whether the message of the last beat of A is not whole."""
         beats = [beat for channel, beat in self.links[link] if channel == "A"]
         at = 0
@@ -87,7 +90,7 @@ class Traffic:
         return at > len(beats)
 
 
-def judged(links, seed):
+def judged(links: Links, seed: int) -> List[str]:
     """Returns the lines of a scoreboard that gets the beats of both links in a random order."""
     choose, board = random.Random(seed), Scoreboard(8, 4)
     waiting = {link: list(beats) for link, beats in links.items()}
@@ -103,7 +106,7 @@ def judged(links, seed):
 
 @pytest.mark.usefixtures("proved")
 class Random(unittest.TestCase):
-    def test_right(self):
+    def test_right(self) -> None:
         for seed in range(8):
             with self.subTest(seed=seed):
                 links = Traffic(seed).run(400)
@@ -112,7 +115,7 @@ class Random(unittest.TestCase):
                 for order in range(3):
                     self.assertEqual(judged(links, order), [])
 
-    def test_each_field(self):
+    def test_each_field(self) -> None:
         fields = {
             "A": "opcode param size source address mask corrupt data",
             "B": "opcode param size source address mask corrupt data",
@@ -129,7 +132,7 @@ class Random(unittest.TestCase):
                         f"^time [0-9]+: far {channel} beat [0-9]+;(.*;)? {name} got",
                     )
 
-    def test_each_message_with_data(self):
+    def test_each_message_with_data(self) -> None:
         links = Traffic(11).run(1000)
         for channel, opcodes in CARRIES_DATA.items():
             for opcode in opcodes:
@@ -139,7 +142,7 @@ class Random(unittest.TestCase):
                         f"^time [0-9]+: far {channel} beat [0-9]+; data got",
                     )
 
-    def test_lost_and_doubled(self):
+    def test_lost_and_doubled(self) -> None:
         links = Traffic(10).run(400)
         for channel in "ABCDE":
             link = "manager" if channel in FROM_CLIENT else "client"
@@ -152,7 +155,7 @@ class Random(unittest.TestCase):
                 self.assertRegex("\n".join(judged(doubled, 1)), f"far {channel} beat [0-9]+: .*unexpected")
 
 
-def changed(links, channel, name, opcode=None):
+def changed(links: Any, channel: str, name: str, opcode: Optional[int] = None) -> Any:
     """The same with a field of one far beat changed, of this opcode, if it is given: of data, byte 0 of a message that
     fills the beat."""
     link = "manager" if channel in FROM_CLIENT else "client"

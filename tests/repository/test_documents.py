@@ -28,6 +28,7 @@ import subprocess
 import unicodedata
 from pathlib import Path
 from textwrap import dedent
+from typing import Any, Dict, Iterable, Iterator, List, Optional, Sequence, Set, Tuple
 
 import pytest
 from project import EXAMPLES, ROOT, needs_program
@@ -63,7 +64,7 @@ TOOLS = {
 LIBRARY = re.compile(r"\$PREFIX/(lib|share/tlbridge/python)\b|pkg-config")
 
 
-def anchors(text):
+def anchors(text: str) -> Set[str]:
     """The names by which headings of a document can be linked."""
     names = set()
     for heading in re.findall(r"^#+ (.+)$", outside_of_blocks(text), re.M):
@@ -72,9 +73,10 @@ def anchors(text):
     return names
 
 
-def blocks(text):
+def blocks(text: str) -> Iterator[Tuple[str, List[str]]]:
     """The blocks of a document that are set apart by four spaces: the last line above each, and its lines."""
-    above, block = "", []
+    above = ""
+    block: List[str] = []
     for line in [*text.splitlines(), "."]:
         if line.startswith("    ") or (not line and block):
             block.append(line[4:])
@@ -85,7 +87,7 @@ def blocks(text):
             above = line or above
 
 
-def outside_of_blocks(text):
+def outside_of_blocks(text: str) -> str:
     return "\n".join(line for line in text.splitlines() if not line.startswith("    "))
 
 
@@ -93,7 +95,7 @@ def outside_of_blocks(text):
 SECONDS = re.compile(r" +\d+(\.\d+)? s$")
 
 
-def matches(wanted, came):
+def matches(wanted: Sequence[str], came: Sequence[str]) -> bool:
     """Whether lines are the wanted ones. A line `..` matches any lines, and seconds at the end match any seconds."""
     if not wanted:
         return not came
@@ -103,9 +105,10 @@ def matches(wanted, came):
     return bool(came) and first == other and matches(wanted[1:], came[1:])
 
 
-def sessions(block):
+def sessions(block: Sequence[str]) -> Iterator[Tuple[str, List[str]]]:
     """The commands of a block, each with the lines that it has to print."""
-    command, printed = None, []
+    command: Optional[str] = None
+    printed: List[str] = []
     for line in block:
         if line.startswith("$ "):
             if command:
@@ -120,7 +123,7 @@ def sessions(block):
 class Desk:
     """A copy of the top of the project, in which commands are run and may write files, and an installed tree."""
 
-    def __init__(self, folder, programs, prefix):
+    def __init__(self, folder: Path, programs: Any, prefix: Optional[Path]) -> None:
         self.top, self.prefix, self.has_library = folder / "top", prefix or folder / "prefix", prefix is not None
         self.top.mkdir()
         for entry in ROOT.iterdir():
@@ -142,7 +145,7 @@ class Desk:
             "PKG_CONFIG_PATH": f"{self.prefix}/lib/pkgconfig",
         }
 
-    def install(self, programs):
+    def install(self, programs: Any) -> None:
         """The part of an installed tree that needs no library."""
         for folder in ("bin", "share/tlbridge"):
             (self.prefix / folder).mkdir(parents=True)
@@ -154,7 +157,7 @@ class Desk:
         for name in ("sv", "rtl", "examples", "python"):
             (self.prefix / "share" / "tlbridge" / name).symlink_to(ROOT / name)
 
-    def run(self, command, folder):
+    def run(self, command: str, folder: Path) -> Tuple[List[str], int]:
         """Returns the output of a command that is run in a folder, and its exit status."""
         run = subprocess.Popen(
             ["bash", "-c", command],
@@ -173,20 +176,20 @@ class Desk:
             return [f"it did not end in {MOST_SECONDS} seconds"], run.wait()
 
 
-def missing_tool(command):
+def missing_tool(command: str) -> Optional[str]:
     """The first tool that a command needs and that is not installed."""
     return next((tool for tool, needs in TOOLS.items() if needs.search(command) and not shutil.which(tool)), None)
 
 
 @pytest.fixture(scope="module")
-def desk(tmp_path_factory):
+def desk(tmp_path_factory: pytest.TempPathFactory) -> Desk:
     """A copy of the top folder with both programs, for all commands of this file."""
     programs = {name: needs_program(name) for name in ("tlbridge", "tlexplain")}
     prefix = os.environ.get("TLBRIDGE_PREFIX")
     return Desk(tmp_path_factory.mktemp("desk"), programs, Path(prefix).resolve() if prefix else None)
 
 
-def by_page(found):
+def by_page(found: Iterable[Any]) -> List[Any]:
     """The parameters of a test that has several for each document."""
     return [pytest.param(*values, id=f"{path.relative_to(ROOT)}: {name}") for path, name, *values in found]
 
@@ -200,14 +203,14 @@ COMMANDS = [
 ]
 
 
-def needs_tool_of(command):
+def needs_tool_of(command: str) -> None:
     tool = missing_tool(command)
     if tool:
         pytest.skip(f"{tool} is not installed")
 
 
 @pytest.mark.parametrize("path, command, printed", by_page(COMMANDS))
-def test_a_command_prints_what_the_page_shows(desk, path, command, printed):
+def test_a_command_prints_what_the_page_shows(desk: Desk, path: Path, command: str, printed: List[str]) -> None:
     """What is shown decides. Without it, a wrong command line or a missing program must not pass."""
     needs_tool_of(command)
     while printed and not printed[-1]:
@@ -218,15 +221,15 @@ def test_a_command_prints_what_the_page_shows(desk, path, command, printed):
 
 
 @PAGES
-def test_what_a_program_prints_has_its_command(path):
+def test_what_a_program_prints_has_its_command(path: Path) -> None:
     """No block has lines of output without the command."""
     for _, block in blocks(path.read_text()):
         is_shown = any(line.startswith("$ ") for line in block) or not any(OUTPUT.match(line) for line in block)
         assert is_shown, block[0]
 
 
-@pytest.mark.parametrize("script", sorted(EXAMPLES.glob("*/run")), ids=lambda script: script.parent.name)
-def test_an_example_prints_its_stored_output(desk, tmp_path, script):
+@pytest.mark.parametrize("script", sorted(EXAMPLES.glob("*/run")), ids=lambda script: str(script.parent.name))
+def test_an_example_prints_its_stored_output(desk: Desk, tmp_path: Path, script: Path) -> None:
     """The commands of each example print the output that is stored with them."""
     stored, command = script.parent / "output", script.read_text()
     if not stored.exists():
@@ -241,10 +244,11 @@ def test_an_example_prints_its_stored_output(desk, tmp_path, script):
 
 
 @PAGES
-def test_an_answer_is_that_of_the_program(path):
+def test_an_answer_is_that_of_the_program(path: Path) -> None:
     """The examples leave out the line of the widths and the lines `= K done 0 0`."""
     for _, block in blocks(path.read_text()):
-        said, label = {"trace": [], "answer": []}, None
+        said: Dict[Optional[str], List[str]] = {"trace": [], "answer": []}
+        label = None
         for line in block:
             label = line[:9].strip() or label
             said.setdefault(label, []).append(line[9:])
@@ -253,7 +257,7 @@ def test_an_answer_is_that_of_the_program(path):
             assert said["answer"] in made, f"no pair of widths gives this answer to {said['trace']}"
 
 
-def answers(tlbridge, trace):
+def answers(tlbridge: Path, trace: str) -> Iterator[List[str]]:
     """Yields the answer to a trace of version 1, given without its header, at each pair of widths."""
     for client, manager in itertools.product(WIDTHS, repeat=2):
         said = subprocess.run(
@@ -268,13 +272,13 @@ def answers(tlbridge, trace):
         yield [line for line in said.stdout.splitlines()[1:] if not line.endswith(" done 0 0")]
 
 
-def is_part(block, lines):
+def is_part(block: Sequence[str], lines: Sequence[str]) -> bool:
     """Whether the lines of a block follow one another in a file, apart from one common indentation."""
     wanted = dedent("\n".join(block))
     return any(dedent("\n".join(lines[at : at + len(block)])) == wanted for at in range(len(lines)))
 
 
-def file_of(above, section):
+def file_of(above: str, section: str) -> Tuple[Optional[str], bool]:
     """The file that a block shows, by the line above it: its name, and whether only a part of it is shown."""
     file, stored = FILE.search(above), re.search(r"(Run|This prints):$", above)
     if file:
@@ -286,7 +290,7 @@ def file_of(above, section):
 
 
 @PAGES
-def test_a_block_is_as_in_its_file(path):
+def test_a_block_is_as_in_its_file(path: Path) -> None:
     """A block that shows a file, or a part of one, is as in the project."""
     for section in path.read_text().split("\n## "):
         for above, block in blocks(section):
@@ -300,7 +304,7 @@ def test_a_block_is_as_in_its_file(path):
 
 
 @PAGES
-def test_links_lead_somewhere(path):
+def test_links_lead_somewhere(path: Path) -> None:
     """Each link to a file or to a heading leads somewhere, and no section ends with a colon."""
     text = path.read_text()
     assert not re.search(r":\n\n#", text), "a section ends with a colon"
@@ -317,7 +321,7 @@ def test_links_lead_somewhere(path):
 SOURCES = ("include", "sv", "rtl", "packaging", "python", "examples", "tools", "bench", "crates/*/src")
 
 
-def test_pages_that_sources_name_are_there():
+def test_pages_that_sources_name_are_there() -> None:
     """A page that a comment, a message or a man page names is there."""
     files = [path for name in SOURCES for folder in ROOT.glob(name) for path in folder.rglob("*") if path.is_file()]
     files += [path for path in ROOT.iterdir() if path.is_file()]
@@ -327,10 +331,10 @@ def test_pages_that_sources_name_are_there():
     assert not gone, gone
 
 
-def test_each_fault_has_its_heading():
+def test_each_fault_has_its_heading() -> None:
     """docs/FAULTS.md has a heading and a sentence for each line of `tlexplain --faults`, and no other."""
     said = subprocess.run([needs_program("tlexplain"), "--faults"], stdout=subprocess.PIPE, text=True, timeout=60)
-    wanted = [re.fullmatch(r" ?(\d+) (\w+) +(.*)", line).groups() for line in said.stdout.splitlines()]
+    wanted = [row for line in said.stdout.splitlines() for row in re.findall(r"^ ?(\d+) (\w+) +(.*)$", line)]
     text = (ROOT / "docs" / "FAULTS.md").read_text()
     stated = re.findall(r"^### (\d+) (\w+)\n> (.*)$", text, re.M)
     assert len(wanted) == 23

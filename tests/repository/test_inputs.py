@@ -14,11 +14,13 @@ import shutil
 import subprocess
 import sys
 from dataclasses import dataclass
+from functools import partial
 from pathlib import Path
-from typing import Callable, List, Tuple
+from typing import Any, Callable, Dict, Iterator, List, Optional, Sequence, Tuple
 
 import pytest
 import starter
+from differences import Differences
 from project import ROOT, built, needs_program, needs_tools
 from small_waves import simple
 
@@ -59,7 +61,7 @@ class Command:
     explains: bool = False  # a bad file on standard output, and a message in a second line
     tools: Tuple[str, ...] = ()  # that the command needs
 
-    def said(self, error):
+    def said(self, error: str) -> bool:
         """Whether the text of standard error is a message of this command."""
         lines = error.splitlines()
         if self.explains:
@@ -75,12 +77,16 @@ class Command:
         )
 
 
-def commands(room):
+def with_path(words: List[str], path: str) -> List[str]:
+    return [*words, path]
+
+
+def commands(room: Path) -> Iterator[Command]:
     """Each command with a bad client's file, and so on. The right files of both links are in `room`."""
     client, manager = str(room / "client.beats"), str(room / "manager.beats")
     compare = [str(ROOT / "sv" / "compare"), "8", "4"]
     model = ["--program", MODEL]
-    wrong = (
+    wrong: Tuple[Tuple[str, ...], ...] = (
         ("8", "4"),
         ("3", "4", "x", "y"),
         ("8", "4", "x", "y", "z"),
@@ -133,20 +139,21 @@ def commands(room):
     for word in ("run", "check"):
         yield Command(
             "tlbridge-model",
-            lambda path, word=word: [MODEL, word, path],
+            partial(with_path, [MODEL, word]),
             TRACE,
             bad_words=wrong if word == "run" else (),
         )
         yield Command(
             "tlbridge",
-            lambda path, word=word: [str(built("tlbridge")), word, path],
+            partial(with_path, [str(built("tlbridge")), word]),
             TRACE,
             bad_words=wrong if word == "run" else (),
         )
-    for words in ((), ("--json",), ("--html",), ("--lanes", "--to", "4")):
+    options: Tuple[Tuple[str, ...], ...] = ((), ("--json",), ("--html",), ("--lanes", "--to", "4"))
+    for words in options:
         yield Command(
             "tlexplain",
-            lambda path, words=words: [str(built("tlexplain")), *words, path],
+            partial(with_path, [str(built("tlexplain")), *words]),
             TRACE,
             bad_words=() if words else (("--nothing",), ("x", "y"), ("--to", "many", "x")),
             explains=True,
@@ -183,7 +190,11 @@ def commands(room):
     )
 
 
-def bad_files(command):
+# What a bad input is, and how its run fails: nothing if it ends as it has to.
+Check = Tuple[str, Callable[[], str]]
+
+
+def bad_files(command: Command) -> Iterator[Tuple[str, bytes, int]]:
     """Names, texts and the status."""
     right, status = command.right, command.of_file
     yield "an empty file", b"", command.of_empty
@@ -194,14 +205,14 @@ def bad_files(command):
         yield "compressed twice", gzip.compress(gzip.compress(right)), status
     yield "each byte", bytes(range(256)) * 40, status
     yield "zeros", bytes(1000), status
-    yield "a program", Path(shutil.which("true")).read_bytes(), status
+    yield "a program", Path(str(shutil.which("true"))).read_bytes(), status
     yield "other words", b"hello world\n", status
     yield "letters of Latin-1", "\u00e9 \u00fc\n".encode("latin-1"), status
     yield "escapes of a terminal", b"\x1b[31m\x1b]0;x\x07\r\x08\n", status
     yield "a long line", command.longest, status
 
 
-def paths(command, room):
+def paths(command: Command, room: Path) -> Iterator[Tuple[str, str, int]]:
     """Names, paths and how a path that cannot be read ends."""
     status = command.of_path
     memory = () if command.name == "prove" else (("memory, which cannot be read from its beginning", "/proc/self/mem"),)
@@ -221,7 +232,9 @@ def paths(command, room):
 
 
 class Ended:
-    def __init__(self, command, words, room, closed=(), **more):
+    def __init__(
+        self, command: Command, words: Sequence[str], room: Path, closed: Sequence[int] = (), **more: Any
+    ) -> None:
         """Runs words, in which the streams with the numbers `closed` are closed. A command that does not end is a
         failure. Each script in Python starts with closed streams as users start it; other runs of it are forks."""
         environment = {
@@ -246,7 +259,7 @@ class Ended:
             ran.stderr.decode("utf-8", "backslashreplace"),
         )
 
-    def failure(self, status, output=b"", is_silent=False):
+    def failure(self, status: int, output: Optional[bytes] = b"", is_silent: bool = False) -> str:
         """What is wrong: the status, standard output, no message or more than one, a traceback, or a control character
         in a message."""
         odd = re.search(r"[^\n\x20-\x7e\u00a0-\uffff]", self.error)
@@ -263,20 +276,22 @@ class Ended:
         return f"{'; '.join(found)}: {self.error[-600:]}" if found else ""
 
 
-def of_files(command, room):
+def of_files(command: Command, room: Path) -> Iterator[Check]:
     number = 0
     for name, text, status in bad_files(command):
         number += 1
         path = room / f"input{number}"
         path.write_bytes(text)
         output = None if status == 1 or command.explains else b""
-        yield name, lambda path=path, status=status, output=output: Ended(
-            command, command.words(str(path)), room
-        ).failure(status, output, status == 1)
+
+        def failure(path: Path = path, status: int = status, output: Optional[bytes] = output) -> str:
+            return Ended(command, command.words(str(path)), room).failure(status, output, status == 1)
+
+        yield name, failure
 
 
-def of_paths(command, room):
-    def failure(words, path, status):
+def of_paths(command: Command, room: Path) -> Iterator[Check]:
+    def failure(words: Sequence[str], path: str, status: int) -> str:
         ended = Ended(command, words, room)
         is_named = command.name not in NAMELESS and path.isascii() and path.isprintable()
         return ended.failure(status) or (
@@ -284,15 +299,15 @@ def of_paths(command, room):
         )
 
     for name, path, status in paths(command, room):
-        yield f"the path: {name}", lambda path=path, status=status: failure(command.words(path), path, status)
+        yield f"the path: {name}", partial(failure, command.words(path), path, status)
     secret = str(room / "secret")
     yield "no permission", lambda: failure([*WITHOUT_RIGHTS, *command.words(secret)], secret, command.of_path)
 
 
-def of_words(command, room):
+def of_words(command: Command, room: Path) -> Iterator[Check]:
     program = command.words("x")[0]
 
-    def failure(words):
+    def failure(words: Sequence[str]) -> str:
         ended = Ended(command, [program, *words], room)
         lines = [
             line
@@ -303,18 +318,18 @@ def of_words(command, room):
         return found if found or len(lines) == 1 else f"not one error: {ended.error}"
 
     for words in command.bad_words:
-        yield f"the words {' '.join(words) or '(none)'}", lambda words=words: failure(words)
+        yield f"the words {' '.join(words) or '(none)'}", partial(failure, words)
 
 
-def of_streams(command, room):
+def of_streams(command: Command, room: Path) -> Iterator[Check]:
     """With the right input, and with a bad one whose message has no place."""
     right, bad = command.words(str(room / "right")), command.words(str(room / "missing"))
 
-    def as_usual(closed):
+    def as_usual(closed: Sequence[int]) -> str:
         usual, ended = Ended(command, right, room), Ended(command, right, room, closed)
         return ended.failure(usual.status, usual.output, True)
 
-    def broken():
+    def broken() -> str:
         reading, writing = os.pipe()
         os.close(reading)
         with os.fdopen(writing, "wb") as pipe:
@@ -325,7 +340,7 @@ def of_streams(command, room):
             else f"status {ended.status}: {ended.error}"
         )
 
-    def full():
+    def full() -> str:
         with open("/dev/full", "wb") as device:
             ended = Ended(command, right, room, stdout=device)
         has_name = "standard output: No space" in ended.error or "22 Write" in ended.error
@@ -343,10 +358,10 @@ def of_streams(command, room):
     yield "all streams are closed", lambda: Ended(command, right, room, (0, 1, 2)).failure(4, is_silent=True)
 
 
-def of_outputs(command, room):
+def of_outputs(command: Command, room: Path) -> Iterator[Check]:
     """A file to write on a full disk, in a folder that is missing, and in the place of a folder."""
 
-    def failure(option, path):
+    def failure(option: str, path: str) -> str:
         ended = Ended(command, [*command.words(str(room / "right")), option, path], room)
         return ended.failure(4, None) or ("" if path in ended.error else f"it does not name the file: {ended.error}")
 
@@ -361,28 +376,26 @@ def of_outputs(command, room):
                 ("in a missing folder", f"missing/x{ending}"),
                 ("in the place of a folder", folder),
             ):
-                yield f"{option}{ending} {name}", lambda option=option, path=str(room / path), ending=ending: failure(
-                    option, path[: len(path) - len(ending)]
-                )
+                whole = str(room / path)
+                yield f"{option}{ending} {name}", partial(failure, option, whole[: len(whole) - len(ending)])
 
 
-def of_standard_input(command, room):
+def of_standard_input(command: Command, room: Path) -> Iterator[Check]:
     """The dump or the trace on standard input, which is closed, or has nothing."""
-    words = {
+    first_words: Dict[str, List[str]] = {
         "tlbridge-trace": ["-"],
         "tlbridge-model": ["run"],
         "tlbridge": ["run"],
         "tlexplain": [],
         "tlexplain-model": [],
-    }.get(command.name)
+    }
+    words = first_words.get(command.name)
     if words is None or not command.bad_words:
         return
-    program = command.words("x")[0]
+    given = [command.words("x")[0], *words]
     output = None if command.explains else b""
-    yield "standard input is empty", lambda: Ended(command, [program, *words], room).failure(3, output)
-    yield "standard input is closed, and has the input", lambda: Ended(command, [program, *words], room, (0,)).failure(
-        4
-    )
+    yield "standard input is empty", lambda: Ended(command, given, room).failure(3, output)
+    yield "standard input is closed, and has the input", lambda: Ended(command, given, room, (0,)).failure(4)
 
 
 # The commands, by which input they get, and the kinds of bad inputs.
@@ -390,7 +403,7 @@ NAMES = [" ".join(os.path.basename(word) for word in command.words("INPUT")) for
 KINDS = (of_streams, of_files, of_paths, of_words, of_outputs, of_standard_input)
 
 
-def folder_of(command, folder):
+def folder_of(command: Command, folder: Path) -> Path:
     """A folder with the right files of both links, and with the paths that are bad."""
     folder.chmod(0o755)
     for name, text in zip(("client.beats", "manager.beats"), BEATS):
@@ -407,7 +420,7 @@ def folder_of(command, folder):
     return own
 
 
-def has_inputs(command, made):
+def has_inputs(command: Command, made: Any) -> object:
     """Whether a command has bad inputs of this kind."""
     return {
         of_streams: command.streams,
@@ -426,7 +439,7 @@ CASES = [
 
 
 @pytest.mark.parametrize("number, made", CASES)
-def test_bad_inputs(differences, tmp_path, number, made):
+def test_bad_inputs(differences: Differences, tmp_path: Path, number: int, made: Any) -> None:
     """Each has its status, one message, and nothing or the usual text on standard output."""
     command = list(commands(tmp_path))[number]
     needs_tools(*command.tools)

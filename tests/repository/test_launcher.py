@@ -12,8 +12,10 @@ import subprocess
 import sys
 import time
 from pathlib import Path
+from typing import Dict, Iterable, Iterator, List, Sequence, Tuple
 
 import pytest
+from differences import Differences
 from project import ROOT
 
 # `rt run` makes a program, and `rt lib` a library. With REFUSES it refuses that crate. With KEEPS it finds that nothing
@@ -54,7 +56,7 @@ HARD = ["run", "--ring", "4", "a b", "it's", "", "x*", "$HOME", "~", "-"]
 class Folder:
     """A folder with the scripts and four crates."""
 
-    def __init__(self, room):
+    def __init__(self, room: Path) -> None:
         self.top, self.calls_file, self.bin = Path(room) / "a checkout", Path(room) / "calls", Path(room) / "bin"
         (self.top / "tools").mkdir(parents=True)
         self.bin.mkdir()
@@ -73,24 +75,24 @@ class Folder:
             (self.bin / name).chmod(0o755)
         self.age()
 
-    def age(self):
+    def age(self) -> None:
         """Makes all sources, and their folders, older than everything that is built."""
         for path in self.top.rglob("*"):
             if "out" not in path.parts and not path.is_symlink():
                 os.utime(path, (1_000_000_000, 1_000_000_000))
 
-    def change(self, name):
+    def change(self, name: str) -> None:
         """Makes one source newer than the programs, and both older than what is built from now on."""
         self.age()
         for program in self.top.glob("crates/tl*/out/tl*"):
             os.utime(program, (1_100_000_000, 1_100_000_000))
         os.utime(self.top / name, (1_200_000_000, 1_200_000_000))
 
-    def change_later(self, name):
+    def change_later(self, name: str) -> None:
         """Makes a source newer than everything that is built in the next minute."""
         os.utime(self.top / name, (time.time() + 60, time.time() + 60))
 
-    def environment(self, **settings):
+    def environment(self, **settings: str) -> Dict[str, str]:
         path = f"{self.bin}:{os.environ['PATH']}"
         named = {
             "CALLS": str(self.calls_file),
@@ -101,7 +103,9 @@ class Folder:
         }
         return {**os.environ, "PATH": path, **named, **settings}
 
-    def run(self, program, words, text="", **settings):
+    def run(
+        self, program: str, words: Sequence[str], text: str = "", **settings: str
+    ) -> Tuple[str, str, int, List[str]]:
         """Runs a program of the folder. Returns its output, standard error and status, and the calls of `rt`."""
         self.calls_file.write_text("")
         command = [str(self.top / program), *words]
@@ -111,30 +115,33 @@ class Folder:
         return done.stdout, done.stderr, done.returncode, self.calls_file.read_text().split("\n")[:-1]
 
 
-def shown(words):
+def shown(words: Sequence[str]) -> str:
     return "".join(f"<{word}>" for word in words)
 
 
 @pytest.fixture
-def folder(tmp_path):
+def folder(tmp_path: Path) -> Folder:
     """A folder with the scripts and the crates, of which nothing is built."""
     return Folder(tmp_path)
 
 
 @pytest.fixture
-def built_folder(folder):
+def built_folder(folder: Folder) -> Folder:
     """The same with both programs built."""
     for program in ("tlbridge", "tlexplain"):
         assert folder.run(program, [])[2] == 7
     return folder
 
 
-def compare(differences, rows):
+Row = Tuple[str, object, object]  # what it is, what came, and what is wanted
+
+
+def compare(differences: Differences, rows: Iterable[Row]) -> None:
     for name, came, wanted in rows:
         differences.same(name, came, wanted)
 
 
-def first_run(folder):
+def first_run(folder: Folder) -> Iterator[Row]:
     """The first run builds the crates below first, says what to use until then, and then runs the program."""
     said, error, status, calls = folder.run("tlbridge", HARD, "its input\n")
     yield "output of the first run", said, shown(HARD) + "its input\n"
@@ -149,7 +156,7 @@ def first_run(folder):
     yield "lines of progress", len(progress), 7
 
 
-def later_runs(folder):
+def later_runs(folder: Folder) -> Iterator[Row]:
     """A later run builds nothing, unless a source is newer, and then only once."""
     yield "a later run", folder.run("tlbridge", ["check"], "x"), ("<check>x", "", 7, [])
     for name in (
@@ -173,7 +180,7 @@ def later_runs(folder):
     yield "a program that cannot be run", len(folder.run("tlbridge", [])[3]), 3
 
 
-def names(folder):
+def names(folder: Folder) -> Iterator[Row]:
     """The name by which it is called is that of the program, and a link from elsewhere leads to the same folder."""
     said, error, status, calls = folder.run("tlexplain", ["--lanes"])
     yield "the first tlexplain", (said, status, calls), ("<--lanes>", 7, ["low lib yes", "tlexplain run yes"])
@@ -189,12 +196,13 @@ def names(folder):
     yield "the model is not named for them", "tlbridge-model" in error, False
 
 
-def explained(folder):
+def explained(folder: Folder) -> Iterator[Row]:
     """Without the program, the unverified model explains a trace, and says so. A page needs the program."""
     for name in ("tlbridge-model", "tlexplain-model"):
         shutil.copy2(ROOT / name, folder.top / name)
     trace = "tilelink-trace 1 client 4 manager 4\nE 00\n"
-    for words in ([], ["--no-remarks"], ["--lanes"]):
+    options: Tuple[List[str], ...] = ([], ["--no-remarks"], ["--lanes"])
+    for words in options:
         said, error, status, calls = folder.run("tlexplain", words, trace)
         yield f"sentence, {words}", said.splitlines()[0], "line 2: E GrantAck, sink 00: accepted, far beat 0"
         yield f"end, {words}", (error.count("\n"), status, calls), (1, 0, [])
@@ -204,7 +212,7 @@ def explained(folder):
     yield "the program is used once it is built", folder.run("tlexplain", ["a"], trace)[0], "<a>" + trace
 
 
-def refusals(folder):
+def refusals(folder: Folder) -> Iterator[Row]:
     """If a crate is refused, nothing above it is built, nothing runs, and the status is 70."""
     for crate in ("low", "tlbridge"):
         folder.change("crates/low/src/lib.rt")
@@ -220,14 +228,14 @@ def refusals(folder):
     empty = folder.top / "bin"
     empty.mkdir()
     for tool in ("sh", "dirname", "readlink", "basename", "find", "head", "sed", "touch", "cat", "env"):
-        os.symlink(shutil.which(tool), empty / tool)
+        os.symlink(str(shutil.which(tool)), empty / tool)
     os.symlink(sys.executable, empty / "python3")
     said, error, status, _ = folder.run("tlbridge", ["check"], PATH=str(empty))
     end = "tlbridge: rt, the command of the Rattle toolchain, is not in PATH\n" + REFUSED
     yield "without rt", (said, error[-len(end) :], status), ("", end, 70)
 
 
-def direct(folder):
+def direct(folder: Folder) -> Iterator[Row]:
     """Calls of tools/build itself."""
     folder.age()
     said, error, status, calls = folder.run("tools/build", ["tlbridge", "tlexplain"])
@@ -260,7 +268,7 @@ def direct(folder):
     yield "no crate", (said, "tools/build [--in FOLDER]" in error, status, calls), ("", True, 2, [])
 
 
-def stopped(folder):
+def stopped(folder: Folder) -> Iterator[Row]:
     """A signal ends it, and what it started, with a message."""
     for number in (signal.SIGTERM, signal.SIGINT):
         waits = folder.top / f"waits.{number}"
@@ -283,7 +291,7 @@ def stopped(folder):
         yield f"what signal {number} leaves", is_running(int(waits.read_text())), False
 
 
-def is_running(process):
+def is_running(process: int) -> bool:
     try:
         state = Path(f"/proc/{process}/stat").read_text().rpartition(")")[2].split()[0]
     except OSError:
@@ -291,38 +299,38 @@ def is_running(process):
     return state != "Z"
 
 
-def test_the_first_run_builds_and_says_what_to_use(differences, folder):
+def test_the_first_run_builds_and_says_what_to_use(differences: Differences, folder: Folder) -> None:
     """The first run builds the crates below first, says what to use until then, and then runs the program."""
     compare(differences, first_run(folder))
 
 
-def test_later_runs_build_nothing(differences, folder):
+def test_later_runs_build_nothing(differences: Differences, folder: Folder) -> None:
     """A later run builds nothing, unless a source is newer, and then only once."""
     folder.run("tlbridge", [])
     compare(differences, later_runs(folder))
 
 
-def test_the_name_is_that_of_the_program(differences, folder):
+def test_the_name_is_that_of_the_program(differences: Differences, folder: Folder) -> None:
     """The name by which it is called is that of the program, and a link from elsewhere leads to the same folder."""
     folder.run("tlbridge", [])
     compare(differences, names(folder))
 
 
-def test_an_explanation_without_the_program(differences, folder):
+def test_an_explanation_without_the_program(differences: Differences, folder: Folder) -> None:
     """The unverified model explains a trace until the program is built."""
     compare(differences, explained(folder))
 
 
-def test_a_crate_that_is_refused(differences, built_folder):
+def test_a_crate_that_is_refused(differences: Differences, built_folder: Folder) -> None:
     """If a crate is refused, nothing above it is built, nothing runs, and the status is 70."""
     compare(differences, refusals(built_folder))
 
 
-def test_calls_of_the_build_itself(differences, built_folder):
+def test_calls_of_the_build_itself(differences: Differences, built_folder: Folder) -> None:
     """The words of tools/build."""
     compare(differences, direct(built_folder))
 
 
-def test_a_signal_ends_it(differences, built_folder):
+def test_a_signal_ends_it(differences: Differences, built_folder: Folder) -> None:
     """A signal ends the build and what it started, with a message."""
     compare(differences, stopped(built_folder))

@@ -4,16 +4,16 @@ shellcheck for scripts of the shell. A missing one is a skip."""
 import os
 import re
 import subprocess
+from pathlib import Path
+from typing import Dict, List
 
 import pytest
 from project import ROOT, compiler, needs_tools
 
 FIRST_LINE = re.compile(rb"#!.*\b(python3|sh|bash)\b")
-# The folders whose types mypy checks strictly. Other tests have types in part.
-TYPED = (
-    *("python/tlbridge", "tests/lib/", "tests/links", "tests/monitor", "tests/mutants", "tests/prove", "tests/verify"),
-    *("tools/rtl_proofs", "tools/mutants", "tools/reading-list", "bench/verify"),
-)
+# The folders and scripts whose types mypy checks strictly, and those whose types are not all there.
+TYPED = ("bench/", "python/", "sv/", "tests/", "tlbridge-", "tools/")
+NOT_TYPED = ("bench/gate", "tools/build")
 
 
 # For the C of all folders: a pair of widths, and the numbers that tests give to glue.c.
@@ -24,7 +24,7 @@ C_FLAGS = (
 )
 
 
-def files_of(kind):
+def files_of(kind: str) -> List[str]:
     """The files of the repository in Python, in C or in the language of the shell: by their ending, or by their first
     line."""
     listed = subprocess.run(["git", "ls-files", "-z"], cwd=ROOT, capture_output=True, timeout=60, check=False)
@@ -34,17 +34,17 @@ def files_of(kind):
     return sorted(name for name in names if kind_of(ROOT / name) == kind)
 
 
-def kind_of(path):
+def kind_of(path: Path) -> str:
     if path.is_symlink() or not path.is_file():
         return ""
     if path.suffix:
-        return {".py": "python", ".sh": "shell", ".bash": "shell", ".c": "c"}.get(path.suffix, "")
+        return {".py": "python", ".sh": "shell", ".bash": "shell", ".c": "c", ".cpp": "c++"}.get(path.suffix, "")
     with open(path, "rb") as file:
         found = FIRST_LINE.match(file.readline(200))
     return {b"python3": "python", b"sh": "shell", b"bash": "shell"}[found[1]] if found else ""
 
 
-def passes(*words, **environment):
+def passes(*words: str, **environment: str) -> None:
     """Fails with what a linter prints if its status is not 0."""
     needs_tools(words[0])
     done = subprocess.run(
@@ -53,48 +53,105 @@ def passes(*words, **environment):
     assert done.returncode == 0, done.stdout[-5000:] + done.stderr[-5000:]
 
 
-def test_there_are_scripts_of_both_kinds():
+def test_there_are_scripts_of_both_kinds() -> None:
     assert {"tlbridge-model", "tools/build", "tests/conftest.py"} <= {*files_of("python")}
     assert {"tlbridge", ".ci/run", "tools/install-tools"} <= {*files_of("shell")}
 
 
-def test_black():
+def test_black() -> None:
     """All Python is laid out by black, with the configuration in pyproject.toml."""
-    passes("black", "--check", *files_of("python"))
+    passes("black", "--check", "--workers", "1", *files_of("python"))
 
 
-def test_flake8():
+def test_flake8() -> None:
     """No file has a name that is not used, a line above 120 columns, or another finding of flake8."""
-    passes("flake8", *files_of("python"))
+    passes("flake8", "--jobs", "1", *files_of("python"))
 
 
-def test_mypy():
-    """The types of the package, of what the tests share, and of some tests and tools are checked strictly."""
+def typed_groups() -> List[List[str]]:
+    """The files whose types are checked. No two of a group have one name, which mypy refuses: each `conftest.py` after
+    the first one is in a group of its own."""
+    groups: List[Dict[str, str]] = []
+    for name in files_of("python"):
+        if name.startswith(TYPED) and name not in NOT_TYPED:
+            path = Path(name)
+            module = name if (ROOT / path.parent / "__init__.py").exists() else path.stem
+            group = next((group for group in groups if module not in group), None)
+            if group is None:
+                group = {}
+                groups.append(group)
+            group[module] = name
+    return [[*group.values()] for group in groups]
+
+
+@pytest.mark.parametrize("names", typed_groups(), ids=lambda names: f"{len(names)} from {names[0]}")
+def test_mypy(names: List[str]) -> None:
+    """The types of the package, of the tests, and of most scripts are checked strictly."""
+    folders = ["python", "tests/lib", "tools", *([os.path.dirname(names[0])] if len(names) == 1 else [])]
     passes(
         "mypy",
         "--follow-imports=silent",
         "--scripts-are-modules",
-        *(name for name in files_of("python") if name.startswith(TYPED)),
-        MYPYPATH=os.pathsep.join(str(ROOT / name) for name in ("python", "tests/lib")),
+        *names,
+        MYPYPATH=os.pathsep.join(str(ROOT / name) for name in folders),
     )
 
 
 @pytest.mark.parametrize("name", files_of("shell"))
-def test_shellcheck(name):
+def test_shellcheck(name: str) -> None:
     """A script may read another one, as tlexplain does."""
     passes("shellcheck", "--external-sources", name)
 
 
 @pytest.mark.parametrize("name", files_of("c"))
-def test_compiler_warnings(name):
+def test_compiler_warnings(name: str) -> None:
     """C of products, examples, tests and benches compiles without a warning."""
     passes(compiler(), "-fsyntax-only", "-Wall", "-Wextra", "-Wshadow", "-Wconversion", "-Werror", *C_FLAGS, name)
 
 
 @pytest.mark.parametrize("name", files_of("c"))
-def test_clang_tidy(name):
+def test_clang_tidy(name: str) -> None:
     """The checks are those of .clang-tidy, which has the reason for each that is left out."""
     passes("clang-tidy", "--quiet", name, "--", *C_FLAGS)
+
+
+# What tests/checker/links.sv includes: its ports are the same for each number of links.
+ONE_LINK = "`LINK(0, 8, 64, 4, 16, 16, 16, 1'b1, 1'b1, 1'b0)\n"
+# Each file of C++, with the words of Verilator that make the headers that it includes.
+EXAMPLE = "adapter_pkg async_fifo narrow_a widen_d hold_back adapter traffic bench"
+CPP = {
+    "examples/cpp/main.cpp": ("examples/start/adapter.sv",),
+    "examples/verilator/main.cpp": (
+        *("--top-module", "bench", "sv/tl_trace_monitor.sv", "sv/tl_checker.sv"),
+        *(f"examples/verilator/{name}.sv" for name in EXAMPLE.split()[:1]),
+        *("sv/tlbridge_scoreboard.sv", *(f"examples/verilator/{name}.sv" for name in EXAMPLE.split()[1:])),
+    ),
+    "tests/checker/agree.cpp": ("--top-module", "links", "sv/tl_checker.sv", "tests/checker/links.sv"),
+    "tests/library/c/header.cpp": (),
+    "tests/rtl/main.cpp": (
+        *("--top-module", "top", "--prefix", "Vtop", "tests/rtl/top.sv", "sv/tl_checker.sv"),
+        *sorted(str(path.relative_to(ROOT)) for path in ROOT.glob("rtl/*.sv") if "tl_bridge_" not in path.name),
+    ),
+}
+
+
+def test_each_file_of_cpp_is_compiled() -> None:
+    assert files_of("c++") == sorted(CPP)
+
+
+@pytest.mark.parametrize("name", CPP)
+def test_compiler_warnings_of_cpp(name: str, tmp_path: Path) -> None:
+    """C++ of examples and tests compiles without a warning, over the headers that Verilator makes for it."""
+    headers: List[str] = []
+    if CPP[name]:
+        needs_tools("verilator")
+        (tmp_path / "links.svh").write_text(ONE_LINK)
+        passes("verilator", "--cc", "-Wno-fatal", "-Wno-lint", f"-I{tmp_path}", "--Mdir", str(tmp_path), *CPP[name])
+        asked = subprocess.run(["verilator", "--getenv", "VERILATOR_ROOT"], capture_output=True, text=True, check=True)
+        root = f"{asked.stdout.strip()}/include"
+        headers = [word for folder in (str(tmp_path), root, f"{root}/vltstd") for word in ("-isystem", folder)]
+    warnings = ("-Wall", "-Wextra", "-Wshadow", "-Wconversion", "-Werror")
+    passes("g++", "-std=c++17", "-fsyntax-only", *warnings, "-DTLBRIDGE_8_4", "-Iinclude", *headers, name)
 
 
 # The widest line of SystemVerilog (docs/STYLE.md). A line with a text to print may be longer.
@@ -103,7 +160,7 @@ NOT_YET = ("sv/tl_agent.sv",)
 
 
 @pytest.mark.parametrize("folder", ("sv", "rtl"))
-def test_columns_of_systemverilog(folder):
+def test_columns_of_systemverilog(folder: str) -> None:
     """Lines above 150 columns are hard to read side by side. One file still has some."""
     wide = {}
     for path in sorted((ROOT / folder).glob("*.sv")):

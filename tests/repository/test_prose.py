@@ -6,6 +6,7 @@ the sentences of any files.
 """
 
 from pathlib import Path
+from typing import List, Set, Tuple
 
 import prose
 import pytest
@@ -16,45 +17,47 @@ EXCEPTIONS = Path(__file__).with_name("prose.exceptions").read_text().splitlines
 MOST_EXCEPTIONS = 40
 FOLDERS = sorted({prose.folder_of(prose.name_of(path)) for path in prose.read_files()})
 
+Findings = List[Tuple[Sentence, List[str]]]
+
 
 @pytest.mark.parametrize("name", FORMS)
-def test_a_form_is_found(name):
+def test_a_form_is_found(name: str) -> None:
     """Each form is found in its first sentence, and nothing is found in its second one."""
     _, bad, good = FORMS[name]
     assert name in forms_in(Sentence("", 1, bad))
     assert forms_in(Sentence("", 1, prose.plain(good))) == []
 
 
-def test_a_long_sentence_is_found():
+def test_a_long_sentence_is_found() -> None:
     assert forms_in(Sentence(SHORT_PAGES[0], 1, "word " * (MOST_WORDS + 1)))
 
 
 @pytest.fixture(scope="module")
-def found():
+def found() -> Findings:
     return prose.findings(prose.read_files())
 
 
-def excepted_by(line, found):
+def excepted_by(line: str, found: Findings) -> Set[prose.Sentence]:
     """The sentences that a line of prose.exceptions excepts."""
     path, part, _ = [*line.split(" | "), "", ""][:3]
     return {sentence for sentence, _ in found if part and sentence.path == path and part in sentence.text}
 
 
-def test_there_are_few_exceptions():
+def test_there_are_few_exceptions() -> None:
     assert len(EXCEPTIONS) <= MOST_EXCEPTIONS
 
 
 @pytest.mark.parametrize("line", EXCEPTIONS)
-def test_an_exception_excepts_a_sentence(found, line):
+def test_an_exception_excepts_a_sentence(found: Findings, line: str) -> None:
     """Each exception has a sentence that is there, and a reason."""
     assert excepted_by(line, found)
     assert [*line.split(" | "), "", ""][2], "it has no reason"
 
 
 @pytest.mark.parametrize("folder", FOLDERS)
-def test_the_prose_of_a_folder(found, folder):
+def test_the_prose_of_a_folder(found: Findings, folder: str) -> None:
     """No sentence is ruled out, except those of prose.exceptions."""
-    excepted = set().union(*(excepted_by(line, found) for line in EXCEPTIONS))
+    excepted = {sentence for line in EXCEPTIONS for sentence in excepted_by(line, found)}
     assert [
         f"{sentence.path}:{sentence.line}: {', '.join(forms)}: {sentence.text}"
         for sentence, forms in found
@@ -63,14 +66,14 @@ def test_the_prose_of_a_folder(found, folder):
 
 
 @pytest.mark.parametrize("name", HABITS)
-def test_a_habit_is_found(name):
+def test_a_habit_is_found(name: str) -> None:
     """Each habit is found in its first sentence, and not in its second one."""
     _, bad, good = HABITS[name]
     assert [habit for _, habit in habits_in([Sentence("", 1, bad)])] == [name]
     assert list(habits_in([Sentence("", 1, good)])) == []
 
 
-def test_short_sentences_in_a_row_are_found():
+def test_short_sentences_in_a_row_are_found() -> None:
     """Four of them are found, and three are not."""
     row = [Sentence("", 1, "It reads a line.")] * (MOST_IN_A_ROW + 1)
     assert [habit for _, habit in habits_in(row)] == ["one fact per full stop"]
@@ -78,7 +81,7 @@ def test_short_sentences_in_a_row_are_found():
 
 
 @pytest.mark.parametrize("page", HABIT_PAGES)
-def test_a_page_has_none_of_the_habits(page):
+def test_a_page_has_none_of_the_habits(page: str) -> None:
     """A line that begins with `> ` is a sentence that the program prints."""
     lines = (ROOT / page).read_text().splitlines()
     found = habits_in(prose.sentences(ROOT / page))

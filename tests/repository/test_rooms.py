@@ -5,12 +5,13 @@ import re
 import subprocess
 import sys
 from pathlib import Path
-from typing import Iterator, List
+from typing import Dict, FrozenSet, Iterator, List, Set
 
 import pytest
 from project import ROOT
 
 # What the tests need of others.
+STANDARD: FrozenSet[str] = getattr(sys, "stdlib_module_names")  # (Python 3.10 has it)
 PACKAGES = {"pytest", "hypothesis", "_pytest", "xdist"}
 # Packages that a part of the product needs, which its users have. The tests have stand-ins.
 OF_USERS = {
@@ -68,9 +69,9 @@ def imported(path: Path) -> Iterator[str]:
             yield (node.module or "").partition(".")[0]
 
 
-def rooms_of_modules(paths: List[Path]) -> dict:
+def rooms_of_modules(paths: List[Path]) -> Dict[str, Set[str]]:
     """By name of a module: the rooms that have one of this name."""
-    rooms: dict = {"tlbridge": {"python"}}
+    rooms: Dict[str, Set[str]] = {"tlbridge": {"python"}}
     for path in paths:
         if path.suffix == ".py" and room_of(path).startswith(("tests", "bench", "tools")):
             rooms.setdefault(path.stem, set()).add(room_of(path))
@@ -78,7 +79,7 @@ def rooms_of_modules(paths: List[Path]) -> dict:
     return rooms
 
 
-def allowed_rooms(path: Path) -> set:
+def allowed_rooms(path: Path) -> Set[str]:
     """The rooms whose modules a file may import."""
     room, name = room_of(path), str(path.relative_to(ROOT))
     if room == "python":
@@ -100,7 +101,7 @@ def test_no_file_imports_from_a_room_that_it_may_not() -> None:
     wrong = []
     for path in paths:
         for name in imported(path):
-            if name in sys.stdlib_module_names and not (rooms.get(name, set()) & allowed_rooms(path)):
+            if name in STANDARD and not (rooms.get(name, set()) & allowed_rooms(path)):
                 continue
             known = rooms.get(name)
             is_of_tests = room_of(path).startswith("tests") and name in PACKAGES

@@ -3,7 +3,10 @@ may not."""
 
 import shutil
 import subprocess
+from pathlib import Path
+from typing import Any, Iterable, Iterator, List, Mapping, Sequence, Tuple
 
+from differences import Differences
 from project import ROOT
 
 SCRIPT = ROOT / "tools" / "install-tools"
@@ -65,17 +68,24 @@ echo "${module%% *} 1.2"
 """
 
 
-def script(path, text):
+def script(path: Path, text: str) -> None:
     path.write_text(text)
     path.chmod(0o755)
 
 
-def run(folder, words=(), user=0, there=(), has_apt_get=True, **environment):
+def run(
+    folder: Path,
+    words: Sequence[str] = (),
+    user: int = 0,
+    there: Iterable[str] = (),
+    has_apt_get: bool = True,
+    **environment: str,
+) -> Tuple[int, List[str], List[str]]:
     """The status, the lines, and the packages that apt-get was asked to install, on a machine that has only the tools
     `there`."""
     folder.mkdir()
     for name in USED:
-        (folder / name).symlink_to(shutil.which(name))
+        (folder / name).symlink_to(str(shutil.which(name)))
     script(folder / "id", f"#!{folder}/sh\necho {user}\n")
     script(folder / "python3", PYTHON)
     for name in there:
@@ -94,7 +104,7 @@ def run(folder, words=(), user=0, there=(), has_apt_get=True, **environment):
     return ran.returncode, ran.stdout.splitlines() + ran.stderr.splitlines(), [call.split()[-1] for call in calls]
 
 
-def said(tools, missing):
+def said(tools: Mapping[str, str], missing: Iterable[str]) -> List[str]:
     return [
         (
             f"tools: {name}: missing, so its tests are left out (package {package})"
@@ -105,7 +115,7 @@ def said(tools, missing):
     ]
 
 
-def cases(room):
+def cases(room: Path) -> Iterator[Any]:
     """Each case: its name, what it gave, and what it has to give."""
     none = "tools: nothing is installed: "
     yield "all are there", run(room / "1", there=TOOLS), (0, said(TOOLS, ()), [])
@@ -153,7 +163,7 @@ def cases(room):
     )
 
 
-def test_what_is_installed_and_said(differences, tmp_path):
+def test_what_is_installed_and_said(differences: Differences, tmp_path: Path) -> None:
     """The status, the lines and the packages, for each state of a machine."""
     for name, got, wanted in cases(tmp_path):
         differences.same(name, got, wanted)

@@ -6,7 +6,7 @@ WIDTHS = (1, 2, 4, 8, 16, 32, 64, 128)
 BUDGET = 8  # from this FIFO_DEPTH on both links are full with like clocks
 
 
-def of(client=8, manager=4, **more):
+def of(client: int = 8, manager: int = 4, **more: int) -> Dict[str, int]:
     return dict(CLIENT_BYTES=client, MANAGER_BYTES=manager, **more)
 
 
@@ -93,7 +93,9 @@ COVERED = [config for config in CORNERS if "COVER" in config]
 for config in CORNERS:
     config.pop("COVER", None)
 
-LINT_CORNERS = [{}] + CORNERS + [of(1, 1, SIZE_BITS=1, SOURCE_BITS=1, SINK_BITS=1, ADDRESS_BITS=1, FIFO_DEPTH=2)]
+DEFAULT: Dict[str, int] = {}
+SMALL = of(1, 1, SIZE_BITS=1, SOURCE_BITS=1, SINK_BITS=1, ADDRESS_BITS=1, FIFO_DEPTH=2)
+LINT_CORNERS = [DEFAULT, *CORNERS, SMALL]
 
 # values that are refused, and the beginning of the message
 REFUSED = [

@@ -34,7 +34,7 @@
 #endif
 
 static std::mt19937_64 rng(1);
-static unsigned draw(unsigned n) { return rng() % n; }
+static unsigned draw(unsigned n) { return static_cast<unsigned>(rng() % n); }
 
 // a beat in the words of top.sv
 struct Beat {
@@ -50,7 +50,7 @@ struct Beat {
 };
 static Beat noise() {
     Beat b;
-    for (auto& x : b.w) x = rng();
+    for (auto& x : b.w) x = static_cast<uint32_t>(rng());
     return b;
 }
 
@@ -80,7 +80,7 @@ struct Channel {
 static Channel ch[5];
 
 static void digits(const std::string& s, uint32_t* words) {
-    int n = s.size();
+    int n = static_cast<int>(s.size());
     for (int i = 0; i < n; i++) {
         char c = s[n - 1 - i];
         words[i / 8] |= uint32_t(c <= '9' ? c - '0' : c - 'a' + 10) << 4 * (i % 8);
@@ -163,7 +163,7 @@ static Beat far_beat(int k) {
     return b;
 }
 static void offer(int k, bool valid, const Beat& b) {
-    top->near_valid = (top->near_valid & ~(1 << k)) | valid << k;
+    top->near_valid = static_cast<CData>((top->near_valid & ~(1 << k)) | valid << k);
     for (int i = 0; i < 40; i++) top->near_beats[40 * k + i] = b.w[i];
 }
 static bool near_valid(int k) { return top->near_valid >> k & 1; }
@@ -297,7 +297,8 @@ static int play(const char* far_path) {
     uint64_t cycles[2] = {0, 0};
     double next[2] = {0, single ? 0 : double(draw(1000))}, pace[2] = {1, 1};
     int high[2] = {0, 0};
-    unsigned long_idle = with_resets ? 3000 : 60000 / std::max(1.0, std::max(period[0], period[1]) / std::min(period[0], period[1]));
+    double ratio = std::max(1.0, std::max(period[0], period[1]) / std::min(period[0], period[1]));
+    unsigned long_idle = with_resets ? 3000 : static_cast<unsigned>(60000 / ratio);
     long_idle = std::max(long_idle, 5000u);
     double slow = std::max(period[0], period[1]);
     top->client_reset = top->manager_reset = 1;
@@ -338,8 +339,8 @@ static int play(const char* far_path) {
             if (rises[!c.near]) c.standing = !reset_of(!c.near) && far_valid(c.k) && !far_ready(c.k), c.stood = far_beat(c.k);
         bool held[5];
         for (auto& c : ch) held[c.k] = steady && near_valid(c.k) && !near_ready(c.k);
-        if (edge[0]) top->client_clock = high[0];
-        if (edge[1]) top->manager_clock = high[1];
+        if (edge[0]) top->client_clock = static_cast<CData>(high[0]);
+        if (edge[1]) top->manager_clock = static_cast<CData>(high[1]);
         top->eval();
         if (!rises[0] && !rises[1]) continue;
         for (int s = 0; s < 2; s++) if (rises[s]) cycles[s]++, idle[s]++;
@@ -358,7 +359,10 @@ static int play(const char* far_path) {
             if (c.standing && rises[f] && !(with_resets && in_reset) && !(through && !steady) && !(far_valid(c.k) && far_beat(c.k) == c.stood))
                 fault(c, "a far beat did not stay");
             if (stalls && draw(256) == 0) { static const double p[] = {1, 1, 0.9, 0.5, 0.2, 0.05}; c.p_valid = p[draw(6)], c.p_ready = p[draw(6)]; }
-            if (rises[f]) top->far_ready = (top->far_ready & ~(1 << c.k)) | (!reset_of(f) && (pauses || draw(1000) < 1000 * c.p_ready)) << c.k;
+            if (rises[f]) {
+                bool ready = !reset_of(f) && (pauses || draw(1000) < 1000 * c.p_ready);
+                top->far_ready = static_cast<CData>((top->far_ready & ~(1 << c.k)) | ready << c.k);
+            }
             if (rises[c.near] && !(held[c.k] && !reset_of(c.near))) held[c.k] = false, offer(c.k, false, noise());
         }
         if (through) top->eval();
@@ -402,7 +406,7 @@ static int play(const char* far_path) {
     printf("near %zu far %zu cycles %llu %llu resets %d faults %u%s", near_total, far_total, (unsigned long long)cycles[0], (unsigned long long)cycles[1], resets_done, faults,
            done ? "" : " STALLED");
     for (auto& c : ch)
-        if (c.got.size() > 1) printf(" %c %.4f", "ABCDE"[c.k], double(c.last_cycle - c.first_cycle) / (c.got.size() - 1));
+        if (c.got.size() > 1) printf(" %c %.4f", "ABCDE"[c.k], double(c.last_cycle - c.first_cycle) / double(c.got.size() - 1));
     printf("\n");
     return done && !faults ? 0 : 1;
 }

@@ -2,14 +2,16 @@
 
 from collections import defaultdict, deque
 from pathlib import Path
-from typing import Dict, Tuple
+from typing import Any, DefaultDict, Deque, Dict, List, Sequence, Tuple
 
 from tables import carries_data, near_width
 
 CHANNELS = "ABCDE"
+Fields = Dict[str, Any]
+Requests = DefaultDict[int, Deque[int]]
 
 
-def vector(fields):
+def vector(fields: Fields) -> str:
     """The 1280 bits of a beat as 320 digits; `data` is a text of digits, perhaps with x."""
     word = (
         fields["opcode"]
@@ -19,17 +21,16 @@ def vector(fields):
         | fields["denied"] << 25
     )
     low = word | fields["source"] << 32 | fields["sink"] << 48 | fields["address"] << 64 | fields["mask"] << 128
-    return fields["data"].rjust(256, "0") + f"{low:064x}"
+    return f"{fields['data']:0>256}{low:064x}"
 
 
-def beat(line, width, requests):
+def beat(line: str, width: int, requests: Requests) -> Fields:
     """The fields of a line of a trace, with x on each lane without a byte. `requests`: the addresses of the requests of
     each source.
     """
     k, *words = line.split()
-    fields = dict.fromkeys(("opcode", "param", "size", "source", "sink", "denied", "corrupt", "address", "mask"), 0) | {
-        "data": ""
-    }
+    numbers = ("opcode", "param", "size", "source", "sink", "denied", "corrupt", "address", "mask")
+    fields: Fields = {**dict.fromkeys(numbers, 0), "data": ""}
     if k == "E":
         return fields | {"sink": int(words[0], 16)}
     names = (
@@ -46,8 +47,11 @@ def beat(line, width, requests):
     return fields
 
 
-def vectors(lines, widths, folder):
-    requests, left, out = defaultdict(deque), dict.fromkeys(CHANNELS, 0), {k: [] for k in CHANNELS}
+def vectors(lines: Sequence[str], widths: Dict[str, int], folder: Path) -> None:
+    """Writes the beats of each channel as vectors."""
+    requests: Requests = defaultdict(deque)
+    left = dict.fromkeys(CHANNELS, 0)
+    out: Dict[str, List[str]] = {k: [] for k in CHANNELS}
     for k in "ABCED":  # the requests first
         for line in (line for line in lines if line[0] == k):
             fields = beat(line, widths[k], requests)
@@ -65,7 +69,8 @@ def vectors(lines, widths, folder):
         (folder / f"near_{k}.hex").write_text("\n".join(out[k] + ["0" * 320]) + "\n")
 
 
-def far_line(k, digits, width, ids):
+def far_line(k: str, digits: str, width: int, ids: int) -> str:
+    """The line of a far beat, by the digits that the simulation wrote."""
     low = int(digits[-64:], 16) if "x" not in digits[-64:] else 0
     data, mask = digits[256 - 2 * width : 256], low >> 128
     opcode, param, size, corrupt, denied = low & 7, low >> 8 & 7, low >> 16 & 255, low >> 24 & 1, low >> 25 & 1

@@ -4,10 +4,10 @@ the model.
 
 import tempfile
 from pathlib import Path
-from typing import Optional, Sequence, Tuple
+from typing import List, Optional, Sequence, Tuple
 
 import play_vectors
-from commands import run, said
+from commands import Word, run, said
 from project import needs_tools
 from rtl_simulations import BEATS, CHECKER, DEFAULTS, HERE, Config, Room, first_difference, lint_words, scenarios
 
@@ -37,7 +37,17 @@ def played_in_icarus(
     folder = Path(tempfile.mkdtemp(dir=folder))
     play_vectors.write_vectors(trace, folder)
     given = [f"-Pplay.{name}={value}" for name, value in {**DEFAULTS, **config}.items()]
-    words = ["iverilog", "-g2012", *given, "-s", "play", "-o", folder / "play", HERE / "play.sv", HERE / "top.sv"]
+    words: List[Word] = [
+        "iverilog",
+        "-g2012",
+        *given,
+        "-s",
+        "play",
+        "-o",
+        folder / "play",
+        HERE / "play.sv",
+        HERE / "top.sv",
+    ]
     built = run([*words, *files, CHECKER])
     if built.returncode:
         return "", None, said(built)

@@ -75,7 +75,7 @@ def named(config: Config) -> str:
 class Room:
     """The folder of the built simulations, the traces and the answers, which all workers of a run share."""
 
-    def __init__(self, path: Path):
+    def __init__(self, path: Path) -> None:
         self.path = Path(path)
         self.path.mkdir(parents=True, exist_ok=True)
 
@@ -135,9 +135,9 @@ class Room:
         def make(path: Path) -> None:
             shutil.rmtree(folder, ignore_errors=True)
             given = [f"-G{key}={value}" for key, value in full.items()]
-            files = [f for f in sources(rtl) if f.name != "tl_synchronizer.sv"]
+            files: List[Word] = [f for f in sources(rtl) if f.name != "tl_synchronizer.sv"]
             files.append(rtl / "tl_synchronizer.sv" if synchronizer == "plain" else HERE / "tl_synchronizer.sv")
-            words = [
+            words: List[Word] = [
                 "verilator",
                 "--cc",
                 "-Wno-fatal",
@@ -235,7 +235,7 @@ def verilated() -> Path:
 class Played:
     """A run of a simulation: what it said, and the first far beat that differs."""
 
-    def __init__(self, done: "subprocess.CompletedProcess[str]", differs: Optional[str]):
+    def __init__(self, done: "subprocess.CompletedProcess[str]", differs: Optional[str]) -> None:
         self.printed, self.status, self.differs = done.stdout, done.returncode, differs
         self.said = said(done, 600)
 

@@ -58,14 +58,14 @@ def far_beats_differ(program: List[Word], trace: Path) -> Optional[str]:
     return first_difference(done.stdout, trace.with_suffix(".far").read_text())
 
 
-@pytest.mark.parametrize("trace", RECORDED, ids=lambda trace: trace.stem)
+@pytest.mark.parametrize("trace", RECORDED, ids=lambda trace: str(trace.stem))
 def test_the_far_beats_of_a_recorded_simulation_are_those_of_the_model(trace: Path) -> None:
     """No simulator is needed."""
     assert far_beats_differ([sys.executable, MODEL, "run"], trace) is None
 
 
 @pytest.mark.program
-@pytest.mark.parametrize("trace", RECORDED, ids=lambda trace: trace.stem)
+@pytest.mark.parametrize("trace", RECORDED, ids=lambda trace: str(trace.stem))
 def test_the_far_beats_of_a_recorded_simulation_are_those_of_the_program(trace: Path) -> None:
     """The verified program."""
     assert far_beats_differ([needs_program("tlbridge"), "run", "--sync"], trace) is None

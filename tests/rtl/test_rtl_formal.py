@@ -22,7 +22,7 @@ limit of each of `convert`. `-k` picks tests.
 import os
 import tempfile
 from pathlib import Path
-from typing import Any, Dict, List, Mapping, Sequence, Tuple
+from typing import Any, Dict, List, Mapping, Optional, Sequence, Tuple
 
 import pytest
 from planted import Planted, mistakes
@@ -44,7 +44,7 @@ BUGS = mistakes(HERE / "bugs.txt")
 Answer = Tuple[Any, ...]
 
 
-def by_planted(part: str) -> Any:
+def by_planted(part: str) -> pytest.MarkDecorator:
     """A test for each mistake that a part has to find."""
     return pytest.mark.parametrize("planted", [bug for bug in BUGS if bug.seen == part], ids=str)
 
@@ -58,7 +58,7 @@ def tools() -> None:
 @pytest.fixture
 def rtl(request: pytest.FixtureRequest, tmp_path: Path) -> Path:
     """The folder of the design, with the planted mistake of this test if it has one."""
-    planted = getattr(request.node, "callspec", None) and request.node.callspec.params.get("planted")
+    planted: Optional[Planted] = getattr(request.node, "callspec", None) and request.node.callspec.params.get("planted")
     return planted.plant(ROOT, tmp_path / "planted") if planted else RTL
 
 

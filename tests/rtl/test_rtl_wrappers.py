@@ -14,7 +14,7 @@ import re
 import shutil
 from dataclasses import dataclass
 from pathlib import Path
-from typing import Any, Callable, Dict, Optional, Tuple
+from typing import Any, Callable, Dict, List, Optional, Tuple
 
 import pytest
 from commands import Word, run, said
@@ -29,7 +29,7 @@ pytestmark = [pytest.mark.long, pytest.mark.simulator]
 PAIRS = [{"CLIENT_BYTES": 8, "MANAGER_BYTES": 4}, {"CLIENT_BYTES": 4, "MANAGER_BYTES": 16}]
 IN_VERILATOR = ("wandering clocks", "few sources, no stalls")  # scenarios of configurations.py
 USER_BITS = {"REQUEST_USER_BITS": 23, "RESPONSE_USER_BITS": 14}
-LINTED = [
+LINTED: List[Tuple[str, Config]] = [
     ("tl_bridge_rocket", {}),
     ("tl_bridge_rocket", {**PAIRS[1], **USER_BITS, "ECHO_BITS": 3}),
     ("tl_bridge_structs", {}),
@@ -169,17 +169,17 @@ def traffic(room: Room, wrapper: Wrapper, config: Config, seed: int, **options: 
     change = wrapper.change
     if not change:
         return trace, answer
-    changed = room.once(
-        room.path / f"{trace.stem}.changed.trace", lambda path: path.write_text(change(trace.read_text()))
-    )
+    text = change(trace.read_text())
+    changed = room.once(room.path / f"{trace.stem}.changed.trace", lambda path: path.write_text(text))
     return changed, room.answer(changed)
 
 
+NO_BITS: Config = {}
 CONFIGS = [
     (wrapper, {**pair, **wrapper.more, **bits})
     for wrapper in WRAPPERS.values()
     for pair in PAIRS
-    for bits in ({}, wrapper.bits)
+    for bits in (NO_BITS, wrapper.bits)
 ]
 IDS = [f"{wrapper} {named(config)}" for wrapper, config in CONFIGS]
 

@@ -37,7 +37,7 @@ def tell(board: Scoreboard, event: Event) -> None:
     board.beat(lawful.NAMES[event.link], event.channel, event.time, Beat(**own))
 
 
-def judged(events: Sequence[Event], client: int = 8, manager: int = 4, **flags: bool) -> Tuple[int, List[str]]:
+def judged(events: Sequence[Event], client: int = 8, manager: int = 4, **flags: Any) -> Tuple[int, List[str]]:
     """How many differences a board has at its end, and its lines."""
     board = Scoreboard(client, manager, **flags)
     for event in events:

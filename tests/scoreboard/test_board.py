@@ -6,6 +6,7 @@ import os
 import subprocess
 import sys
 from dataclasses import replace
+from typing import Any, Dict, List, Sequence, Tuple
 
 import lawful
 import link_cases
@@ -37,20 +38,20 @@ from tlbridge import Beat, Scoreboard
 class Right(CaseTest):
     """No false difference, on each pair of widths, in each order of the two links."""
 
-    def test_each_pair(self):
+    def test_each_pair(self) -> None:
         """Each pair of widths, whichever link is first with a beat."""
         for client, manager in all_pairs():
             for far_first in (False, True):
                 with self.subTest(client=client, manager=manager, far_first=far_first):
                     self.assertEqual(judged(exchange(client, manager, far_first=far_first), client, manager), (0, []))
 
-    def test_all_at_one_time(self):
+    def test_all_at_one_time(self) -> None:
         """Each beat of the traffic has the same time."""
         for client, manager in small_pairs():
             with self.subTest(client=client, manager=manager):
                 self.assertEqual(judged(exchange(client, manager, step=0), client, manager), (0, []))
 
-    def test_other_bits_are_free(self):
+    def test_other_bits_are_free(self) -> None:
         """A lane without a byte, and of PutPartialData one without a mask bit, may have any value."""
         for client, manager in small_pairs():
             events = exchange(client, manager)
@@ -76,7 +77,7 @@ class OverDpi(CaseTest):
     number.
     """
 
-    def judged(self, events):
+    def judged(self, events: List[Event]) -> Tuple[int, List[Tuple[float, str]]]:
         """The differences, and each message with its time."""
         library = ctypes.CDLL(os.environ["TLBRIDGE_LIBRARY"])
         library.tlbridge_scoreboard_open.restype = ctypes.c_void_p
@@ -106,13 +107,14 @@ class OverDpi(CaseTest):
                 mask,
                 data,
             )
-        differences, messages, time = library.tlbridge_scoreboard_finish(board), [], ctypes.c_double()
+        messages: List[Tuple[float, str]] = []
+        differences, time = int(library.tlbridge_scoreboard_finish(board)), ctypes.c_double()
         while line := library.tlbridge_scoreboard_next_message(board, ctypes.byref(time)):
             messages.append((time.value, line.decode()))
         library.tlbridge_scoreboard_free(board)
         return differences, messages
 
-    def test_each_word_of_mask_and_data(self):
+    def test_each_word_of_mask_and_data(self) -> None:
         """One bit in each word of 32 bits, at 128:128."""
         if (128, 128) not in all_pairs():
             self.skipTest("the library has no pair 128:128")
@@ -132,7 +134,7 @@ class OverDpi(CaseTest):
 class Changed(CaseTest):
     """One bit of one far beat is changed: one line says so, and no more."""
 
-    def few(self, client, manager, channel):
+    def few(self, client: int, manager: int, channel: str) -> List[Event]:
         """A message of one far beat, and one of at least three, each with bytes on compared lanes."""
         far = manager if channel in FROM_CLIENT else client
         made = Exchange(client, manager)
@@ -146,7 +148,7 @@ class Changed(CaseTest):
                 made.send(channel, made.head(channel, opcode, size))
         return made.events
 
-    def each_field(self, pairs):
+    def each_field(self, pairs: Sequence[Tuple[int, int]]) -> None:
         for client, manager in pairs:
             for channel, names in FIELDS.items():
                 events = self.few(client, manager, channel)
@@ -165,16 +167,16 @@ class Changed(CaseTest):
                                 self.assertEqual((board.differences, board.lines), (1, [reported(events[at], came)]))
                                 board.end()
 
-    def test_each_field_of_narrow_links(self):
+    def test_each_field_of_narrow_links(self) -> None:
         """At each place of a message."""
         self.each_field(small_pairs())
 
     @pytest.mark.long
-    def test_each_field_of_wide_links(self):
+    def test_each_field_of_wide_links(self) -> None:
         """At each place of a message, with some bits of long fields."""
         self.each_field([pair for pair in all_pairs() if pair not in small_pairs()])
 
-    def test_each_message_with_data(self):
+    def test_each_message_with_data(self) -> None:
         """The first bit of each far beat that carries data."""
         events = exchange(8, 4)
         for channel, opcodes in (("A", "0123"), ("B", "0123"), ("C", "157"), ("D", "15")):
@@ -186,7 +188,7 @@ class Changed(CaseTest):
                             judged(events[:at] + [came] + events[at + 1 :]), (1, [reported(events[at], came)])
                         )
 
-    def test_two_fields(self):
+    def test_two_fields(self) -> None:
         """Each field of one beat is wrong: one line names them all."""
         events = exchange(8, 4)
         for channel, names in (
@@ -200,7 +202,7 @@ class Changed(CaseTest):
             with self.subTest(channel=channel):
                 self.assertEqual(judged(events[:at] + [came] + events[at + 1 :]), (1, [reported(events[at], came)]))
 
-    def test_unmasked(self):
+    def test_unmasked(self) -> None:
         """With `unmasked`, a byte of PutPartialData without a mask bit is also compared."""
         for client, manager in small_pairs()[:2]:
             for channel in "AB":
@@ -226,20 +228,20 @@ class Cases(CaseTest):
     (tests/links/test_links.py).
     """
 
-    def test_each(self):
+    def test_each(self) -> None:
         """The count and the lines of each case."""
         for client, manager in all_pairs()[1:2]:
             for case in link_cases.cases(client, manager):
                 with self.subTest(client=client, manager=manager, case=case.name):
                     count, lines = judged(case.events, client, manager)
-                    self.assertTrue(link_cases.fits(lines, case.lines), f"{lines}, expected {case.lines}")
+                    self.assertTrue(link_cases.fits(lines, case.lines or []), f"{lines}, expected {case.lines}")
                     self.assertEqual(count, case.differences)
 
 
 class Lost(CaseTest):
     """A beat that is lost or comes twice at the very end is reported there, on each channel."""
 
-    def test_last_beats_are_lost(self):
+    def test_last_beats_are_lost(self) -> None:
         """One, two or three of them: one line, with how many more are missing."""
         for channel in "ABCDE":
             for count in (1, 2, 3):
@@ -258,7 +260,7 @@ class Lost(CaseTest):
                         ],
                     )
 
-    def test_last_beat_comes_again(self):
+    def test_last_beat_comes_again(self) -> None:
         """Once, twice or five times: one line, with how many more are unexpected."""
         for channel in "ABCDE":
             for count in (1, 2, 5):
@@ -282,7 +284,7 @@ class Lost(CaseTest):
                         ),
                     )
 
-    def test_cut(self):
+    def test_cut(self) -> None:
         """The last message of a channel is not whole."""
         for channel in "ABCD":
             events = exchange(4, 8)
@@ -296,7 +298,7 @@ class Lost(CaseTest):
 class AtItsEnd(CaseTest):
     """What is reported only at the end of a board, and when a board is not ended."""
 
-    def test_no_beat(self):
+    def test_no_beat(self) -> None:
         """A difference, since nothing was compared, unless it is allowed."""
         self.assertEqual(judged([]), (1, ["time 0: no beat was accepted on either link, so nothing was compared"]))
         self.assertEqual(judged([], allow_no_beats=True), (0, []))
@@ -304,7 +306,7 @@ class AtItsEnd(CaseTest):
         board = Scoreboard(8, 4)  # which has a difference only at its end
         self.assertEqual((board.differences, board.end(), board.differences), (0, 1, 1))
 
-    def test_no_beat_but_in_reset(self):
+    def test_no_beat_but_in_reset(self) -> None:
         """Beats in a reset are none."""
         events = exchange(8, 4)
         self.assertEqual(
@@ -312,7 +314,7 @@ class AtItsEnd(CaseTest):
             (1, ["time 0: no beat was accepted on either link, so nothing was compared"]),
         )
 
-    def test_beats(self):
+    def test_beats(self) -> None:
         """The count of beats, which stays when the board has ended."""
         board = Scoreboard(8, 4)
         events = exchange(8, 4)
@@ -324,7 +326,7 @@ class AtItsEnd(CaseTest):
         tell(board, events[0])
         self.assertEqual((board.beats, board.end(), board.lines), (len(events), 0, []))
 
-    def test_ended_twice(self):
+    def test_ended_twice(self) -> None:
         """The second end, and a beat after it, change nothing."""
         events = exchange(8, 4)
         board = Scoreboard(8, 4)
@@ -336,7 +338,7 @@ class AtItsEnd(CaseTest):
         tell(board, events[0])
         self.assertEqual((board.end(), board.lines), (1, lines))
 
-    def test_open_requests(self):
+    def test_open_requests(self) -> None:
         """Requests without a response are listed by their source, and are no differences."""
         made = Exchange(8, 4)
         sources = [0x7, 0x107, 0xFFFF]
@@ -354,7 +356,7 @@ class AtItsEnd(CaseTest):
             ),
         )
 
-    def test_many_open_requests(self):
+    def test_many_open_requests(self) -> None:
         """Twenty are listed, and the others are counted."""
         made = Exchange(8, 4)
         for source in range(25):
@@ -364,7 +366,7 @@ class AtItsEnd(CaseTest):
         self.assertRegex(lines[19], "near A beat 19, source 0039, has no response$")
         self.assertEqual(lines[20], f"time {made.events[-1].time}: outstanding: 5 more requests have no response")
 
-    def test_many_differences(self):
+    def test_many_differences(self) -> None:
         """Twenty of a channel are listed, and the others are counted."""
         for differences in (19, 20, 21, 50):
             made = Exchange(8, 4)
@@ -378,13 +380,13 @@ class AtItsEnd(CaseTest):
                 if differences >= 20:
                     self.assertEqual(lines[20], f"time {came[39].time}: further differences on E are only counted")
 
-    def run_apart(self, program):
+    def run_apart(self, program: str) -> "subprocess.CompletedProcess[str]":
         environment = {**os.environ, "PYTHONPATH": os.pathsep.join(sys.path)}
         return subprocess.run(
             [sys.executable, "-c", program], env=environment, capture_output=True, text=True, timeout=60
         )
 
-    def test_never_ended(self):
+    def test_never_ended(self) -> None:
         """A board that saw beats and was not ended says so when it is given back, at the program's end too."""
         said = (
             "tlbridge scoreboard: freed without tl_scoreboard_finish, so missing beats were not reported: 0 differences"
@@ -409,7 +411,7 @@ class AtItsEnd(CaseTest):
                 ran = self.run_apart(program)
                 self.assertEqual((ran.returncode, ran.stderr), (0, error))
 
-    def test_with(self):
+    def test_with(self) -> None:
         """A `with` block that ends with differences raises, unless it was left by another error."""
         begin = (
             "from tlbridge import Beat, Scoreboard\nwith Scoreboard(8, 4) as board:\n board.beat('client', 'E', 1,"
@@ -436,7 +438,7 @@ class AtItsEnd(CaseTest):
         ran = self.run_apart(begin + " raise KeyError('own')")
         self.assertTrue(ran.stderr.endswith("KeyError: 'own'\n"), ran.stderr)
 
-    def test_wrong_words(self):
+    def test_wrong_words(self) -> None:
         """A link or a channel that is none is an error in words."""
         board = Scoreboard(8, 4)
         with self.assertRaisesRegex(ValueError, "a link is 'client' or 'manager', and not 'clinet'"):
@@ -444,11 +446,12 @@ class AtItsEnd(CaseTest):
         with self.assertRaisesRegex(ValueError, "a channel is one of A, B, C, D and E, and not 'F'"):
             board.beat("client", "F", 1, Beat())
         with self.assertRaisesRegex(ValueError, "a link is 'client' or 'manager', and not 2"):
-            board.reset(2, True, 1)
+            wrong: Any = 2
+            board.reset(wrong, True, 1)
 
-    def test_on_message(self):
+    def test_on_message(self) -> None:
         """The function gets each line."""
-        said = []
+        said: List[str] = []
         board = Scoreboard(8, 4, on_message=said.append)
         board.beat("client", "E", 1, Beat(sink=1))
         board.beat("manager", "E", 1, Beat(sink=2))
@@ -459,7 +462,7 @@ class AtItsEnd(CaseTest):
 class Resets(CaseTest):
     """A link's reset ends what was in flight on both, whichever ends first, and is reported once."""
 
-    def staggered(self, first, early):
+    def staggered(self, first: int, early: int) -> List[Event]:
         """Both links are in reset from time 0; `first` leaves it at 100 and accepts these many of its near beats before
         the other does.
         """
@@ -476,7 +479,7 @@ class Resets(CaseTest):
             *rest,
         ]
 
-    def test_released_apart(self):
+    def test_released_apart(self) -> None:
         """Either link leaves its reset first, and may send at once."""
         for first in (CLIENT, MANAGER):
             for early in (0, 1, 2):
@@ -494,7 +497,7 @@ class Resets(CaseTest):
                     )
                     self.assertEqual(judged(events), (0, []))
 
-    def test_manager_first(self):
+    def test_manager_first(self) -> None:
         """The manager is out of reset first and sends B, which arrives once the client is."""
         made = Exchange(8, 4)
         made.send("B", made.head("B", 0, 4))
@@ -512,7 +515,7 @@ class Resets(CaseTest):
         wrong = [*events[:-1], flipped(events[-1], "data", 0)]
         self.assertEqual(judged(wrong), (1, [reported(events[-1], wrong[-1])]))
 
-    def cut_by_reset(self, links, at, skew=0):
+    def cut_by_reset(self, links: Sequence[int], at: int, skew: int = 0) -> Tuple[List[Event], List[Event]]:
         """Traffic until a beat, then resets of these links, the second one later by `skew` beats of the old traffic,
         then new lawful.
         """
@@ -525,7 +528,7 @@ class Resets(CaseTest):
         order += [reset(time + 500, link, False) for link in links]
         return order, moved(exchange(8, 4, seed=2), time + 1000)
 
-    def test_amid_traffic(self):
+    def test_amid_traffic(self) -> None:
         """At many places of the traffic: one line, and no difference."""
         for links in ((0,), (1,), (0, 1), (1, 0)):
             for at in range(1, 120, 7):
@@ -543,7 +546,7 @@ class Resets(CaseTest):
                             ),
                         )
 
-    def test_mistake_after_a_reset(self):
+    def test_mistake_after_a_reset(self) -> None:
         """A wrong byte in the traffic after the resets is seen."""
         before, after = self.cut_by_reset((1, 0), 30, 4)
         at = of(after, "C", data=True)[0]
@@ -551,7 +554,7 @@ class Resets(CaseTest):
         count, lines = judged(before + after[:at] + [came] + after[at + 1 :])
         self.assertEqual((count, lines[1:]), (1, [reported(after[at], came)]))
 
-    def test_differences_before_count(self):
+    def test_differences_before_count(self) -> None:
         """A difference before a reset still counts."""
         events = exchange(8, 4)
         at = of(events, "A")[0]
@@ -567,7 +570,7 @@ class Resets(CaseTest):
         )
         self.assertEqual((count, len(lines), lines[0]), (1, 2, reported(events[at], came)))
 
-    def test_how_many_were_in_flight(self):
+    def test_how_many_were_in_flight(self) -> None:
         """Two near beats whose far beats did not come: 2 of the first, 2 of the second; and a far beat that is not
         due.
         """
@@ -603,7 +606,7 @@ class Resets(CaseTest):
             ),
         )
 
-    def test_one_link_alone(self):
+    def test_one_link_alone(self) -> None:
         """Beats that the client's link accepts while the manager's is in reset are judged, unless the client's link is
         also reset.
         """
@@ -629,7 +632,7 @@ class Resets(CaseTest):
             judged([reset(1, 1, True), *near, reset(800, 0, True), reset(850, 0, False), reset(900, 1, False)]), (0, [])
         )
 
-    def test_the_same_again(self):
+    def test_the_same_again(self) -> None:
         """Each clock edge may say it again."""
         events = exchange(8, 4)
         told = [reset(1, 0, True)] * 3 + [reset(1, 1, True)] * 2 + [reset(2, 1, False)] * 2 + [reset(3, 0, False)] * 3
@@ -646,7 +649,7 @@ class Resets(CaseTest):
         self.assertEqual(judged([*told, *far]), (0, []))
         self.assertEqual(judged([*told, *far[:-1], wrong]), (1, [reported(far[-1], wrong)]))
 
-    def test_beats_in_reset(self):
+    def test_beats_in_reset(self) -> None:
         """They are no beats."""
         events = exchange(8, 4)
         noise = [replace(event, time=5) for event in events[:9]]
@@ -659,7 +662,7 @@ class Resets(CaseTest):
 class Refused(CaseTest):
     """After a near beat that breaks a rule, the next message is judged again; one line names the beat."""
 
-    def check(self, channel, fault, place, whole, far):
+    def check(self, channel: str, fault: int, place: str, whole: bool, far: str) -> bool:
         events = exchange(8, 4)
         made = broken(events, channel, fault, place, whole)
         if made is None:
@@ -669,7 +672,7 @@ class Refused(CaseTest):
         own = far_of(events, at)
         if far == "same":  # the design carries the mistake of each beat
             for i in own if whole and fault not in (3, 5, 6, 10) else []:
-                wrong[i] = spoilt(events[i], fault)
+                wrong[i] = spoilt(events[i], fault) or events[i]
         count, lines = judged(wrong)
         lines = [said for said in lines if ": outstanding: " not in said]
         self.assertEqual((count, len(lines)), (1, 1), lines)
@@ -683,7 +686,7 @@ class Refused(CaseTest):
             )
         return True
 
-    def test_each_fault_of_a_first_beat(self):
+    def test_each_fault_of_a_first_beat(self) -> None:
         """On each channel that can have it, in a message of one beat and of several."""
         seen = 0
         for channel in "ABCD":
@@ -694,7 +697,7 @@ class Refused(CaseTest):
                             seen += self.check(channel, fault, place, place == "first", far)
         self.assertGreaterEqual(seen, 60)
 
-    def test_each_fault_of_a_later_beat(self):
+    def test_each_fault_of_a_later_beat(self) -> None:
         """A mask or a head, in the middle and at the end of a burst."""
         seen = 0
         for channel in "ABCD":
@@ -704,11 +707,13 @@ class Refused(CaseTest):
                         seen += self.check(channel, fault, place, False, "right")
         self.assertGreaterEqual(seen, 10)
 
-    def test_a_mistake_behind_it(self):
+    def test_a_mistake_behind_it(self) -> None:
         """Fifty wrong far beats after a refused near beat are fifty differences."""
         for fault, place in ((5, "only"), (4, "only"), (3, "only"), (7, "middle")):
             events = exchange(8, 4)
-            wrong, at = broken(events, "A", fault, place)
+            made = broken(events, "A", fault, place)
+            assert made
+            wrong, at = made
             behind = [i for i in of(events, "A") if i > max(far_of(events, at))][:50]
             for i in behind:
                 wrong[i] = flipped(events[i], "address", 40)
@@ -717,14 +722,18 @@ class Refused(CaseTest):
                 self.assertEqual(count, 1 + len(behind))
                 self.assertEqual(lines[1], reported(events[behind[0]], wrong[behind[0]]))
 
-    def test_one_line_for_each_message(self):
+    def test_one_line_for_each_message(self) -> None:
         """Three messages in a row are refused, one of them with two wrong beats: three lines."""
         made = Exchange(8, 4)
         for size in (2, 5, 2):
             made.send("C", made.head("C", 7, size))
         near = [i for i, event in enumerate(made.events) if not event.is_far]
         wrong = [
-            flipped(event, "address", 60) if i in near[2:4] else spoilt(event, 4) if i in (near[0], near[5]) else event
+            flipped(event, "address", 60)
+            if i in near[2:4]
+            else (spoilt(event, 4) or event)
+            if i in (near[0], near[5])
+            else event
             for i, event in enumerate(made.events)
         ]
         count, lines = judged(wrong)
@@ -734,7 +743,7 @@ class Refused(CaseTest):
             lines,
         )
 
-    def test_a_wrong_response_before_its_request(self):
+    def test_a_wrong_response_before_its_request(self) -> None:
         """The far beat of its request comes after it in the same cycle; its source is free afterwards."""
         made = Exchange(8, 4, step=0)
         for _ in range(2):
@@ -745,7 +754,7 @@ class Refused(CaseTest):
         self.assertEqual((count, len(lines)), (1, 1), lines)
         self.assertRegex(lines[0], ", param 3: refused: 2 Param: ")
 
-    def test_a_refused_request_is_not_open(self):
+    def test_a_refused_request_is_not_open(self) -> None:
         """Neither the request nor its response come to the other link."""
         made = Exchange(8, 4)
         made.send("A", made.head("A", 4, 2, source=5))
@@ -754,14 +763,14 @@ class Refused(CaseTest):
         self.assertEqual((count, len(lines)), (1, 1), lines)
         self.assertRegex(lines[0], ", mask 00: refused: 5 Mask: ")
 
-    def test_a_burst_is_cut_by_another_message(self):
+    def test_a_burst_is_cut_by_another_message(self) -> None:
         """Two of four beats of ReleaseData come, and then others: these are judged."""
         for channel in "ABC":
             made = Exchange(8, 4)
             made.send(channel, made.head(channel, 7 if channel == "C" else 0, 5))
-            came = {False: 2, True: 1 if channel == "B" else 4}
-            lag = {far: len(of(made.events, channel, far)) - came[far] for far in came}
-            cut = [event for event in made.events if event.number < came[event.is_far]]
+            arrived = {False: 2, True: 1 if channel == "B" else 4}
+            lag = {far: len(of(made.events, channel, far)) - arrived[far] for far in arrived}
+            cut = [event for event in made.events if event.number < arrived[event.is_far]]
             made.events = []
             for size in (1, 4, 3):
                 made.send(channel, made.head(channel, 5 if channel == "C" else 3, size))
@@ -778,7 +787,7 @@ class Refused(CaseTest):
                 count, lines = judged(cut + events[:at] + [came] + events[at + 1 :])
                 self.assertIn(reported(events[at], came), lines)
 
-    def test_the_mask_of_each_width(self):
+    def test_the_mask_of_each_width(self) -> None:
         """It is shown with a digit for each four lanes."""
         for client, manager in all_pairs():
             made = Exchange(client, manager)
@@ -795,14 +804,14 @@ class Refused(CaseTest):
 class OneLink(CaseTest):
     """Mistakes that are visible on only one link."""
 
-    def get(self, source, address=0x1004):
+    def get(self, source: int, address: int = 0x1004) -> Dict[str, Any]:
         return {"opcode": 4, "param": 0, "size": 2, "source": source, "address": address}
 
-    def event(self, time, link, channel, **head):
+    def event(self, time: int, link: int, channel: str, **head: int) -> Event:
         mask = {(0, "A"): 0xF0, (1, "A"): 0xF}.get((link, channel), 0)
         return Event(time, link, channel, head, mask, bytes(8 if link == 0 else 4) if channel != "E" else b"")
 
-    def test_busy_source(self):
+    def test_busy_source(self) -> None:
         """It is reported, but not in the cycle that frees the source, in any order of its beats."""
         get, answer = self.get(0x205), {"opcode": 1, "param": 0, "size": 2, "source": 0x205, "sink": 0, "denied": 0}
         events = [
@@ -830,13 +839,13 @@ class OneLink(CaseTest):
             with self.subTest(order=order):
                 self.assertEqual(judged(at_once), (0, []))
 
-    def test_no_request(self):
+    def test_no_request(self) -> None:
         """A response without a request is reported with its source."""
         answer = {"opcode": 1, "param": 0, "size": 2, "source": 0x305, "sink": 0, "denied": 0}
         count, lines = judged([self.event(10, 1, "D", **answer), self.event(20, 1, "E", sink=0)])
         self.assertRegex(lines[0], "^time 10: near D beat 0: source 0305: 9 NoRequest: ")
 
-    def test_release_ack(self):
+    def test_release_ack(self) -> None:
         """It answers no request, and needs none."""
         answer = {"opcode": 6, "param": 0, "size": 2, "source": 0x305, "sink": 7, "denied": 0}
         self.assertEqual(judged([self.event(10, 1, "D", **answer), self.event(20, 0, "D", **answer)]), (0, []))

@@ -5,6 +5,7 @@ import ctypes
 import itertools
 import os
 from dataclasses import replace
+from typing import Any, Dict, List, Sequence, Tuple
 
 import lawful
 from judging import all_pairs, judged, tell
@@ -30,23 +31,23 @@ from tlbridge import Beat, Scoreboard, status_of
 from tlbridge.library import pairs
 
 
-def fault_said(number):
+def fault_said(number: int) -> str:
     status = status_of(number)
     return f"{number} {status.name}: {status.sentence}"
 
 
-def refused_said(event, fault, more=""):
+def refused_said(event: Event, fault: int, more: str = "") -> str:
     return (
         f"time {event.time}: near {event.channel} beat {event.number}: {head_said(event)}{more}: refused:"
         f" {fault_said(fault)}; its far beats are not judged"
     )
 
 
-def near_and_far(events, channel):
+def near_and_far(events: Sequence[Event], channel: str) -> List[List[Event]]:
     return [[event for event in events if event.channel == channel and event.is_far == far] for far in (False, True)]
 
 
-def numbered(events):
+def numbered(events: Sequence[Event]) -> List[Event]:
     """The events at times 10, 20 and so on, each with its number."""
     return renumbered([replace(event, time=10 * at + 10) for at, event in enumerate(events)])
 
@@ -54,7 +55,7 @@ def numbered(events):
 class Order(CaseTest):
     """Beats of both links in any order that a design may have."""
 
-    def parts(self, count, **more):
+    def parts(self, count: int, **more: Any) -> List[List[Event]]:
         made = Exchange(8, 4)
         for address in range(0x1000, 0x1000 + 8 * count, 8):
             made.ask(4, 2, 1, source=5, address=address, **more)
@@ -63,7 +64,7 @@ class Order(CaseTest):
             for channel, link in (("A", CLIENT), ("A", MANAGER), ("D", MANAGER), ("D", CLIENT))
         ]
 
-    def test_the_last_beat_lets_all_others_go_on(self):
+    def test_the_last_beat_lets_all_others_go_on(self) -> None:
         """The four beats of a request and its response come at one time, in each order."""
         (near_a,), (far_a,), (near_d,), (far_d,) = self.parts(1)
         for order in itertools.permutations((near_a, far_a, near_d, far_d)):
@@ -74,7 +75,7 @@ class Order(CaseTest):
                 wrong = [*at_once[:at], flipped(at_once[at], "data", 0), *at_once[at + 1 :]]
                 self.assertEqual(judged(wrong), (1, [reported(at_once[at], wrong[at])]))
 
-    def test_a_burst_that_waits_goes_on_as_a_whole(self):
+    def test_a_burst_that_waits_goes_on_as_a_whole(self) -> None:
         """A burst uses the source of a request whose response is the last beat. No far beat of the burst comes: each is
         missing, and no near beat waits.
         """
@@ -102,7 +103,7 @@ class Order(CaseTest):
                     ),
                 )
 
-    def test_a_source_that_waits_for_its_response(self):
+    def test_a_source_that_waits_for_its_response(self) -> None:
         """The next request of the source comes in the cycle of the response."""
         (a, a2), (far_a, far_a2), (d, d2), (far_d, far_d2) = self.parts(2)
         order = numbered([a, far_a, d, far_a2, a2, d2, far_d2, far_d])
@@ -110,7 +111,7 @@ class Order(CaseTest):
         at_once = [replace(order[i], time=10) for i in (0, 1, 2, 3, 4, 5, 7, 6)]
         self.assertEqual(judged(renumbered(at_once)), (0, []))
 
-    def test_each_lag(self):
+    def test_each_lag(self) -> None:
         """Far beats come after a number of near beats, more than a queue has room for at first; the last one is
         wrong.
         """
@@ -135,7 +136,7 @@ class Order(CaseTest):
                     came = reported(order[at], wrong[at])
                     self.assertEqual(judged(wrong), (1, [came]))
 
-    def test_more_than_the_bridge_has_room_for(self):
+    def test_more_than_the_bridge_has_room_for(self) -> None:
         """Thousands of near beats, then all far beats but some: each missing one is counted."""
         made = Exchange(8, 4)
         for _ in range(5000):
@@ -143,7 +144,7 @@ class Order(CaseTest):
         near, far = near_and_far(made.events, "E")
         for lost in (0, 1, 900):
             order = numbered([*near, *far[: 5000 - lost]])
-            first = far[5000 - lost] if lost else None
+            first = far[5000 - lost] if lost else far[0]
             more = f"; {lost - 1} more are missing" if lost > 1 else ""
             lines = (
                 [f"time {order[-1].time}: far E beat {first.number}: {head_said(first)}: expected but missing{more}"]
@@ -153,7 +154,7 @@ class Order(CaseTest):
             with self.subTest(lost=lost):
                 self.assertEqual(judged(order), (int(lost > 0), lines))
 
-    def test_a_refused_beat_amid_many(self):
+    def test_a_refused_beat_amid_many(self) -> None:
         """Far beats come long after their near beats, of which one was refused: the others are compared in their
         order.
         """
@@ -175,7 +176,7 @@ class Order(CaseTest):
                     (2, [refused_said(order[at], 2, ", param 7"), reported(order[-1], last)]),
                 )
 
-    def test_few_cycles(self):
+    def test_few_cycles(self) -> None:
         """The traffic of each pair of widths, with many beats in a cycle."""
         for client, manager in all_pairs():
             with self.subTest(client=client, manager=manager):
@@ -185,15 +186,15 @@ class Order(CaseTest):
 class Sources(CaseTest):
     """Requests and responses of one source on each link."""
 
-    def get(self, time, number=0, source=0x1234, link=CLIENT, **more):
+    def get(self, time: int, number: int = 0, source: int = 0x1234, link: int = CLIENT, **more: int) -> Event:
         head = {"opcode": 4, "param": 0, "size": 2, "source": source, "address": 0x1000, **more}
         return Event(time, link, "A", head, 0xF, bytes(8 if link == CLIENT else 4), number=number)
 
-    def data(self, time, number=0, source=0x1234, link=MANAGER, **more):
+    def data(self, time: int, number: int = 0, source: int = 0x1234, link: int = MANAGER, **more: int) -> Event:
         head = {"opcode": 1, "param": 0, "size": 2, "source": source, "sink": 0, "denied": 0, **more}
         return Event(time, link, "D", head, 0, bytes(4 if link == MANAGER else 8), number=number)
 
-    def test_many_requests_of_one_source(self):
+    def test_many_requests_of_one_source(self) -> None:
         """Each request after the first is a difference once its cycle is over, however many there are."""
         board = Scoreboard(8, 4)
         for number in range(300):
@@ -202,7 +203,7 @@ class Sources(CaseTest):
         self.assertEqual(board.lines[0], f"time 20: near A beat 1: source 1234: {fault_said(8)}")
         board.end()
 
-    def test_many_responses_of_one_source(self):
+    def test_many_responses_of_one_source(self) -> None:
         """Without a request, each of three hundred is a difference."""
         board = Scoreboard(8, 4)
         for number in range(300):
@@ -211,7 +212,7 @@ class Sources(CaseTest):
         self.assertEqual(board.lines[0], f"time 10: near D beat 0: source 1234: {fault_said(9)}")
         board.end()
 
-    def test_far_beats_in_the_cycle_of_a_fault(self):
+    def test_far_beats_in_the_cycle_of_a_fault(self) -> None:
         """A far beat of another source, in the cycle of a request or a response that comes too early on its link, hides
         nothing, whichever comes first.
         """
@@ -233,7 +234,7 @@ class Sources(CaseTest):
                         [said],
                     )
 
-    def test_both_ends_of_the_sources(self):
+    def test_both_ends_of_the_sources(self) -> None:
         """The lowest id, the highest and some between; a response of another source answers no request."""
         for source in (0, 0xFF, 0x100, 0x7FFF, 0x8000, 0xFFFF):
             events = [
@@ -254,13 +255,13 @@ class Sources(CaseTest):
                     f"time 70: near D beat 1: source {other:04x}: {fault_said(9)}",
                 )
 
-    def test_a_busy_source_before_a_reset(self):
+    def test_a_busy_source_before_a_reset(self) -> None:
         """The fault is reported, though a reset follows."""
         events = [self.get(10), self.get(20, 1), reset(30, MANAGER, True)]
         count, lines = judged(events)
         self.assertEqual((count, lines[0]), (1, f"time 20: near A beat 1: source 1234: {fault_said(8)}"))
 
-    def test_requests_over_a_reset(self):
+    def test_requests_over_a_reset(self) -> None:
         """A source is free, and has no request, after a reset; so is a request that was refused before it."""
         for first in (self.get(10), with_value(self.get(10), "mask", 0)):
             for link in (CLIENT, MANAGER):
@@ -289,7 +290,7 @@ class Sources(CaseTest):
                     wrong = with_value(self.data(60), "param", 3)
                     self.assertIn(refused_said(wrong, 2, ", param 3"), judged([*before, wrong])[1])
 
-    def test_the_lanes_of_a_response(self):
+    def test_the_lanes_of_a_response(self) -> None:
         """They are those of its request, whatever other channels have the same source."""
         made = Exchange(8, 4)
         asked = made.send("A", made.head("A", 4, 0, source=9, address=0x1007))
@@ -306,7 +307,7 @@ class Sources(CaseTest):
 class Lines(CaseTest):
     """Each line word for word, also the longest, and how many there are."""
 
-    def test_the_longest_line(self):
+    def test_the_longest_line(self) -> None:
         """A far beat on 128 lanes that differs in each field."""
         if (128, 128) not in all_pairs():
             self.skipTest("the library has no pair 128:128")
@@ -324,7 +325,7 @@ class Lines(CaseTest):
                 self.assertEqual((count, lines[0]), (1, reported(made.events[at], came)))
                 self.assertGreater(len(lines[0]), 600)
 
-    def test_the_mask_of_each_width(self):
+    def test_the_mask_of_each_width(self) -> None:
         """It is shown with a digit for each four lanes."""
         for client, manager in all_pairs():
             for channel, width in (("A", manager), ("B", client)):
@@ -337,7 +338,7 @@ class Lines(CaseTest):
                             judged([made.events[0], wrong], client, manager)[1][0], reported(made.events[1], wrong)
                         )
 
-    def test_further_differences(self):
+    def test_further_differences(self) -> None:
         """From the twenty-first of a channel on."""
         for channel in "BC":
             made = Exchange(8, 4)
@@ -351,12 +352,14 @@ class Lines(CaseTest):
                     (21, 21, f"time {made.events[39].time}: further differences on {channel} are only counted"),
                 )
 
-    def test_all_at_the_end(self):
+    def test_all_at_the_end(self) -> None:
         """Unexpected beats, messages that are not whole, and missing beats, in this order, each channel after the
         other.
         """
         made = Exchange(4, 8)
-        unexpected, missing, cut = [], [], []
+        unexpected: List[str] = []
+        missing: List[str] = []
+        cut: List[str] = []
         for channel, opcode in (("B", 6), ("C", 6), ("D", 6), ("E", 0)):
             made.send(channel, made.head(channel, opcode, 2))
             made.send(channel, made.head(channel, opcode, 2))
@@ -374,7 +377,7 @@ class Lines(CaseTest):
             )
         self.assertEqual(judged(events, 4, 8), (4, [*unexpected, *cut, *missing]))
 
-    def test_incomplete_messages(self):
+    def test_incomplete_messages(self) -> None:
         """Of each channel, whose first beat came: nothing else is said if no far beat is expected yet."""
         for channel, opcode, client, manager in (("A", 0, 4, 8), ("B", 0, 8, 4), ("C", 7, 4, 8)):
             made = Exchange(client, manager)
@@ -391,7 +394,7 @@ class Lines(CaseTest):
                     (1, [f"time {first.time}: near {channel}: the last message is incomplete", *opened]),
                 )
 
-    def test_what_waits(self):
+    def test_what_waits(self) -> None:
         """Three responses without a request: each is said once it is judged, and at the end with how many wait after
         it.
         """
@@ -417,7 +420,7 @@ class Lines(CaseTest):
         ]
         self.assertEqual(judged(events), (6, [*said, *waits]))
 
-    def test_what_was_in_flight(self):
+    def test_what_was_in_flight(self) -> None:
         """One near beat of each channel, one far beat of each, and a far beat that is expected of each."""
         for channel, opcode in (("A", 4), ("B", 6), ("C", 6), ("D", 6), ("E", 0)):
             made = Exchange(8, 4)
@@ -434,7 +437,7 @@ class Lines(CaseTest):
                         ],
                     )
 
-    def test_numbers_after_a_reset(self):
+    def test_numbers_after_a_reset(self) -> None:
         """They begin again on each channel of both links."""
         for channel, opcode in (("A", 4), ("B", 6), ("C", 6), ("D", 6), ("E", 0)):
             made = Exchange(8, 4)
@@ -459,7 +462,7 @@ class Faults(CaseTest):
     CHANGES = {"param": 3, "address": 1, "mask": 0, "corrupt": 1}
     ORDER = (("param", 2), ("address", 4), ("mask", 5), ("corrupt", 6))
 
-    def test_several_faults_of_one_beat(self):
+    def test_several_faults_of_one_beat(self) -> None:
         """One line names the first fault; the message is passed on as it should have been, and the next one is
         judged.
         """
@@ -499,7 +502,7 @@ class Faults(CaseTest):
                             lines[:2], [refused_said(events[0], number, more), reported(events[behind], wrong)]
                         )
 
-    def test_two_wrong_fields_in_each_beat(self):
+    def test_two_wrong_fields_in_each_beat(self) -> None:
         """The head of a message is wrong in two fields, the same in each of its beats: one line."""
         for channel, opcode in (("B", 3), ("C", 7)):
             made = Exchange(8, 4)
@@ -516,7 +519,7 @@ class Faults(CaseTest):
                 came = flipped(wrong[at], "data", 0)
                 self.assertEqual(judged([*wrong[:at], came, *wrong[at + 1 :]]), (2, [said, reported(wrong[at], came)]))
 
-    def test_two_wrong_beats_of_a_message(self):
+    def test_two_wrong_beats_of_a_message(self) -> None:
         """One line names the first of them."""
         for channel in "AB":
             for first, later in itertools.product(("mask", "param"), ("mask", "address")):
@@ -537,7 +540,7 @@ class Faults(CaseTest):
                     lines = [line for line in judged(wrong)[1] if "outstanding" not in line]
                     self.assertEqual(lines, [said])
 
-    def test_later_beats_of_a_corrected_message(self):
+    def test_later_beats_of_a_corrected_message(self) -> None:
         """A wrong mask of the first beat concerns only its own far beats; those of the second beat are compared."""
         for channel in "AB":
             made = Exchange(8, 8) if (8, 8) in all_pairs() else Exchange(8, 4)
@@ -556,7 +559,7 @@ class Faults(CaseTest):
                     [refused_said(wrong[first], 5, f", mask {1:0{digits}x}"), reported(events[last], wrong[last])],
                 )
 
-    def test_a_mended_request_that_waits(self):
+    def test_a_mended_request_that_waits(self) -> None:
         """A refused request comes in the cycle that frees its source, before the response; then many beats, of which
         one is wrong.
         """
@@ -587,7 +590,7 @@ class Faults(CaseTest):
                         judged([*order, *behind[:at], wrong, *behind[at + 1 :]])[1][1], reported(behind[at], wrong)
                     )
 
-    def test_a_source_after_a_refused_request(self):
+    def test_a_source_after_a_refused_request(self) -> None:
         """Its next request is judged like any other: its response may be refused, and it is outstanding without one."""
         made = Exchange(8, 4)
         for _ in range(2):
@@ -603,7 +606,7 @@ class Faults(CaseTest):
             (1, [said, f"time {second.time}: outstanding: near A beat 1, source 0077, has no response"]),
         )
 
-    def test_a_response_to_a_refused_request(self):
+    def test_a_response_to_a_refused_request(self) -> None:
         """It may be as wrong as its request, which came to the manager as it was."""
         made = Exchange(8, 4)
         made.ask(5, 2, 2, source=0x77)
@@ -616,7 +619,7 @@ class Faults(CaseTest):
         ]
         self.assertEqual(judged(wrong), (1, [refused_said(wrong[0], 6)]))
 
-    def test_a_request_with_a_wrong_later_beat(self):
+    def test_a_request_with_a_wrong_later_beat(self) -> None:
         """Its response is judged like any other, and it is outstanding without one."""
         made = Exchange(8, 4)
         made.ask(0, 5, 0, source=0x77)
@@ -632,7 +635,7 @@ class Faults(CaseTest):
         answer = with_value(events[-2], "param", 1)
         self.assertEqual(judged([*events[:-2], answer, events[-1]]), (2, [said, refused_said(answer, 2, ", param 1")]))
 
-    def test_a_release_ack_that_is_refused(self):
+    def test_a_release_ack_that_is_refused(self) -> None:
         """It answers no request of its source either."""
         made = Exchange(8, 4)
         made.ask(5, 2, 2, source=0x77)
@@ -650,7 +653,7 @@ class Faults(CaseTest):
         events = renumbered([*made.events[:2], *ack, *made.events[2:]])
         self.assertEqual(judged(events), (1, [refused_said(events[2], 3)]))
 
-    def test_the_same_wrong_response_twice(self):
+    def test_the_same_wrong_response_twice(self) -> None:
         """A response of another size, and the same one to the next request: a line about each."""
         made = Exchange(8, 4)
         for _ in range(2):
@@ -666,7 +669,7 @@ class Faults(CaseTest):
         near = [events[i] for i in of(events, "D", far=False)]
         self.assertEqual(judged(events), (2, [refused_said(event, 10) for event in near]))
 
-    def test_a_long_response_of_another_size(self):
+    def test_a_long_response_of_another_size(self) -> None:
         """None of its far beats is judged, and the response after it is."""
         made = Exchange(8, 4)
         for _ in range(2):
@@ -685,7 +688,7 @@ class Faults(CaseTest):
             judged([*events[: own[-1]], wrong]), (2, [refused_said(events[near], 10), reported(events[own[-1]], wrong)])
         )
 
-    def test_sizes_that_are_too_large(self):
+    def test_sizes_that_are_too_large(self) -> None:
         """A request of any wrong size is answered, and its source is free afterwards."""
         for size in (13, 14, 15):
             for answered in (size, 12):
@@ -699,7 +702,7 @@ class Faults(CaseTest):
                 with self.subTest(size=size, answered=answered):
                     self.assertEqual(judged(events), (1, [refused_said(events[0], 3)]))
 
-    def changed(self, head, names):
+    def changed(self, head: Dict[str, int], names: Sequence[str]) -> Dict[str, int]:
         """The head with these fields changed, so that it is still lawful."""
         values = {
             "opcode": head["opcode"] ^ 1,
@@ -712,7 +715,7 @@ class Faults(CaseTest):
         }
         return {**head, **{name: values[name] for name in names}}
 
-    def test_a_beat_that_slipped(self):
+    def test_a_beat_that_slipped(self) -> None:
         """One field of a later beat is wrong, or several, but A or D has no other message of its source: only this beat
         is refused.
         """
@@ -746,7 +749,7 @@ class Faults(CaseTest):
                 lines = [line for line in judged(wrong)[1] if "outstanding" not in line and "NoRequest" not in line]
                 self.assertEqual(lines, [refused_said(wrong[at], 7)])
 
-    def test_the_last_beat_slips_to_the_next_message(self):
+    def test_the_last_beat_slips_to_the_next_message(self) -> None:
         """The last beat of a burst has the head of the message after it, on both links or on the near one: only this
         beat is refused.
         """
@@ -783,7 +786,7 @@ class Faults(CaseTest):
                         wrong = flipped(order[-1], "data", 0)
                         self.assertEqual(judged([*order[:-1], wrong]), (2, [*said, reported(order[-1], wrong)]))
 
-    def test_a_burst_that_is_cut(self):
+    def test_a_burst_that_is_cut(self) -> None:
         """Another message begins in a burst, with two other fields (on A, also another source): its far beats are
         judged.
         """
@@ -818,7 +821,7 @@ class Faults(CaseTest):
                 ]
                 self.assertEqual(lines, [*said, reported(events[at], wrong)])
 
-    def test_two_messages_that_cannot_be_corrected(self):
+    def test_two_messages_that_cannot_be_corrected(self) -> None:
         """They differ in one field of the head: a line about each. With the same head, they may be one message of many
         beats: one line.
         """
@@ -854,7 +857,7 @@ class Faults(CaseTest):
                     lines = [line for line in judged([first, second])[1] if ": refused: " in line]
                     self.assertEqual(lines, said)
 
-    def test_an_unlawful_opcode_amid_others(self):
+    def test_an_unlawful_opcode_amid_others(self) -> None:
         """C 3, D 3 and D 7 are no messages: their beats are skipped, and the next message is judged."""
         for channel, opcode in (("C", 3), ("D", 3), ("D", 7)):
             made = Exchange(8, 4)
@@ -874,7 +877,7 @@ class Faults(CaseTest):
 class Calls(CaseTest):
     """Arguments that are outside their ranges, NULL, and the functions for SystemVerilog."""
 
-    def setUp(self):
+    def setUp(self) -> None:
         # (a library of its own: the package has other types for the results of the same functions)
         self.library = ctypes.CDLL(os.environ["TLBRIDGE_LIBRARY"])
         self.library.tl_scoreboard_open.restype = ctypes.c_void_p
@@ -883,7 +886,7 @@ class Calls(CaseTest):
         for name in ("tl_scoreboard_beats", "tl_scoreboard_differences", "tl_scoreboard_finish"):
             getattr(self.library, name).restype = ctypes.c_uint64
 
-    def test_no_board(self):
+    def test_no_board(self) -> None:
         """NULL in the place of a board changes nothing."""
         library, passed, lanes = self.library, Beat().passed("E", 8)[0], bytes(128)
         library.tl_scoreboard_free(None)
@@ -899,7 +902,7 @@ class Calls(CaseTest):
         )
         self.assertIsNone(library.tl_scoreboard_next_message(None, ctypes.byref(ctypes.c_uint64())))
 
-    def test_outside(self):
+    def test_outside(self) -> None:
         """A beat or a reset of a link or a channel that is none changes nothing."""
         library, passed, lanes = self.library, Beat().passed("E", 8)[0], bytes(128)
         board = ctypes.c_void_p(library.tl_scoreboard_open(8, 4, 2))
@@ -913,7 +916,7 @@ class Calls(CaseTest):
         self.assertIsNone(library.tl_scoreboard_next_message(board, ctypes.byref(ctypes.c_uint64())))
         library.tl_scoreboard_free(board)
 
-    def test_pairs(self):
+    def test_pairs(self) -> None:
         """The pairs that are linked, in their order; no board is opened for any other."""
         said = " ".join(f"{client}:{manager}" for client, manager in sorted(all_pairs()))
         self.assertEqual(
@@ -923,7 +926,7 @@ class Calls(CaseTest):
         for client, manager in ((3, 4), (8, 3), (0, 0), (256, 8), (128, 2)):
             self.assertIsNone(self.library.tl_scoreboard_open(client, manager, 0))
 
-    def over_dpi(self, events, client, manager):
+    def over_dpi(self, events: List[Event], client: int, manager: int) -> Tuple[int, List[Tuple[float, str]]]:
         """The differences, and each message with its time, as SystemVerilog gets them."""
         library = self.library
         library.tlbridge_scoreboard_open.restype = ctypes.c_void_p
@@ -959,14 +962,15 @@ class Calls(CaseTest):
             )
             beats += 1
             self.assertEqual(library.tlbridge_scoreboard_beats(board), beats)
-        differences, messages, time = library.tlbridge_scoreboard_finish(board), [], ctypes.c_double(-1)
+        messages: List[Tuple[float, str]] = []
+        differences, time = int(library.tlbridge_scoreboard_finish(board)), ctypes.c_double(-1)
         self.assertEqual(library.tlbridge_scoreboard_differences(board), differences)
         while line := library.tlbridge_scoreboard_next_message(board, ctypes.byref(time)):
             messages.append((time.value, line.decode()))
         library.tlbridge_scoreboard_free(board)
         return differences, messages
 
-    def test_each_field_over_dpi(self):
+    def test_each_field_over_dpi(self) -> None:
         """The highest and the lowest bit of each field."""
         for client, manager in ((8, 4), (1, 32)):
             events = exchange(client, manager)
@@ -988,7 +992,7 @@ class Calls(CaseTest):
                             self.assertEqual(messages[0], (came.time + 0.25, said))
                             self.assertEqual(differences - sum("NoRequest" in line for _, line in messages), 1)
 
-    def test_resets_over_dpi(self):
+    def test_resets_over_dpi(self) -> None:
         """A reset is asserted if its value is not 0, whichever bit of it is set."""
         made = Exchange(8, 4)
         made.send("E", made.head("E", 0, 0))

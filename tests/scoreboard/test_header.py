@@ -9,7 +9,7 @@ from typing import List, Sequence
 
 import pytest
 from board_library import INCLUDES
-from commands import run, said
+from commands import Word, run, said
 from project import EXAMPLES, ROOT, compiler
 
 HERE = Path(__file__).resolve().parent
@@ -32,7 +32,7 @@ def printed(library: Path, words: Sequence[object], folder: Path) -> str:
     the message if it fails.
     """
     program = folder / "program"
-    linked = ["-x", "none", library, f"-Wl,-rpath,{library.parent}", "-pthread", "-o", program]
+    linked: List[Word] = ["-x", "none", library, f"-Wl,-rpath,{library.parent}", "-pthread", "-o", program]
     done = run([*map(str, words), INCLUDES[0], *linked])
     assert done.returncode == 0, said(done)
     ran = run([program], timeout=60)

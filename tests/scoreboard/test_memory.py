@@ -2,10 +2,11 @@
 
 import re
 from pathlib import Path
+from typing import List
 
 import pytest
 from board_library import INCLUDES, PLAIN_BRIDGE, STRICT, compile_object, macros
-from commands import run, said, succeed
+from commands import Word, run, said, succeed
 from once import made_once
 from project import SCOREBOARD, compiler
 from valgrind import has_no_leak
@@ -21,7 +22,17 @@ def memory(tmp_path_factory: pytest.TempPathFactory) -> Path:
 
     def make(folder: Path) -> None:
         parts = [compile_object(path, folder, PAIR) for path in (*SCOREBOARD, PLAIN_BRIDGE)]
-        words = [compiler(), "-std=c11", "-O1", "-g", *STRICT, *INCLUDES, *macros(PAIR), HERE / "memory.c", *parts]
+        words: List[Word] = [
+            compiler(),
+            "-std=c11",
+            "-O1",
+            "-g",
+            *STRICT,
+            *INCLUDES,
+            *macros(PAIR),
+            HERE / "memory.c",
+            *parts,
+        ]
         succeed([*words, "-pthread", *WRAPPED, "-o", folder / "memory"])
 
     return made_once(tmp_path_factory, "memory", make) / "memory"

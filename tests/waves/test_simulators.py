@@ -170,7 +170,7 @@ def wave(request: pytest.FixtureRequest, tmp_path_factory: pytest.TempPathFactor
 def compared(wave: Wave) -> "subprocess.CompletedProcess[str]":
     """tlbridge-trace over the dump: it writes the beats, and compares both links."""
     names, _, dump, _ = wave.of
-    words = [sys.executable, TOOL, f"dump.{dump}", *links_of(names), "--beats", "wave", "--compare"]
+    words: List[Word] = [sys.executable, TOOL, f"dump.{dump}", *links_of(names), "--beats", "wave", "--compare"]
     return run([*words, "--program", PROGRAM], wave.folder, 600)
 
 
@@ -184,7 +184,7 @@ def test_a_waveform_says_what_the_monitors_and_the_scoreboard_say(wave: Wave) ->
         assert its
         assert (wave.folder / f"wave.{name}").read_text() == its, name
     widths = ("4", "4") if wave.of[0] == "opentitan" else ("8", "4")
-    words = [sys.executable, COMPARE, *widths, "client.beats", "manager.beats", "--program", PROGRAM]
+    words: List[Word] = [sys.executable, COMPARE, *widths, "client.beats", "manager.beats", "--program", PROGRAM]
     by_monitors = run(words, wave.folder, 600)
     statuses = (by_wave.returncode, by_monitors.returncode)
     assert statuses == (wave.bug, wave.bug), said(by_wave) + said(by_monitors)
@@ -260,7 +260,7 @@ def large(tmp_path_factory: pytest.TempPathFactory) -> Path:
 
     def make(folder: Path) -> None:
         with open(folder / "dump.vcd", "wb") as out:
-            words = [sys.executable, HERE / "wave_dump.py", str(MEGABYTES)]
+            words: List[Any] = [sys.executable, HERE / "wave_dump.py", str(MEGABYTES)]
             done = subprocess.run(words, stdout=out, stderr=subprocess.PIPE, text=True, check=True)
         (folder / "beats").write_text(re.findall(r"\d+", done.stderr)[0])
 

@@ -13,6 +13,7 @@ import tempfile
 import unittest
 from html.parser import HTMLParser
 from pathlib import Path
+from typing import Any, Dict, List, Optional, Sequence, Tuple, Union
 from unittest import mock
 
 from project import ROOT, needs_program
@@ -20,7 +21,8 @@ from small_waves import LOW, Wave, simple
 from tlbridge import run as runs
 from tlbridge.flow import LinkFlow
 from tlbridge.waves import chosen, command, links, page, vcd
-from tlbridge.waves.sampling import active_lanes, hexadecimal
+from tlbridge.protocol import active_lanes
+from tlbridge.waves.sampling import hexadecimal
 
 NEAR = ["tilelink-trace 1 client 8 manager 4", LOW, "D 1 0 2 07 00 0 ddccbbaa 0"]
 FAR = [
@@ -31,12 +33,12 @@ FAR = [
 
 
 class Case(unittest.TestCase):
-    def setUp(self):
+    def setUp(self) -> None:
         folder = tempfile.TemporaryDirectory()
         self.addCleanup(folder.cleanup)
         self.folder = Path(folder.name)
 
-    def run_tool(self, text, *words, name="dump.vcd"):
+    def run_tool(self, text: Union[str, bytes], *words: str, name: str = "dump.vcd") -> Tuple[int, List[str], str]:
         path = self.folder / name
         path.write_bytes(text if isinstance(text, bytes) else text.encode("latin-1"))
         out, said = io.StringIO(), io.StringIO()
@@ -44,7 +46,9 @@ class Case(unittest.TestCase):
             status = command.main([str(path), *words])
         return status, out.getvalue().splitlines(), said.getvalue()
 
-    def trace(self, wave, *words, client="in", manager="out"):
+    def trace(
+        self, wave: Union[str, bytes, Wave], *words: str, client: str = "in", manager: str = "out"
+    ) -> Tuple[List[str], List[str], str]:
         text = wave if isinstance(wave, (str, bytes)) else wave.text()
         status, out, said = self.run_tool(
             text, "--client", client, "--manager", manager, "--far", str(self.folder / "far"), *words
@@ -52,7 +56,7 @@ class Case(unittest.TestCase):
         self.assertEqual(status, 0, said)
         return out, (self.folder / "far").read_text().splitlines(), said
 
-    def refused(self, text, words, *options, status=3):
+    def refused(self, text: Union[str, bytes], words: str, *options: str, status: int = 3) -> str:
         got, _, said = self.run_tool(text, *options)
         self.assertEqual(got, status, said)
         self.assertIn(words, said)
@@ -60,7 +64,7 @@ class Case(unittest.TestCase):
 
 
 class Names(Case):
-    def test_conventions(self):
+    def test_conventions(self) -> None:
         for style, stem in (("plain", ""), ("rocket", "auto_"), ("spinal", "io_")):
             with self.subTest(style):
                 wave = simple(style)
@@ -73,7 +77,7 @@ class Names(Case):
                     row[1:], [style, "AD", "8", "4", "3", "32", "top.clock", "top.reset", "A", "1", "D", "1"]
                 )
 
-    def test_pattern(self):
+    def test_pattern(self) -> None:
         wave = simple("odd")
         status, out, said = self.run_tool(
             wave.text(),
@@ -84,7 +88,7 @@ class Names(Case):
         )
         self.assertEqual((status, out), (0, NEAR), said)
 
-    def test_other_names_of_fields(self):
+    def test_other_names_of_fields(self) -> None:
         """addr is the address, and error is denied, in each convention, also in capitals."""
         for style, prefix in (("plain", ""), ("rocket", "auto_"), ("spinal", "io_")):
             names = {"client": f"{prefix}in", "manager": f"{prefix}out"}
@@ -94,7 +98,7 @@ class Names(Case):
                     out, far, said = self.trace(made, **names)
                     self.assertEqual((out[1], far[1], out[2]), (NEAR[1], FAR[1], NEAR[2].replace(" 00 0 ", " 00 1 ")))
 
-    def denied(self, style):
+    def denied(self, style: str) -> str:
         """The same, with a response that is denied on both links."""
         wave = simple(style)
         at = next(i for i, line in enumerate(wave.body) if line == "#15")
@@ -102,7 +106,7 @@ class Names(Case):
         wave.body[at + 1 : at + 1] = [f"1{code}" for code in codes]
         return wave.text()
 
-    def test_renamed_field(self):
+    def test_renamed_field(self) -> None:
         wave = simple("odd")
         text = wave.text().replace("INACHOPCODE", "INACHOP").replace("INDCHOPCODE", "INDCHOP")
         status, out, said = self.run_tool(
@@ -127,17 +131,18 @@ class Names(Case):
         )
         self.assertEqual((status, out), (0, NEAR), said)
 
-    def test_user_bits_are_said(self):
+    def test_user_bits_are_said(self) -> None:
         wave = simple("rocket")
         wave.add("auto_in_a_bits_user_amba_prot_secure", 1)
         _, out, _ = self.run_tool(wave.text())
         self.assertTrue(any("ignored" in line and "a_user_amba_prot_secure" in line for line in out), out)
 
-    def test_scope_of_its_own(self):
+    def test_scope_of_its_own(self) -> None:
         """Plain names in an interface's scope."""
         text = simple().text()
         for side in ("in", "out"):
-            lines, own = [], []
+            lines: List[str] = []
+            own: List[str] = []
             for line in text.splitlines():
                 (own if f" {side}_" in line and line.startswith("$var") else lines).append(
                     line.replace(f" {side}_", " ") if line.startswith("$var") else line
@@ -146,7 +151,7 @@ class Names(Case):
             text = "\n".join(lines[:at] + [f"$scope interface {side} $end", *own, "$upscope $end"] + lines[at:]) + "\n"
         self.assertEqual(self.trace(text)[:2], (NEAR, FAR))
 
-    def test_names_with_dots(self):
+    def test_names_with_dots(self) -> None:
         """A dump with one scope, whose names have the others: the clock of a link is in any of those above it."""
         wave = simple()
         wave.vars = [
@@ -160,13 +165,13 @@ class Names(Case):
         _, out, _ = self.run_tool(wave.text())
         self.assertEqual([line.split()[7:9] for line in out[1:3]], [["top.part.clock", "top.part.reset"]] * 2)
 
-    def test_packed_structs(self):
+    def test_packed_structs(self) -> None:
         self.assertEqual([sum(bits for _, bits in links.layout_of(text)) for text in (links.H2D, links.D2H)], [109, 66])
 
-        def a(v, ready):
+        def a(v: int, ready: int) -> str:
             return f"{v}100000" + "10" + f"{7:08b}{0x1004:032b}" + "1111" + "x" * 32 + "0" * 23 + str(ready)
 
-        def d(v, ready):
+        def d(v: int, ready: int) -> str:
             return f"{v}001000" + "10" + f"{7:08b}0{0xDDCCBBAA:032b}" + "0" * 14 + "1" + str(ready)
 
         variables = "".join(
@@ -188,7 +193,7 @@ class Names(Case):
         near, _, _ = self.trace(text.replace("tl_h_i", "one").replace("tl_h_o", "two"), client="one+two", manager="x")
         self.assertEqual(len(near), 3)
 
-    def test_another_struct(self):
+    def test_another_struct(self) -> None:
         fields = "a_valid:1,a_opcode:3,a_mask:4,a_data:32,d_ready:1", "d_valid:1,d_opcode:3,d_data:32,a_ready:1"
         text = (
             "$scope module top $end\n$var wire 1 ! clk $end\n$var wire 41 a p_h2d $end\n$var wire 37 b p_d2h"
@@ -198,7 +203,7 @@ class Names(Case):
         self.assertEqual(status, 0, said)
         self.assertIn("A 1 D 0", out[1])
 
-    def test_e_and_absent_channels(self):
+    def test_e_and_absent_channels(self) -> None:
         wave = Wave(channels="ade")
         wave.begin()
         wave.time(5)
@@ -207,7 +212,7 @@ class Names(Case):
         near, far, _ = self.trace(wave)
         self.assertEqual((near[1:], far[1:]), (["E 05"], []))
 
-    def test_absent_fields_are_said(self):
+    def test_absent_fields_are_said(self) -> None:
         text = "\n".join(line for line in simple().text().splitlines() if "corrupt" not in line)
         near, far, said = self.trace(text)
         self.assertEqual((near, far), (NEAR, FAR))
@@ -219,7 +224,7 @@ class Names(Case):
         self.assertEqual((near, far), (NEAR, FAR))
         self.assertIn("A has no mask: the active lanes are written", said)
 
-    def test_ambiguous_and_unknown_link(self):
+    def test_ambiguous_and_unknown_link(self) -> None:
         self.refused(
             simple().text(),
             "no link is named 'other'. The dump has: top.in, top.out",
@@ -245,20 +250,20 @@ class Names(Case):
         )
         self.refused(text, "'out' fits 2 links", "--client", "in", "--manager", "out", status=2)
 
-    def test_wide_ids_want_version_2(self):
+    def test_wide_ids_want_version_2(self) -> None:
         wave = simple()
         code, _ = wave.codes["in", "a", "source"]
         text = wave.text().replace(f"$var wire 4 {code} in_a_source [3:0]", f"$var wire 10 {code} in_a_source [9:0]")
         near, _, _ = self.trace(text)
         self.assertEqual(near[:2], ["tilelink-trace 2 client 8 manager 4", LOW.replace(" 07 ", " 0007 ")])
 
-    def test_no_link(self):
+    def test_no_link(self) -> None:
         self.refused(
             "$scope module top $end\n$var wire 1 ! clk $end\n$upscope $end\n$enddefinitions $end\n#0\n1!\n",
             "no TileLink link",
         )
 
-    def test_no_link_in_an_extended_dump(self):
+    def test_no_link_in_an_extended_dump(self) -> None:
         said = self.refused(
             (
                 "$scope module top $end\n$var port 1 <0 a $end\n$upscope $end\n$enddefinitions $end\n#0\n$dumpports\npU"
@@ -268,12 +273,12 @@ class Names(Case):
         )
         self.assertIn("extended VCD ($dumpports), which is not read", said)
 
-    def test_one_link_alone(self):
+    def test_one_link_alone(self) -> None:
         self.refused(simple().text(), "name both", "--client", "in", status=2)
 
 
 class Sampling(Case):
-    def test_values_before_the_edge(self):
+    def test_values_before_the_edge(self) -> None:
         """The beat of `simple` has valid fall at the time of the edge; here it rises there too, and is not taken."""
         wave = Wave()
         wave.begin()
@@ -285,7 +290,7 @@ class Sampling(Case):
         wave.time(20, clock=1)
         self.assertEqual(self.trace(wave)[0], NEAR[:1])
 
-    def test_a_time_said_twice(self):
+    def test_a_time_said_twice(self) -> None:
         """It is one time still."""
         wave = Wave()
         wave.begin()
@@ -294,7 +299,7 @@ class Sampling(Case):
         wave.time(10, clock=1)
         self.assertEqual(self.trace(wave)[0], NEAR[:1])
 
-    def test_both_have_to_be_1(self):
+    def test_both_have_to_be_1(self) -> None:
         wave = Wave()
         wave.begin()
         for at, (valid, ready) in enumerate(((0, 1), (1, 0), (1, 1), (0, 0))):
@@ -303,10 +308,11 @@ class Sampling(Case):
             wave.time(10 * at + 10, clock=1)
         self.assertEqual(self.trace(wave)[0][1:], ["A 4 0 0 02 0000000000000000 00 0000000000000000 0"])
 
-    def test_unknown_valid_or_ready(self):
+    def test_unknown_valid_or_ready(self) -> None:
         wave = Wave()
         wave.begin()
-        for at, (valid, ready) in enumerate((("x", 1), ("1", "z"), ("x", "0"), ("0", "x"), ("x", "x"))):
+        values: Sequence[Tuple[str, Union[int, str]]] = (("x", 1), ("1", "z"), ("x", "0"), ("0", "x"), ("x", "x"))
+        for at, (valid, ready) in enumerate(values):
             wave.time(10 * at + 5, clock=0)
             wave.beat("in", "a", valid=valid, ready=ready)
             wave.time(10 * at + 10, clock=1)
@@ -315,7 +321,7 @@ class Sampling(Case):
         self.assertIn("top.in_a_valid is unknown at 2 clock edges, first at time 10", said)
         self.assertIn("top.in_a_ready is unknown at 2 clock edges, first at time 20", said)
 
-    def test_unknown_field(self):
+    def test_unknown_field(self) -> None:
         wave = simple()
         text = wave.text().replace(
             f"b{0x1004:b} {wave.codes['in', 'a', 'address'][0]}", f"b10x0 {wave.codes['in', 'a', 'address'][0]}"
@@ -326,7 +332,7 @@ class Sampling(Case):
         self.assertIn("A 4 0 2 07 0000000000000008 f0", near[1])
         self.assertIn("1 fields had unknown bits", said)
 
-    def test_unknown_lanes(self):
+    def test_unknown_lanes(self) -> None:
         """x where no mask bit is, or no lane is active, is 0; x in a far beat stays x."""
         wave = Wave()
         wave.begin()
@@ -339,7 +345,7 @@ class Sampling(Case):
         self.assertEqual(far[1], "A 0 0 2 00 0000000000000000 f 1111Z1xx 0")
         self.assertIn("1 fields of far beats had unknown bits", said)
 
-    def test_sink_of_no_grant(self):
+    def test_sink_of_no_grant(self) -> None:
         wave = simple()
         code = wave.codes["out", "d", "sink"][0]
         text = wave.text().replace("#15\n", f"#15\nbx {code}\n")
@@ -347,7 +353,7 @@ class Sampling(Case):
         self.assertEqual(near, NEAR)
         self.assertIn("D sink was unknown in 1 responses", said)
 
-    def test_reset(self):
+    def test_reset(self) -> None:
         wave = simple()
         text = (
             wave.text()
@@ -359,12 +365,12 @@ class Sampling(Case):
         self.assertEqual(self.trace(text, "--reset", "!top.reset")[0], NEAR[:2])
         self.assertEqual(self.trace(text.replace(" reset ", " rst_n "))[0], NEAR[:2])
 
-    def test_reset_after_beats(self):
+    def test_reset_after_beats(self) -> None:
         wave = simple()
         said = self.trace(wave.text().replace("#25\n", f"#25\n1{wave.codes['reset'][0]}\n"))[2]
         self.assertIn("reset asserted again at time 30", said)
 
-    def test_reset_amid_a_burst(self):
+    def test_reset_amid_a_burst(self) -> None:
         """A burst of A or D is cut by a reset: the next request is a new one, and its response is on its lanes."""
         get = dict(opcode=4, size=2, source=7, address=0x1004)
         for letter, first in (
@@ -392,7 +398,7 @@ class Sampling(Case):
                 lines = (self.folder / "all.client.beats").read_text().splitlines()
                 self.assertEqual((status, len(lines), lines[-1]), (0, 3, "D 1 0 2 07 00 0 ddccbbaa00000000 0"), said)
 
-    def lanes_of(self, *cycles):
+    def lanes_of(self, *cycles: Any) -> List[int]:
         """The data of the beats of D, if each of these cycles has a request, a response or both on the client's link;
         or "reset", or a gap of the dump.
 
@@ -426,7 +432,7 @@ class Sampling(Case):
             if line[0] == "D" and line[2] != "6"
         ]
 
-    def test_what_a_response_answers(self):
+    def test_what_a_response_answers(self) -> None:
         """No ReleaseAck answers a request, and none waits after a reset or a gap: a response is on the lanes of its own
         request."""
         answer, release_ack, burst, first, second, whole = 1, 6, 17, 8 << 56, 2 << 8, 0x0807060504030201
@@ -442,7 +448,7 @@ class Sampling(Case):
             with self.subTest(cycles=cycles):
                 self.assertEqual(self.lanes_of(*cycles), lanes)
 
-    def test_a_clock_that_is_unknown(self):
+    def test_a_clock_that_is_unknown(self) -> None:
         """A clock rises if it becomes 1, also from an unknown level, and not if it becomes unknown."""
         for levels, count in (
             ("1", 1),
@@ -465,7 +471,7 @@ class Sampling(Case):
                 status, out, said = self.run_tool(wave.text())
                 self.assertEqual((status, out[1].split()[-4:-2]), (0, ["A", str(count)]), said)
 
-    def test_two_clocks(self):
+    def test_two_clocks(self) -> None:
         wave = Wave(two_clocks=True)
         wave.begin()
         wave.time(3)
@@ -480,7 +486,7 @@ class Sampling(Case):
         self.assertEqual([line[8:10] for line in far[1:]], ["02"])
         self.assertIn("clock top.out_clock", said)
 
-    def test_same_time_edges(self):
+    def test_same_time_edges(self) -> None:
         wave = Wave(two_clocks=True)
         wave.begin()
         wave.time(3)
@@ -489,7 +495,7 @@ class Sampling(Case):
         wave.time(5, in_clock=1, out_clock=1)
         self.assertEqual([line[0] for line in self.trace(wave)[0][1:]], ["A", "D"])
 
-    def test_missing_clock(self):
+    def test_missing_clock(self) -> None:
         text = "\n".join(line for line in simple().text().splitlines() if " clock " not in line)
         self.refused(
             text, "the dump has no clock in its scope or above it", "--client", "in", "--manager", "out", status=2
@@ -501,13 +507,13 @@ class Sampling(Case):
         self.assertEqual(status, 0)
         self.assertTrue(any("no clock" in line for line in out))
 
-    def test_given_clock(self):
+    def test_given_clock(self) -> None:
         text = simple().text().replace(" clock ", " tick ")
         self.assertEqual(self.trace(text, "--clock", "tick")[0], NEAR)
         self.assertEqual(self.trace(text, "--clock", "top.tick")[0], NEAR)
         self.refused(text, "has 8 bits", "--client", "in", "--manager", "out", "--clock", "in_a_mask", status=2)
 
-    def test_two_clocks_without_a_hint(self):
+    def test_two_clocks_without_a_hint(self) -> None:
         wave = simple()
         wave.vars = [line.replace(" clock ", " fast_clk ") for line in wave.vars]
         wave.add("slow_clk", 1)
@@ -523,12 +529,12 @@ class Sampling(Case):
         status, out, _ = self.run_tool(wave.text())
         self.assertEqual((status, [line.split()[7] for line in out[1:3]]), (0, ["?", "?"]), out)
 
-    def test_clock_that_never_rises(self):
+    def test_clock_that_never_rises(self) -> None:
         wave = Wave()
         wave.begin()
         self.assertIn("never rises", self.trace(wave)[2])
 
-    def test_edges(self):
+    def test_edges(self) -> None:
         """x to 1 is a rising edge, as it is in Verilog; the first value of a dump is none; 1 to 1 is none; down and up
         at one time is none."""
         for values, beats in (("x1", 1), ("1", 0), ("01", 1), ("011", 1), ("0101", 2), ("z1", 1), ("10", 0)):
@@ -548,7 +554,7 @@ class Sampling(Case):
         wave.change("clock", 1)
         self.assertEqual(len(self.trace(wave)[0]) - 1, 1)
 
-    def test_inputs_that_change_with_the_clock(self):
+    def test_inputs_that_change_with_the_clock(self) -> None:
         text = simple().text().replace("$scope module top", "$scope module TOP")
         self.assertIn(
             "TOP.in_a_valid, an input that a C++ bench drives, changes as the clock rises, 1 times, first at time 10",
@@ -556,7 +562,7 @@ class Sampling(Case):
         )
         self.assertNotIn("C++", self.trace(simple())[2])
 
-    def test_from_and_to(self):
+    def test_from_and_to(self) -> None:
         """Nothing is under way before time 10 and from time 20 on."""
         for words, lines, begin in (
             (("--from", "5"), NEAR, ""),
@@ -581,7 +587,7 @@ class Sampling(Case):
                 self.assertEqual("ends at time" in said, bool(end), said)
                 self.assertIn(end, said)
 
-    def test_from_and_to_of_a_list(self):
+    def test_from_and_to_of_a_list(self) -> None:
         """The list counts the beats of this time, both ends included."""
         for words, counts in (
             ((), "A 1 D 1"),
@@ -597,7 +603,7 @@ class Sampling(Case):
                 status, out, said = self.run_tool(simple().text(), *words)
                 self.assertEqual((status, [line.split()[-4:] for line in out[1:3]]), (0, [counts.split()] * 2), said)
 
-    def test_response_in_the_cycle_of_its_request(self):
+    def test_response_in_the_cycle_of_its_request(self) -> None:
         wave = Wave()
         wave.begin()
         wave.time(5)
@@ -606,7 +612,7 @@ class Sampling(Case):
         wave.time(10, clock=1)
         self.assertEqual(self.trace(wave)[1][1], "D 1 0 2 00 00 0 1111111100000000 0")
 
-    def test_lanes(self):
+    def test_lanes(self) -> None:
         self.assertEqual(active_lanes(0, 5, 8), 0x20)
         self.assertEqual(active_lanes(1, 6, 8), 0xC0)
         self.assertEqual(active_lanes(2, 4, 4), 0xF)
@@ -615,12 +621,12 @@ class Sampling(Case):
 
 
 class Forms(Case):
-    def check(self, text):
+    def check(self, text: Any) -> str:
         near, far, said = self.trace(text)
         self.assertEqual((near, far), (NEAR, FAR))
         return said
 
-    def test_gap(self):
+    def test_gap(self) -> None:
         wave = simple()
         text = wave.text()
         off = (
@@ -654,17 +660,17 @@ class Forms(Case):
         said = self.trace(text.replace("#15\n", off + "#15\n").split("#20")[0])[2]
         self.assertIn("nothing was recorded from time 12 to 15", said)
 
-    def test_dumpvars_in_the_middle(self):
+    def test_dumpvars_in_the_middle(self) -> None:
         wave = simple()
         again = f"$dumpvars\n1{wave.codes['clock'][0]}\n0{wave.codes['reset'][0]}\n$end\n"
         self.check(
             wave.text().replace("#15\n", "#12\n" + again + "#13\n" + again.replace("dumpvars", "dumpall") + "#15\n")
         )
 
-    def test_begins_late(self):
+    def test_begins_late(self) -> None:
         self.assertIn("the dump begins at time 5", self.trace(simple().text().replace("#0\n", "#5\n"))[2])
 
-    def test_other_variables(self):
+    def test_other_variables(self) -> None:
         wave = simple()
         wave.add("noise", 64, code="~r", kind="real")
         wave.add("a_valid_count", 32, code="~i", kind="integer")
@@ -678,7 +684,7 @@ class Forms(Case):
             wave.text().replace("#15\n", "#12\nr1.5e-3 ~r\nr-inf ~r\nshello ~s\ns ~s\n1~e\nb101 ~p\nbx ~i\n#15\n")
         )
 
-    def test_aliases(self):
+    def test_aliases(self) -> None:
         wave = simple()
         wave.vars += ["$upscope $end", "$scope module tb $end", *wave.vars]
         text = wave.text().replace("$upscope $end\n$enddef", "$upscope $end\n$enddef")
@@ -687,7 +693,7 @@ class Forms(Case):
         _, out, _ = self.run_tool(text)
         self.assertTrue(any(line.startswith("tb.in") and line.endswith("same as top.in") for line in out), out)
 
-    def test_escaped_names(self):
+    def test_escaped_names(self) -> None:
         text = (
             simple()
             .text()
@@ -700,10 +706,10 @@ class Forms(Case):
         near, _, _ = self.trace(text, client="top.u$x.y.in", manager="out")
         self.assertEqual(near, NEAR)
 
-    def test_range_without_a_space(self):
+    def test_range_without_a_space(self) -> None:
         self.check(simple().text().replace(" [", "["))
 
-    def test_split_by_bit(self):
+    def test_split_by_bit(self) -> None:
         wave = simple()
         text = wave.text()
         for name in ("in_a_address", "in_a_mask", "out_d_data"):
@@ -726,7 +732,7 @@ class Forms(Case):
             text = "\n".join(lines)
         self.check(text)
 
-    def test_split_by_range(self):
+    def test_split_by_range(self) -> None:
         wave = simple()
         code, _ = wave.codes["out", "d", "data"]
         text = wave.text().replace(
@@ -736,7 +742,7 @@ class Forms(Case):
         text = text.replace(f"b{0xDDCCBBAA:b} {code}\n", f"b{0xDDCC:b} {{h\nb{0xBBAA:b} {{l\n")
         self.check(text)
 
-    def test_parts_that_are_no_vector(self):
+    def test_parts_that_are_no_vector(self) -> None:
         """Variables of one name are a vector if their ranges follow each other. With a gap, an overlap or another
         number of bits, the first one counts."""
         for ranges, bits in (
@@ -754,7 +760,7 @@ class Forms(Case):
         parts = [vcd.Variable(("top",), "data", 8, high, low, b"!", "wire") for high, low in ((31, 16), (15, 0))]
         self.assertEqual(links.joined(parts)[("top",), "data"].bits, 8)
 
-    def test_short_vectors(self):
+    def test_short_vectors(self) -> None:
         """A vector is extended by 0, or by x where that is its first bit."""
         wave = simple()
         self.check(wave.text().replace("bx ", "bX ").replace("b100 ", "b0100 ", 1))
@@ -763,7 +769,7 @@ class Forms(Case):
         self.assertEqual(links.extended(b"z", 2, ""), b"zz")
         self.assertEqual(links.extended(b"0001", 2, ""), b"01")
 
-    def test_free_form(self):
+    def test_free_form(self) -> None:
         """Changes on one line, vectors over two lines, comments among the changes."""
         text = simple().text()
         head, _, body = text.partition("$enddefinitions $end\n")
@@ -774,7 +780,7 @@ class Forms(Case):
         self.check(text.replace("#15\n", "$comment\n1!\n#99\nnonsense b $dumpoff\n$end\n#15\n"))
         self.check(text.replace(" $end", "\n\t$end\n"))
 
-    def test_vhdl_values(self):
+    def test_vhdl_values(self) -> None:
         wave = simple()
         text = wave.text().replace("bxxxx", "bUW-x").replace("bz ", "b- ")
         code, ready = wave.codes["in", "a", "mask"][0], wave.codes["in", "a", "ready"][0]
@@ -784,10 +790,10 @@ class Forms(Case):
             .replace(f"1{ready}\n", f"H{ready}\n")
         )
 
-    def test_crlf(self):
+    def test_crlf(self) -> None:
         self.check(simple().text().replace("\n", "\r\n"))
 
-    def test_blocks_of_any_size(self):
+    def test_blocks_of_any_size(self) -> None:
         text = simple().text() + "$comment end $end\n"
         kept = vcd.BLOCK
         try:
@@ -798,13 +804,13 @@ class Forms(Case):
         finally:
             vcd.BLOCK = kept
 
-    def test_gzip(self):
+    def test_gzip(self) -> None:
         status, out, _ = self.run_tool(
             gzip.compress(simple().text().encode()), "--client", "in", "--manager", "out", name="dump.vcd.gz"
         )
         self.assertEqual((status, out), (0, NEAR))
 
-    def test_standard_input(self):
+    def test_standard_input(self) -> None:
         script = ROOT / "tlbridge-trace"
         done = subprocess.run(
             [sys.executable, str(script), "-", "--client", "in", "--manager", "out"],
@@ -815,7 +821,7 @@ class Forms(Case):
         )
         self.assertEqual((done.returncode, done.stdout.splitlines()), (0, NEAR))
 
-    def test_cut_off(self):
+    def test_cut_off(self) -> None:
         text = simple().text()
         for end in ("b0101", "b01 ", "#4", "1", "$dump", "r1.5"):
             with self.subTest(end):
@@ -824,7 +830,7 @@ class Forms(Case):
                 self.assertIn("cut off", said)
 
     @unittest.skipUnless(shutil.which("vcd2fst") and shutil.which("fst2vcd"), "gtkwave's programs are not there")
-    def test_fst(self):
+    def test_fst(self) -> None:
         (self.folder / "a.vcd").write_text(simple().text())
         subprocess.run(["vcd2fst", self.folder / "a.vcd", self.folder / "a.fst"], check=True, capture_output=True)
         status, out, said = self.run_tool(
@@ -833,7 +839,7 @@ class Forms(Case):
         self.assertEqual((status, out), (0, NEAR), said)
         self.refused((self.folder / "a.fst").read_bytes()[:40], "fst2vcd could not read it")
 
-    def test_fst_with_many_messages(self):
+    def test_fst_with_many_messages(self) -> None:
         """fst2vcd does not stop because nobody reads its messages, and they are shown if it fails."""
         (self.folder / "as.vcd").write_text(simple().text())
         for status in (0, 1):
@@ -853,7 +859,7 @@ class Forms(Case):
             else:
                 self.assertEqual((got, out[1:], said), (0, [LOW, FAR[2]], ""))
 
-    def test_codes_like_keywords(self):
+    def test_codes_like_keywords(self) -> None:
         """Codes may begin as times, values and keywords do."""
         wave = simple()
         text = wave.text()
@@ -881,7 +887,7 @@ class Forms(Case):
         self.check(text)
 
 
-HOSTILE = {
+HOSTILE: Dict[str, Sequence[Any]] = {
     "empty": ("", "the file is empty"),
     "no definitions": ("$version x $end\n", "before $enddefinitions"),
     "within a keyword": ("$scope module top\n", "ends within $scope"),
@@ -924,13 +930,13 @@ HOSTILE = {
 class Failing(io.RawIOBase):
     """A file whose reads fail after its last byte."""
 
-    def __init__(self, text):
+    def __init__(self, text: bytes) -> None:
         self.left = text
 
-    def readable(self):
+    def readable(self) -> bool:
         return True
 
-    def readinto(self, buffer):
+    def readinto(self, buffer: Any) -> int:
         if not self.left:
             raise OSError(5, "Input/output error")
         count = min(len(buffer), len(self.left))
@@ -939,7 +945,7 @@ class Failing(io.RawIOBase):
 
 
 class Malformed(Case):
-    def test_hostile(self):
+    def test_hostile(self) -> None:
         self.assertGreaterEqual(len(HOSTILE), 25)
         for name, (text, words, *body) in HOSTILE.items():
             with self.subTest(name):
@@ -952,7 +958,7 @@ class Malformed(Case):
                 is_missing = words == "fst2vcd" and not shutil.which("fst2vcd")
                 self.refused(text, words, status=4 if is_missing else 3)
 
-    def test_values_too_long(self):
+    def test_values_too_long(self) -> None:
         wave = simple()
         code = wave.codes["in", "a", "opcode"][0]
         self.refused(
@@ -964,7 +970,7 @@ class Malformed(Case):
             "out",
         )
 
-    def test_widths_that_are_none(self):
+    def test_widths_that_are_none(self) -> None:
         wave = simple()
         code = wave.codes["in", "a", "data"][0]
         self.refused(
@@ -988,7 +994,7 @@ class Malformed(Case):
                     status=2,
                 )
 
-    def test_no_file(self):
+    def test_no_file(self) -> None:
         status = None
         said = io.StringIO()
         with contextlib.redirect_stderr(said):
@@ -996,12 +1002,12 @@ class Malformed(Case):
         self.assertEqual(status, 4)
         self.assertIn("No such file", said.getvalue())
 
-    def test_a_folder(self):
+    def test_a_folder(self) -> None:
         said = io.StringIO()
         with contextlib.redirect_stderr(said):
             self.assertEqual(command.main([str(self.folder)]), 4)
 
-    def test_a_read_that_fails(self):
+    def test_a_read_that_fails(self) -> None:
         """A read fails after some bytes, in the header or among the changes: the message names the dump."""
         text = simple().text().encode()
         for good in (10, len(text) - 50):
@@ -1013,11 +1019,11 @@ class Malformed(Case):
                     f"tlbridge-trace: {self.folder / 'dump.vcd'}: Input/output error",
                 )
 
-    def test_damaged_gzip(self):
+    def test_damaged_gzip(self) -> None:
         self.refused(gzip.compress(simple().text().encode())[:200], "ended", "--client", "in", "--manager", "out")
         self.refused(b"\x1f\x8b" + b"a" * 100, "dump.vcd", "--client", "in", "--manager", "out")
 
-    def test_mutations(self):
+    def test_mutations(self) -> None:
         """Whatever bytes change: a refusal, or an answer that is right or has a note; and no traceback."""
         source = random.Random(5)
         text = simple("rocket").text().encode()
@@ -1040,7 +1046,7 @@ class Malformed(Case):
             self.assertGreater(compared, 10)
 
 
-def mutated(text, source, first=0):
+def mutated(text: bytes, source: random.Random, first: int = 0) -> bytes:
     """The text with up to five changes after its first bytes."""
     made = bytearray(text)
     for _ in range(source.randrange(1, 6)):
@@ -1059,9 +1065,10 @@ def mutated(text, source, first=0):
     return bytes(made)
 
 
-def plain_beats(text):
+def plain_beats(text: bytes) -> List[str]:
     """The near beats of `simple("rocket")`, or of a changed copy, read word by word in the plainest way."""
-    words, codes = iter(text.split()), {}
+    words = iter(text.split())
+    codes: Dict[str, Tuple[bytes, int]] = {}
     for word in words:
         if word == b"$enddefinitions":
             break
@@ -1071,7 +1078,11 @@ def plain_beats(text):
                 re.sub(r"\[.*", "", inside[3].decode("latin-1").lstrip("\\")).lower(), (inside[2], int(inside[1]))
             )
     next(words)
-    values, lines, step, now, homes = {}, [], {}, b"0", {}
+    values: Dict[bytes, bytes] = {}
+    step: Dict[bytes, bytes] = {}
+    homes: Dict[int, int] = {}
+    lines: List[str] = []
+    now = b"0"
     for word in words:
         if word == b"$comment":
             list(iter(lambda: next(words), b"$end"))
@@ -1089,15 +1100,15 @@ def plain_beats(text):
     return lines + at_edge(values, step, codes, homes)
 
 
-def at_edge(values, step, codes, homes):
+def at_edge(values: Any, step: Any, codes: Any, homes: Any) -> List[str]:
     """The lines of a rising edge; `homes` has the address of each source's last request on the manager's link."""
 
-    def number(name):
+    def number(name: str) -> int:
         code, bits = codes[name]
         value = values.get(code, b"x")
         return int(value[-bits:].translate(bytes.maketrans(b"xzuw-lh", b"0000001")), 2)
 
-    def is_one(name):
+    def is_one(name: str) -> bool:
         return values.get(codes[name][0], b"x")[-1:] in (b"1", b"h")
 
     clock = codes["clock"][0]
@@ -1115,7 +1126,7 @@ def at_edge(values, step, codes, homes):
         )
         has_data = opcode < 4
 
-        def is_read(lane):
+        def is_read(lane: int) -> bool:
             return has_data and lane_is_active(lane, size, address, 8)
 
         data = "".join(
@@ -1148,7 +1159,7 @@ def at_edge(values, step, codes, homes):
     return lines
 
 
-def lane_is_active(lane, size, address, width):
+def lane_is_active(lane: int, size: int, address: int, width: int) -> bool:
     return 1 << size >= width or lane >> size == address % width >> size
 
 
@@ -1162,7 +1173,7 @@ exit {status}
 
 
 class Comparing(Case):
-    def stub(self, lines, status=0):
+    def stub(self, lines: Sequence[str], status: int = 0) -> str:
         path = self.folder / "stub"
         path.write_text(STUB.format(answer="\n".join(lines), status=status))
         path.chmod(0o755)
@@ -1170,7 +1181,9 @@ class Comparing(Case):
 
     REPORT = ["= A done 1 1", "= B done 0 0", "= C done 0 0", "= D done 1 1", "= E done 0 0"]
 
-    def compared(self, lines, wave=None, status=0, *more):
+    def compared(
+        self, lines: Sequence[str], wave: Optional[Wave] = None, status: int = 0, *more: str
+    ) -> Tuple[int, List[str], str]:
         return self.run_tool(
             (wave or simple()).text(),
             "--client",
@@ -1183,11 +1196,11 @@ class Comparing(Case):
             *more,
         )
 
-    def test_all_as_expected(self):
+    def test_all_as_expected(self) -> None:
         status, out, said = self.compared(FAR + self.REPORT)
         self.assertEqual((status, out[1]), (0, "A: done: 1 near beats, 1 far beats expected"), said)
 
-    def test_a_difference_has_both_times(self):
+    def test_a_difference_has_both_times(self) -> None:
         status, out, _ = self.compared([FAR[0], FAR[1].replace(" 07 ", " 06 "), FAR[2]] + self.REPORT)
         self.assertEqual(status, 1)
         self.assertEqual(
@@ -1199,14 +1212,14 @@ class Comparing(Case):
         )
         self.assertEqual(out[1], "first difference: channel A, time 10")
 
-    def test_missing_and_unexpected(self):
+    def test_missing_and_unexpected(self) -> None:
         status, out, _ = self.compared([FAR[0], FAR[1], FAR[1], FAR[2]] + self.REPORT)
         self.assertIn("A: far beat 1 is expected but missing", "\n".join(out))
         self.assertEqual(status, 1)
         status, out, _ = self.compared([FAR[0], FAR[2]] + self.REPORT)
         self.assertIn("A: far beat 0, time 10 on the manager's link, is unexpected", "\n".join(out))
 
-    def test_refused(self):
+    def test_refused(self) -> None:
         status, out, _ = self.compared([FAR[0], FAR[2], "= A refused 0 Mask", *self.REPORT[1:]], None, 1)
         self.assertEqual(status, 1)
         self.assertEqual(
@@ -1221,7 +1234,7 @@ class Comparing(Case):
         )
         self.assertEqual(out[1], "first difference: channel A, time 10")
 
-    def test_program_fails(self):
+    def test_program_fails(self) -> None:
         status, _, said = self.compared([], None, 9)
         self.assertEqual(status, 2)
         self.assertIn("ended with status 9, so there is nothing to compare with", said)
@@ -1248,7 +1261,7 @@ class Comparing(Case):
         self.assertEqual(status, 2)
         self.assertIn("none: No such file", said)
 
-    def test_the_place_of_a_fault(self):
+    def test_the_place_of_a_fault(self) -> None:
         path = Path(self.stub([], 3))
         path.write_text("#!/bin/sh\ncat > /dev/null\necho 'tlbridge: line 3: 18 Range' >&2\nexit 3\n")
         status, _, said = self.run_tool(
@@ -1257,7 +1270,7 @@ class Comparing(Case):
         self.assertEqual(status, 3)
         self.assertIn(f"time 20 on the manager's link, line 3 of the trace: 18 Range: {NEAR[2]}", said)
 
-    def test_no_beat_is_no_pass(self):
+    def test_no_beat_is_no_pass(self) -> None:
         wave = Wave()
         wave.begin()
         wave.time(10, clock=1)
@@ -1265,7 +1278,7 @@ class Comparing(Case):
         self.assertEqual(status, 2, out)
         self.assertIn("no beat was accepted on either link, so there is nothing to compare", said)
 
-    def test_ignored_lanes(self):
+    def test_ignored_lanes(self) -> None:
         wave = Wave()
         wave.begin()
         wave.time(5)
@@ -1283,7 +1296,7 @@ class Comparing(Case):
         self.assertEqual(self.compared(due, wave)[0], 1)
         self.assertEqual(self.compared(due, wave, 0, "--ignore-unmasked")[0], 0)
 
-    def test_with_the_program(self):
+    def test_with_the_program(self) -> None:
         program = str(needs_program("tlbridge"))
         for style, stem in (("plain", "top."), ("rocket", "auto_"), ("spinal", "io_")):
             status, out, said = self.run_tool(
@@ -1298,7 +1311,7 @@ class Comparing(Case):
             )
             self.assertEqual((status, len(out)), (0, 6), said)
 
-    def test_beats_as_the_monitor_writes_them(self):
+    def test_beats_as_the_monitor_writes_them(self) -> None:
         self.trace(simple(), "--beats", str(self.folder / "m"))
         self.assertEqual((self.folder / "m.client.beats").read_text().splitlines(), [LOW, FAR[2]])
         self.assertEqual((self.folder / "m.manager.beats.times").read_text().splitlines(), ["10", "20"])
@@ -1320,7 +1333,7 @@ class Crossing:
     """Reads that cross between links of 8 bytes, one after the other, each 100 time units long: A on the client's link
     at 10, on the manager's at 30, D there at 50, and on the client's link at 70."""
 
-    def __init__(self, count, reset_signals=False):
+    def __init__(self, count: int, reset_signals: bool = False) -> None:
         self.wave = Wave(client=8, manager=8)
         if reset_signals:
             self.wave = Wave(client=8, manager=8, two_clocks=True)
@@ -1329,14 +1342,14 @@ class Crossing:
         for number in range(count):
             self.read(100 * number, number % 16)
 
-    def edge(self, time, side, channel, **fields):
+    def edge(self, time: int, side: str, channel: str, **fields: Any) -> None:
         wave = self.wave
         wave.time(time - 5, **dict.fromkeys(self.clocks, 0))
         wave.beat(side, channel, **fields)
         wave.time(time, **dict.fromkeys(self.clocks, 1))
         wave.beat(side, channel, valid=0)
 
-    def read(self, start, source, drop=(), data=0x1122334455667788):
+    def read(self, start: int, source: int, drop: Sequence[int] = (), data: int = 0x1122334455667788) -> None:
         ask, answer = dict(opcode=4, size=3, source=source, address=0x1000, mask=0xFF), dict(
             opcode=1, size=3, source=source, data=data
         )
@@ -1346,30 +1359,31 @@ class Crossing:
             if at not in drop:
                 self.edge(start + 20 * at + 10, side, channel, **fields)
 
-    def text(self):
+    def text(self) -> str:
         return self.wave.text()
 
 
 class LongRuns(Case):
-    def setUp(self):
+    def setUp(self) -> None:
         super().setUp()
         self.program = self.folder / "same"
         self.program.write_text(SAME_WIDTH.replace("{python}", sys.executable))
         self.program.chmod(0o755)
         kept = runs.PART_BYTES, runs.MOST_BYTES
-        self.addCleanup(lambda: (setattr(runs, "PART_BYTES", kept[0]), setattr(runs, "MOST_BYTES", kept[1])))
+        self.addCleanup(setattr, runs, "PART_BYTES", kept[0])
+        self.addCleanup(setattr, runs, "MOST_BYTES", kept[1])
 
-    def compared(self, text, *words):
+    def compared(self, text: Any, *words: str) -> Tuple[int, List[str], str]:
         return self.run_tool(
             text, "--client", "in", "--manager", "out", "--compare", "--program", str(self.program), *words
         )
 
-    def parts(self, *words):
+    def parts(self, *words: str) -> List[List[str]]:
         """The files of the parts of a trace, as lines."""
         files = sorted(self.folder.glob("part*"), key=lambda path: int(path.suffix[1:] or 1))
         return [path.read_text().splitlines() for path in files]
 
-    def test_cut_at_quiet_moments(self):
+    def test_cut_at_quiet_moments(self) -> None:
         runs.PART_BYTES = 300  # three reads and a half
         made = Crossing(10)
         status, out, said = self.compared(
@@ -1388,7 +1402,7 @@ class LongRuns(Case):
         )
         self.assertEqual((self.folder / "times.2").read_text().split()[:3], ["410", "450", "510"])
 
-    def test_numbers_of_the_whole(self):
+    def test_numbers_of_the_whole(self) -> None:
         runs.PART_BYTES = 300
         made = Crossing(9)
         made.read(900, 9, drop=(3,))
@@ -1404,7 +1418,7 @@ class LongRuns(Case):
             ),
         )
 
-    def test_no_cut_while_a_message_crosses(self):
+    def test_no_cut_while_a_message_crosses(self) -> None:
         """A write that the design acknowledges before it passes it on: then no request is outstanding, but a message
         crosses."""
         runs.PART_BYTES = 1
@@ -1421,7 +1435,7 @@ class LongRuns(Case):
         self.assertEqual(status, 0, said + "\n".join(out))
         self.assertIn("judged in 4 parts", out[0])
 
-    def test_standard_output_has_the_first_part(self):
+    def test_standard_output_has_the_first_part(self) -> None:
         runs.PART_BYTES = 300
         status, out, said = self.run_tool(Crossing(10).text(), "--client", "in", "--manager", "out")
         self.assertEqual((status, len(out)), (0, 9))
@@ -1433,7 +1447,7 @@ class LongRuns(Case):
             said,
         )
 
-    def test_no_quiet_moment(self):
+    def test_no_quiet_moment(self) -> None:
         """A request that is never answered: the part ends where the trace is full, and its differences are reported."""
         runs.PART_BYTES, runs.MOST_BYTES = 300, 4096 + 600
         made = Crossing(1)
@@ -1445,7 +1459,7 @@ class LongRuns(Case):
         self.assertIn("no idle point at which it could be split: A source ", said)
         self.assertTrue(any(line.startswith("A: far beat 1, time 230") for line in out), out)
 
-    def test_stop_in_mid_flight(self):
+    def test_stop_in_mid_flight(self) -> None:
         made = Crossing(3)
         made.read(300, 3, drop=(3,))
         status, out, said = self.compared(made.text())
@@ -1460,7 +1474,7 @@ class LongRuns(Case):
         self.assertIn("D: far beat 3 is expected but missing", "\n".join(out))
         self.assertEqual(self.compared(made.text(), "--to", "270")[0], 0)
 
-    def test_second_reset(self):
+    def test_second_reset(self) -> None:
         """It ends the part; what was under way is no difference. Both links have one reset, so all is known after
         it."""
         made = Crossing(2)
@@ -1483,7 +1497,7 @@ class LongRuns(Case):
         self.assertIn("judged in 2 parts", out[0])
         self.assertEqual(out[1], "A: done: 5 near beats, 5 far beats expected")
 
-    def test_missing_at_a_reset_is_a_note(self):
+    def test_missing_at_a_reset_is_a_note(self) -> None:
         made = Crossing(1)
         made.read(100, 1, drop=(1, 2, 3))
         made.wave.time(150, clock=0)
@@ -1501,7 +1515,7 @@ class LongRuns(Case):
             said,
         )
 
-    def test_a_wrong_beat_after_a_reset_is_seen(self):
+    def test_a_wrong_beat_after_a_reset_is_seen(self) -> None:
         """A response that no request asked for, after a reset of both links."""
         made = Crossing(1)
         made.wave.time(105, clock=0, reset=1)
@@ -1513,7 +1527,7 @@ class LongRuns(Case):
         self.assertEqual(status, 1)
         self.assertTrue(any("D: far beat 1, time 130" in line for line in out), out)
 
-    def test_resets_one_after_the_other(self):
+    def test_resets_one_after_the_other(self) -> None:
         """The manager's link drains what was under way before its own reset: that is left out, and no difference."""
         made = Crossing(2, reset_signals=True)
         made.read(200, 2, drop=(2, 3))
@@ -1531,7 +1545,7 @@ class LongRuns(Case):
         self.assertIn("1 beats after time 255 are left out", said)
         self.assertEqual(out[1], "A: done: 4 near beats, 4 far beats expected")
 
-    def test_a_gap_in_mid_flight(self):
+    def test_a_gap_in_mid_flight(self) -> None:
         made = Crossing(2)
         made.read(200, 2, drop=(2, 3))
         made.wave.body += ["#240", "$dumpoff", "$end", "#300", "$dumpon", "$end"]
@@ -1546,7 +1560,7 @@ class LongRuns(Case):
         self.assertIn("1 beats after time 300 are left out", said)
         self.assertEqual(out[1], "A: done: 6 near beats, 6 far beats expected")
 
-    def test_a_late_begin(self):
+    def test_a_late_begin(self) -> None:
         """A dump that begins in mid-flight: the response of before it is left out, and also a request that only the far
         link shows."""
         made = Crossing(0)
@@ -1560,7 +1574,7 @@ class LongRuns(Case):
         self.assertEqual(out[1], "A: done: 3 near beats, 3 far beats expected")
         self.assertIn("4 beats after time 100 are left out", said)
 
-    def test_a_late_begin_while_a_message_crosses(self):
+    def test_a_late_begin_while_a_message_crosses(self) -> None:
         """A write that was acknowledged before the dump began, and that only the far link shows."""
         made = Crossing(0)
         made.edge(110, "out", "a", opcode=0, size=3, source=9, address=0x2000, mask=0xFF, data=1)
@@ -1571,7 +1585,7 @@ class LongRuns(Case):
         self.assertEqual(status, 0, said + "\n".join(out))
         self.assertIn("2 beats after time 100 are left out", said)
 
-    def test_a_gap_between_messages_hides_nothing(self):
+    def test_a_gap_between_messages_hides_nothing(self) -> None:
         made = Crossing(2)
         made.wave.body += ["#240", "$dumpoff", "$end", "#300", "$dumpon", "$end"]
         made.read(300, 3, drop=(3,))
@@ -1580,7 +1594,7 @@ class LongRuns(Case):
         self.assertEqual(status, 1)
         self.assertTrue(any(line.startswith("D: far beat 2, time 370") for line in out), out)
 
-    def test_from_and_to_of_a_comparison(self):
+    def test_from_and_to_of_a_comparison(self) -> None:
         text = Crossing(6).text()
         for words, count, said in (
             (("--from", "160"), 4, "--from 160: begins at time 170"),
@@ -1666,7 +1680,7 @@ class Outstanding(unittest.TestCase):
         ),
     }
 
-    def test_each(self):
+    def test_each(self) -> None:
         for name, beats in self.CASES.items():
             with self.subTest(name):
                 flow = LinkFlow(4, 2)
@@ -1677,7 +1691,7 @@ class Outstanding(unittest.TestCase):
                 flow.restart()
                 self.assertTrue(flow.is_quiet())
 
-    def test_answers_to_nothing(self):
+    def test_answers_to_nothing(self) -> None:
         """A response whose request was never seen is distinguished from others."""
         flow = LinkFlow(4, 2)
         for line in (
@@ -1698,7 +1712,7 @@ class Outstanding(unittest.TestCase):
 
 
 class OneLink(Case):
-    def test_one_link(self):
+    def test_one_link(self) -> None:
         """All beats of the link, in order of time, below a header with its width twice."""
         for name, header, lines in (
             ("in", "tilelink-trace 1 client 8 manager 8", [LOW, FAR[2]]),
@@ -1708,7 +1722,7 @@ class OneLink(Case):
             self.assertEqual((status, out), (0, [header, *lines]), said)
             self.assertEqual((self.folder / "times").read_text(), "10\n20\n")
 
-    def test_pattern_of_one_link(self):
+    def test_pattern_of_one_link(self) -> None:
         for pattern in ("top.IN{CHANNEL}CH{FIELD}", "IN{CHANNEL}CH{FIELD}"):
             status, out, said = self.run_tool(simple("odd").text(), "--link-pattern", pattern)
             self.assertEqual((status, out[1:]), (0, [LOW, FAR[2]]), said)
@@ -1720,11 +1734,11 @@ class OneLink(Case):
             status=2,
         )
 
-    def test_no_far_link(self):
+    def test_no_far_link(self) -> None:
         self.refused(simple().text(), "need two links", "--link", "in", "--compare", status=2)
         self.refused(simple().text(), "name both links", "--link", "in", "--client", "in", status=2)
 
-    def test_a_response_without_its_request_is_kept(self):
+    def test_a_response_without_its_request_is_kept(self) -> None:
         """With one link nothing is judged here, so nothing is left out of a dump that begins at time 0."""
         wave = Wave()
         wave.begin()
@@ -1733,7 +1747,7 @@ class OneLink(Case):
         wave.time(10, clock=1)
         self.assertEqual(self.run_tool(wave.text(), "--link", "in")[1][1:], ["D 0 0 0 00 00 0 0000000000000000 0"])
 
-    def test_either_side_may_be_the_design(self):
+    def test_either_side_may_be_the_design(self) -> None:
         """The outputs of a Verilated model change as the clock rises. Only if both sides do, inputs do."""
         text = simple().text().replace("$scope module top", "$scope module TOP")
         said = self.run_tool(text, "--link", "in")[2]
@@ -1770,23 +1784,25 @@ sys.exit({status})
 class Markup(HTMLParser):
     """The elements of a page, and whether each is closed by its own end."""
 
-    def __init__(self, text):
+    def __init__(self, text: str) -> None:
         super().__init__()
-        self.open, self.items, self.is_closed = [], [], True
+        self.open: List[Tuple[str, Optional[str]]] = []
+        self.items: List[str] = []
+        self.is_closed = True
         self.feed(text)
         self.close()
         self.is_closed &= not self.open
 
-    def handle_starttag(self, tag, attributes):
+    def handle_starttag(self, tag: str, attributes: List[Tuple[str, Optional[str]]]) -> None:
         if tag not in ("meta", "link"):
             self.open.append((tag, dict(attributes).get("class")))
         if tag == "li" and ("aside", "notes") in self.open:
             self.items.append("")
 
-    def handle_endtag(self, tag):
+    def handle_endtag(self, tag: str) -> None:
         self.is_closed &= bool(self.open) and self.open.pop()[0] == tag
 
-    def handle_data(self, data):
+    def handle_data(self, data: str) -> None:
         if self.open and self.open[-1][0] == "li" and ("aside", "notes") in self.open:
             self.items[-1] += data
 
@@ -1796,7 +1812,7 @@ class Page(Case):
 
     NOTES = re.compile(r'<aside class="notes"><h2>Notes of tlbridge-trace</h2><ul>.*?</ul></aside>')
 
-    def stand_in(self, status=0, shown=GET_PAGE, name="stand-in", seen="seen"):
+    def stand_in(self, status: int = 0, shown: Path = GET_PAGE, name: str = "stand-in", seen: str = "seen") -> str:
         path = self.folder / name
         path.write_text(
             STAND_IN.format(python=sys.executable, seen=str(self.folder / seen), page=str(shown), status=status)
@@ -1804,7 +1820,15 @@ class Page(Case):
         path.chmod(0o755)
         return str(path)
 
-    def made(self, text, *words, status=0, program=None, name="dump.vcd", to="up.html"):
+    def made(
+        self,
+        text: Any,
+        *words: str,
+        status: int = 0,
+        program: Optional[str] = None,
+        name: str = "dump.vcd",
+        to: str = "up.html",
+    ) -> Tuple[Any, List[str], str]:
         """Runs --html. Returns the page, if there is one, what was printed, and what was said."""
         got, out, said = self.run_tool(
             text, "--html", str(self.folder / to), "--tlexplain", program or self.stand_in(), *words, name=name
@@ -1813,10 +1837,10 @@ class Page(Case):
         path = self.folder / to
         return path.read_text() if path.is_file() else None, out, said
 
-    def seen(self):
+    def seen(self) -> List[Any]:
         return [json.loads(line) for line in (self.folder / "seen").read_text().splitlines()]
 
-    def test_one_link(self):
+    def test_one_link(self) -> None:
         """tlexplain gets the trace and its times. The notes are below the header, and the rest of the page is as
         tlexplain wrote it."""
         text, out, said = self.made(simple().text(), "--link", "in")
@@ -1839,7 +1863,7 @@ class Page(Case):
         for text in markup.items[1:]:
             self.assertIn(f"tlbridge-trace: {text}\n", said)
 
-    def test_standard_input(self):
+    def test_standard_input(self) -> None:
         with mock.patch.object(
             sys, "stdin", io.TextIOWrapper(io.BytesIO(simple().text().encode()))
         ), contextlib.redirect_stderr(io.StringIO()):
@@ -1851,7 +1875,7 @@ class Page(Case):
             (0, "standard input: top.in, time 0 to 30, in units of 1ns"),
         )
 
-    def test_two_links(self):
+    def test_two_links(self) -> None:
         text, _, _ = self.made(
             simple().text(), "--client", "in", "--manager", "out", "--trace", str(self.folder / "trace")
         )
@@ -1861,7 +1885,7 @@ class Page(Case):
         self.assertIn(": top.in and top.out, time 0 to 30", items[0])
         self.assertEqual([item.split(",")[0] for item in items[1:]], ["top.in: AD", "top.out: AD"])
 
-    def test_style(self):
+    def test_style(self) -> None:
         """It has a class of its own, the colours of the page, and rules for print; it uses nothing that the page's
         policy forbids."""
         style = page.STYLE.decode()
@@ -1873,18 +1897,18 @@ class Page(Case):
             self.assertEqual(GET_PAGE.read_text().count(f" {name}: "), 2, name)  # light and dark
         self.assertRegex(style, r"@media print \{ \.notes .* max-height: none; \} \}")
 
-    def test_notes_are_escaped(self):
+    def test_notes_are_escaped(self) -> None:
         wave = Wave(scope="a<b>&amp;\x1b\xff")
         wave.begin()
         wave.time(10, clock=1)
         text, _, _ = self.made(wave.text(), "--link", "in", name='<i> & "dump".vcd')
-        notes = self.NOTES.search(text)[0]
+        notes = "".join(self.NOTES.findall(text))
         self.assertIn('&lt;i&gt; &amp; "dump".vcd: a&lt;b&gt;&amp;amp;\\x1b\xff.in, time', notes)
         self.assertEqual(set(re.findall(r"</?(\w+)", notes)), {"aside", "h2", "ul", "li"})
         self.assertNotIn("\x1b", text)
         self.assertEqual(len(Markup(text).items), 3)
 
-    def test_a_bench_in_cpp(self):
+    def test_a_bench_in_cpp(self) -> None:
         """The first note, after the line that names the dump, is the one without which the page misleads."""
         text, _, _ = self.made(simple().text().replace("$scope module top", "$scope module TOP"), "--link", "in")
         self.assertRegex(
@@ -1895,13 +1919,13 @@ class Page(Case):
             ),
         )
 
-    def test_quiet(self):
+    def test_quiet(self) -> None:
         """It prints no notes, and the page has them."""
         text, out, said = self.made(simple().text(), "--link", "in", "--quiet")
         self.assertEqual((out, said), ([], "tlexplain: said\n"))
         self.assertEqual(len(Markup(text).items), 2)
 
-    def test_statuses(self):
+    def test_statuses(self) -> None:
         """0 and 1 of tlexplain are answers. On 3 its page shows the fault, if it wrote one. Nothing else is a page."""
         empty = self.folder / "empty"
         empty.write_text("")
@@ -1926,7 +1950,7 @@ class Page(Case):
                 if text is not None:
                     self.assertEqual(len(Markup(text).items), 2)
 
-    def test_no_program(self):
+    def test_no_program(self) -> None:
         """It is missed before the dump is read."""
         with mock.patch.object(chosen, "open_wave", side_effect=AssertionError):
             for words in ((str(self.folder / "none"),), (str(self.folder),), ("no-such-tlexplain",)):
@@ -1958,11 +1982,11 @@ class Page(Case):
         _, _, said = self.made(simple().text(), "--link", "in", status=4, program=str(path))
         self.assertIn(f"{path}: Exec format error", said)
 
-    def test_no_file_for_the_page(self):
+    def test_no_file_for_the_page(self) -> None:
         _, _, said = self.made(simple().text(), "--link", "in", status=4, to="none/up.html")
         self.assertIn("up.html: No such file or directory", said)
 
-    def tree(self, package, *folders):
+    def tree(self, package: Any, *folders: Any) -> Path:
         """A copy of the script and of the package, in folders with a space in their names, and a dump."""
         top = self.folder / "a tree"
         shutil.copytree(
@@ -1974,7 +1998,7 @@ class Page(Case):
         shutil.copy(ROOT / "tlbridge-trace", top / folders[0])
         return top
 
-    def called(self, script, path=""):
+    def called(self, script: Path, path: Union[str, Path] = "") -> Tuple[int, bool, str]:
         words = [sys.executable, str(script), "the dump.vcd", "--link", "in", "--html", "the page.html", "--quiet"]
         done = subprocess.run(
             words,
@@ -1989,7 +2013,7 @@ class Page(Case):
         made.unlink(missing_ok=True)
         return done.returncode, has_notes, done.stderr
 
-    def test_installed(self):
+    def test_installed(self) -> None:
         """The program next to the script, and otherwise the one in PATH."""
         top = self.tree("share/tlbridge/python", "bin", "elsewhere")
         shutil.move(self.stand_in(), top / "elsewhere" / "tlexplain")
@@ -2002,7 +2026,7 @@ class Page(Case):
             [len(self.seen()), len((self.folder / "seen next to the script").read_text().splitlines())], [1, 2]
         )
 
-    def test_clone(self):
+    def test_clone(self) -> None:
         """The program of a clone is used if it is built; its wrapper, which would build it first, is not called."""
         top = self.tree("python", ".", "crates/tlexplain/out", "elsewhere")
         shutil.move(self.stand_in(70, seen="wrapper"), top / "tlexplain")
@@ -2025,7 +2049,7 @@ class Page(Case):
             [1, 2, False],
         )
 
-    def test_no_place_for_the_notes(self):
+    def test_no_place_for_the_notes(self) -> None:
         """The page is written as it is. Without --quiet the notes were printed; with it they are printed now."""
         other = self.folder / "other.html"
         for without in ("</head>", "</header>"):
@@ -2037,14 +2061,14 @@ class Page(Case):
                     self.assertIn("up.html: the notes are not on this page, since ", said)
                     self.assertEqual(said.count("top.in: AD, 8 bytes, clock top.clock"), 1)
 
-    def test_long_page(self):
+    def test_long_page(self) -> None:
         """Its end is copied as it is."""
         other = self.folder / "other.html"
         other.write_text(GET_PAGE.read_text() + "<!-- " + "long " * page.HEAD_BYTES + "-->")
         text, _, _ = self.made(simple().text(), "--link", "in", program=self.stand_in(0, other))
         self.assertEqual(self.NOTES.sub("", text).replace(page.STYLE.decode(), ""), other.read_text())
 
-    def test_parts(self):
+    def test_parts(self) -> None:
         """Each part of a run has its page, which says so, and all notes are on each."""
         with mock.patch.object(runs, "PART_BYTES", 300):
             first, _, said = self.made(Crossing(10).text(), "--client", "in", "--manager", "out")
@@ -2064,7 +2088,7 @@ class Page(Case):
         self.assertEqual([items[1:] for items in pages], [pages[0][1:]] * 3)
         self.assertFalse((self.folder / "up.4.html").exists())
 
-    def test_too_long(self):
+    def test_too_long(self) -> None:
         for most, patched in ((600, "page"), (4096 + 600, "runs")):
             made = Crossing(1)
             if patched == "runs":  # a request that is never answered
@@ -2081,14 +2105,14 @@ class Page(Case):
                 self.assertIn("too long for a page: choose a part of the run with --from and --to", said)
                 self.assertFalse((self.folder / "seen").exists())
 
-    def test_from_and_to(self):
+    def test_from_and_to(self) -> None:
         text, _, _ = self.made(Crossing(6).text(), "--client", "in", "--manager", "out", "--from", "160", "--to", "290")
         items = Markup(text).items
         self.assertIn(", time 170 to 290,", items[0])
         self.assertTrue(any(item.startswith("--from 160: begins at time 170") for item in items), items)
         self.assertEqual(self.seen()[0][2].split(), ["210", "250"])
 
-    def test_with_a_comparison(self):
+    def test_with_a_comparison(self) -> None:
         """Both are done, and the status is that of the comparison."""
         program = self.folder / "same"
         program.write_text(SAME_WIDTH.replace("{python}", sys.executable))
@@ -2103,7 +2127,7 @@ class Page(Case):
             self.assertEqual(len(Markup(text).items), 3 + wanted)
             made.read(200, 2, drop=(3,))
 
-    def test_no_beat(self):
+    def test_no_beat(self) -> None:
         wave = Wave()
         wave.begin()
         wave.time(10, clock=1)
@@ -2111,15 +2135,15 @@ class Page(Case):
         self.assertEqual(self.seen(), [["--html", "--times", "", ["tilelink-trace 1 client 8 manager 8"]]])
         self.assertEqual(Markup(text).items[1], "no beat was accepted")
 
-    def test_many_notes(self):
-        printed = []
+    def test_many_notes(self) -> None:
+        printed: List[str] = []
         notes = page.Notes(printed.append)
         for number in range(page.MOST_NOTES + 7):
             notes(f"note {number}")
         self.assertEqual((len(printed), len(notes.texts())), (page.MOST_NOTES + 7, page.MOST_NOTES + 1))
         self.assertEqual(notes.texts()[-2:], [f"note {page.MOST_NOTES - 1}", "7 more notes are left out here"])
 
-    def test_with_the_program(self):
+    def test_with_the_program(self) -> None:
         program = str(needs_program("tlexplain"))
         dump = (ROOT / "examples" / "waves" / "dump.vcd").read_bytes()
         for links_named, count in ((("--link", "dut.up"), 4), (("--client", "dut.up", "--manager", "dut.down"), 7)):
@@ -2146,7 +2170,7 @@ class Page(Case):
 class Example(Case):
     """examples/waves, whose dump is stored: three reads through an adapter with a mistake."""
 
-    def test_example(self):
+    def test_example(self) -> None:
         folder = Path(__file__).resolve().parents[2] / "examples" / "waves"
         commands = [line.split()[1:] for line in (folder / "run").read_text().splitlines()]
         wanted = (folder / "output").read_text().splitlines()
@@ -2162,7 +2186,7 @@ class Example(Case):
             ),
             None,
         )
-        made = []
+        made: List[Any] = []
         for words in commands:
             if "--compare" in words:
                 if program is None:
@@ -2174,7 +2198,7 @@ class Example(Case):
 
 
 class Blocks(Case):
-    def test_both_forms_of_the_check(self):
+    def test_both_forms_of_the_check(self) -> None:
         """The quick form of the check for plain lines says what the other one says."""
         source = random.Random(3)
         text = simple("rocket").text().encode()
@@ -2187,7 +2211,7 @@ class Blocks(Case):
             seen.add(plain)
         self.assertEqual(seen, {False, True})
 
-    def test_fst_without_its_reader(self):
+    def test_fst_without_its_reader(self) -> None:
         kept = os.environ["PATH"]
         os.environ["PATH"] = str(self.folder)
         try:
@@ -2199,7 +2223,7 @@ class Blocks(Case):
         finally:
             os.environ["PATH"] = kept
 
-    def test_statuses(self):
+    def test_statuses(self) -> None:
         """2 for the command line, 3 for what cannot be understood, 4 for what cannot be read or written."""
         self.refused(simple().text(), "no link is named", "--link", "other", status=2)
         self.refused(simple().text(), "--field 'a=b' is not NAME=WORD", "--link", "in", "--field", "a=b", status=2)
@@ -2219,15 +2243,16 @@ class Blocks(Case):
                 self.run_tool(simple().text(), "--link", "in", *words)
             self.assertEqual(ended.exception.code, 2)
 
-    def test_module_and_script(self):
+    def test_module_and_script(self) -> None:
         """python3 -m tlbridge.waves and the script at the top of the repository are the same command."""
         (self.folder / "a.vcd").write_text(simple().text())
         top = Path(__file__).resolve().parents[2]
         words = ["a.vcd", "--link", "in", "--quiet"]
-        for start, folder in (
+        starts: Tuple[Tuple[List[str], Dict[str, str]], ...] = (
             ([sys.executable, "-m", "tlbridge.waves"], {"PYTHONPATH": str(top / "python")}),
             ([sys.executable, str(top / "tlbridge-trace")], {}),
-        ):
+        )
+        for start, folder in starts:
             done = subprocess.run(
                 [*start, *words],
                 cwd=self.folder,
@@ -2238,7 +2263,7 @@ class Blocks(Case):
             )
             self.assertEqual((done.returncode, done.stdout.splitlines()[1:], done.stderr), (0, [LOW, FAR[2]], ""))
 
-    def test_a_closed_pipe(self):
+    def test_a_closed_pipe(self) -> None:
         (self.folder / "a.vcd").write_text(Crossing(3000).text())
         script = ROOT / "tlbridge-trace"
         done = subprocess.run(

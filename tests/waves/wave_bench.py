@@ -3,11 +3,11 @@
 With the convention `bridge` the design is rtl/tl_bridge.sv itself.
 """
 
-from typing import List
+from typing import Any, Dict, Iterable, Iterator, List, Tuple
 
 HEAD = [("opcode", 3), ("param", 3), ("size", 4), ("source", 6)]
 MASKED = HEAD + [("address", 32), ("mask", "W"), ("data", "8W"), ("corrupt", 1)]
-CHANNELS = {
+CHANNELS: Dict[str, List[Tuple[str, Any]]] = {
     "a": MASKED,
     "b": MASKED,
     "c": [field for field in MASKED if field[0] != "mask"],
@@ -37,7 +37,7 @@ STRUCTS = {("c", True): "up_req", ("c", False): "up_rsp", ("m", False): "down_re
 OTHER_CLOCKS = ("s_clk", "s_rst", "m_clk", "m_rst")
 
 
-def signals():
+def signals() -> Iterator[Tuple[str, str, str, int, bool]]:
     """Each signal: its link, channel and field, its bits, and whether it is an input of the design."""
     for side in "cm":
         for channel, fields in CHANNELS.items():
@@ -46,7 +46,7 @@ def signals():
                 yield side, channel, field, {"W": WIDTHS[side], "8W": 8 * WIDTHS[side]}.get(bits, bits), is_input
 
 
-def name_of(convention, side, channel, field):
+def name_of(convention: str, side: str, channel: str, field: str) -> str:
     held = field in ("valid", "ready")
     if convention == "rocket":
         return f"auto_{'in' if side == 'c' else 'out'}_{channel}_{'' if held else 'bits_'}{field}"
@@ -60,15 +60,15 @@ def name_of(convention, side, channel, field):
     return f"{'s' if side == 'c' else 'm'}_{channel}_{field}"
 
 
-def declared(kind, bits, name, value=""):
+def declared(kind: str, bits: int, name: str, value: str = "") -> str:
     return f"{kind} {f'[{bits - 1}:0] ' if bits > 1 else ''}{name}{value}"
 
 
-def connected(names):
+def connected(names: Iterable[Tuple[str, str]]) -> str:
     return ", ".join(f".{port}({name})" for port, name in names)
 
 
-def members(side, is_input):
+def members(side: str, is_input: bool) -> List[Tuple[str, int]]:
     return [
         (f"{channel}_{field}", bits)
         for of, channel, field, bits, inward in signals()
@@ -76,7 +76,7 @@ def members(side, is_input):
     ]
 
 
-def design(convention):
+def design(convention: str) -> str:
     """Returns the adapter with the ports of the convention, or nothing if the design is tl_bridge."""
     if convention == "bridge":
         return ""
@@ -100,13 +100,13 @@ def design(convention):
     return f"{modules}module Dut({', '.join(ports)});\n  adapter inner({connected(inner)});\n{taps}endmodule\n"
 
 
-def tap_module(side):
+def tap_module(side: str) -> str:
     """A scope that has the signals of a link by the names of the channels and fields alone."""
     ports = [declared("input", bits, f"{channel}_{field}") for of, channel, field, bits, _ in signals() if of == side]
     return f"module {side}_tap(input clock, input reset, {', '.join(ports)});\nendmodule\n"
 
 
-def tap(convention, side, clocks):
+def tap(convention: str, side: str, clocks: Any) -> str:
     ports = [("clock", clocks[0 if side == "c" else 2]), ("reset", clocks[1 if side == "c" else 3])]
     ports += [
         (f"{channel}_{field}", name_of(convention, of, channel, field))
@@ -116,7 +116,7 @@ def tap(convention, side, clocks):
     return f"  {side}_tap {'up' if side == 'c' else 'down'}({connected(ports)});\n"
 
 
-def struct_design(clocks, inner):
+def struct_design(clocks: Any, inner: Any) -> str:
     """The adapter with a packed struct for each direction of each link."""
     lines = ["package link_pkg;"]
     lines += [
@@ -141,7 +141,7 @@ def struct_design(clocks, inner):
     return "\n".join([*lines, f"  adapter inner({connected(inner)});", "endmodule\n"])
 
 
-def instances(convention, with_scoreboard):
+def instances(convention: str, with_scoreboard: bool) -> List[str]:
     clocks = list(zip(CLOCKS.get(convention, OTHER_CLOCKS), ("cclk", "crst", "mclk", "mrst")))
     names = [
         (name_of(convention, side, channel, field), f"{side}_{channel}_{field}")

@@ -12,6 +12,7 @@ the number of accepted beats and the last time.
 import argparse
 import random
 import sys
+from typing import Any, Dict, Iterator, List
 
 A = (
     ("valid", 1),
@@ -40,9 +41,12 @@ D = (
 
 
 class Dump:
-    def __init__(self, words):
+    def __init__(self, words: Any) -> None:
         self.client, self.manager, self.random = words.client, words.client // 2, random.Random(1)
-        self.codes, self.lines, self.first, self.time, self.beats = {}, [], [], 0, 0
+        self.codes: Dict[Any, str] = {}
+        self.lines: List[str] = []
+        self.first: List[str] = []
+        self.time, self.beats = 0, 0
         self.header(words.others)
         # chunks of changes that are written again and again, as tools write them
         wide = [code for code, bits in self.others if bits > 1]
@@ -58,20 +62,20 @@ class Dump:
             ]
             self.chunks.append("".join(one + many))
 
-    def code(self):
+    def code(self) -> str:
         number, text = len(self.codes), ""
         while number >= 0:
             text, number = text + chr(33 + number % 94), number // 94 - 1
         return text
 
-    def add(self, key, name, bits):
+    def add(self, key: Any, name: str, bits: int) -> None:
         self.codes[key] = self.code()
         self.first.append(
             f"b0 {self.codes[key]}\n" if bits > 1 else f"{int(str(key).endswith('ready'))}{self.codes[key]}\n"
         )
         self.lines.append(f"$var wire {bits} {self.codes[key]} {name}{f' [{bits - 1}:0]' if bits > 1 else ''} $end\n")
 
-    def header(self, others):
+    def header(self, others: int) -> None:
         self.lines += ["$timescale 1ns $end\n", "$scope module top $end\n", "$scope module dut $end\n"]
         self.add("clock", "clock", 1)
         self.add("reset", "reset", 1)
@@ -89,12 +93,12 @@ class Dump:
         self.lines += ["$upscope $end\n$upscope $end\n$enddefinitions $end\n#0\n$dumpvars\n"]
         self.lines += [*self.first, "$end\n"]
 
-    def drive(self, place, **fields):
+    def drive(self, place: str, **fields: Any) -> None:
         for field, value in fields.items():
             code = self.codes[place + field]
             self.lines.append(f"{value}{code}\n" if field == "valid" else f"b{value:b} {code}\n")
 
-    def cycle(self):
+    def cycle(self) -> str:
         """One clock cycle. Signals that were driven before it change at its rising edge. Beats are accepted at the next
         one.
         """
@@ -105,7 +109,7 @@ class Dump:
             f"#{self.time}\n1{self.codes['clock']}\n{''.join(lines)}{other}#{self.time + 5}\n0{self.codes['clock']}\n"
         )
 
-    def write(self, source, address):
+    def write(self, source: int, address: int) -> Iterator[str]:
         data, half = self.random.getrandbits(8 * self.client), 8 * self.manager
         size = self.client.bit_length() - 1
         self.drive(
@@ -130,7 +134,7 @@ class Dump:
         yield from self.respond(0, size, source, 0)
         self.beats += 5
 
-    def read(self, source, address):
+    def read(self, source: int, address: int) -> Iterator[str]:
         size = self.manager.bit_length() - 1
         ask = {"valid": 1, "opcode": 4, "size": size, "source": source, "address": address}
         self.drive("ina", **ask, mask=(1 << self.manager) - 1)
@@ -142,7 +146,7 @@ class Dump:
         yield from self.respond(1, size, source, self.random.getrandbits(8 * self.manager))
         self.beats += 4
 
-    def respond(self, opcode, size, source, data):
+    def respond(self, opcode: int, size: int, source: int, data: int) -> Iterator[str]:
         self.drive("outd", valid=1, opcode=opcode, size=size, source=source, data=data)
         yield self.cycle()
         self.drive("outd", valid=0)
@@ -152,13 +156,13 @@ class Dump:
         yield self.cycle()
 
 
-def main():
-    words = argparse.ArgumentParser(description=__doc__, formatter_class=argparse.RawDescriptionHelpFormatter)
-    words.add_argument("megabytes", type=float)
-    words.add_argument("--client", type=int, default=8)
-    words.add_argument("--others", type=int, default=5000)
-    words.add_argument("--changes", type=int, default=100)
-    words = words.parse_args()
+def main() -> None:
+    parser = argparse.ArgumentParser(description=__doc__, formatter_class=argparse.RawDescriptionHelpFormatter)
+    parser.add_argument("megabytes", type=float)
+    parser.add_argument("--client", type=int, default=8)
+    parser.add_argument("--others", type=int, default=5000)
+    parser.add_argument("--changes", type=int, default=100)
+    words = parser.parse_args()
     dump, number = Dump(words), 0
     written = sys.stdout.write("".join(dump.lines))
     dump.lines = []

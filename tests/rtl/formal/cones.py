@@ -1,13 +1,16 @@
 """No valid of the bridge depends on a ready within a cycle, and no ready on a valid: the logic before each has no such
 port in it.
 """
+from pathlib import Path
+from typing import Mapping
+
 from .models import Failure
 from .netlists import Flat, build
 
 SCRIPT = "proc; flatten; opt_clean"
 
 
-def check(rtl, parameters, room, only_resets=True):
+def check(rtl: Path, parameters: Mapping[str, int], room: Path, only_resets: bool = True) -> str:
     """Returns a sentence about the outputs that were checked. Errors: Failure with each dependence on a line.
 
     With `only_resets` the logic before a valid or a ready may have no input except a reset; with two clocks, that of

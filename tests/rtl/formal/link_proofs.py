@@ -1,3 +1,5 @@
+from typing import Dict, Iterator, List, Tuple
+
 """The bridge between two checkers, sv/tl_checker.sv, as one module for a proof. By assumption the client keeps the
 rules on its link, and the
 manager on its own. Each beat that the bridge sends is asserted to keep them. Both clocks are free. No rule reads data,
@@ -28,13 +30,13 @@ CHECKER = (
 )
 
 
-def bits(channel, field, width):
+def bits(channel: str, field: str, width: int) -> int:
     if field == "mask":
         return width
     return 2 if (channel, field) == ("d", "param") else BITS[field]
 
 
-def names(side):
+def names(side: str) -> Iterator[Tuple[str, str, bool]]:
     """(channel, name after the side, whether the side drives it)"""
     for channel, fields in FIELDS.items():
         sends = SENDER[channel] == side
@@ -44,12 +46,14 @@ def names(side):
         yield channel, "ready", not sends
 
 
-def module(client, manager, channels="abcde", settings=""):
+def module(client: int, manager: int, channels: str = "abcde", settings: str = "") -> str:
     """The text of the module. On channels that are not named no beat is ever sent. `settings` are more parameters of
     the bridge.
     """
     widths = {"client": client, "manager": manager}
-    inputs, wires, joined = [], [], {"client": [], "manager": []}
+    inputs: List[str] = []
+    wires: List[str] = []
+    joined: Dict[str, List[str]] = {"client": [], "manager": []}
     bridge = []
     for side, width in widths.items():
         for channel, field, drives in names(side):
@@ -97,7 +101,7 @@ REACHED = (
 )
 
 
-def reached(client, manager, channels):
+def reached(client: int, manager: int, channels: str) -> str:
     """An assertion for each of REACHED, which fails when it is reached."""
     text = ""
     for channel, label, side, opcode, size in REACHED:

@@ -3,9 +3,13 @@ import re
 import subprocess
 import time
 from pathlib import Path
+from typing import Any, Dict, Mapping, Optional, Sequence, Tuple
 
 from .free_clocks import free_clocks
 
+
+# What was found, with what belongs to it, and the seconds.
+Answer = Tuple[Tuple[Any, ...], float]
 
 SMALLER = "scorr; dc2"  # abc merges registers that are always alike, and rewrites logic
 
@@ -14,7 +18,7 @@ class Failure(Exception):
     """Why there is no answer: what a tool printed last."""
 
 
-def run(words, seconds=None, **more):
+def run(words: Sequence[str], seconds: Optional[float] = None, **more: Any) -> Tuple[int, str]:
     """Returns the status of a tool, and the text that it prints on both streams. `seconds` is a limit of time that no
     sound run reaches; abc's own limit is one of processor time.
     """
@@ -27,7 +31,7 @@ def run(words, seconds=None, **more):
     return done.returncode, done.stdout
 
 
-def yosys(script, room):
+def yosys(script: str, room: Path) -> str:
     """Runs a script. A warning is a failure, too, except of an array that becomes registers."""
     status, said = run(["yosys", "-q", "-p", script], cwd=room)
     warnings = [line for line in said.splitlines() if "Warning" in line and "Replacing memory" not in line]
@@ -45,16 +49,26 @@ class Model:
     holds.
     """
 
-    def __init__(self, room, top, files, parameters=(), defines=(), ticks=None, initial="any", design="*"):
-        self.room = Path(room)
+    def __init__(
+        self,
+        room: Path,
+        top: str,
+        files: Sequence[Path],
+        parameters: Optional[Mapping[str, int]] = None,
+        defines: Sequence[str] = (),
+        ticks: Optional[Mapping[str, str]] = None,
+        initial: str = "any",
+        design: str = "*",
+    ) -> None:
+        self.room = room
         self.path = self.room / "model.aig"
-        files = " ".join(map(str, files))
-        sets = "".join(f"chparam -set {name} {value} {top}; " for name, value in dict(parameters).items())
+        listed = " ".join(map(str, files))
+        sets = "".join(f"chparam -set {name} {value} {top}; " for name, value in (parameters or {}).items())
         flags = "".join(f" -D{name}" for name in defines)
         zero = "setundef -zero -init; " if initial == "zero" else ""
         yosys(
             (
-                f"read_verilog -sv -formal{flags} {files}; {sets}hierarchy -check -top {top}; proc; memory_map;"
+                f"read_verilog -sv -formal{flags} {listed}; {sets}hierarchy -check -top {top}; proc; memory_map;"
                 f" flatten; setattr -unset init w:{design}.*; opt -full; dffunmap; opt_clean; select -write"
                 f" {self.room}/labels t:$assert; write_json {self.room}/clocked.json"
             ),
@@ -74,7 +88,7 @@ class Model:
         )
         self.labels = [line.rpartition("/")[2] for line in (self.room / "labels").read_text().split()]
 
-    def solve(self, command, seconds):
+    def solve(self, command: str, seconds: float) -> Answer:
         """What abc finds: ("proved", None), ("fails", label, frame), ("bounded", frames) or ("open", None), and the
         seconds that it took.
         """
@@ -98,13 +112,13 @@ class Model:
             return ("bounded", int(bound[-1])), taken
         return ("open", said[-300:]), taken
 
-    def pdr(self, seconds, before="strash"):
+    def pdr(self, seconds: float, before: str = "strash") -> Answer:
         return self.solve(f"{before}; pdr -T {max(1, round(seconds))}", seconds)
 
-    def bounded(self, frames, seconds):
+    def bounded(self, frames: int, seconds: float) -> Answer:
         return self.solve(f"{SMALLER}; bmc3 -F {frames} -T {max(1, round(seconds))}", seconds)
 
-    def reached(self, frames, seconds, prefix=""):
+    def reached(self, frames: int, seconds: int, prefix: str = "") -> Dict[str, int]:
         """Returns the labels with this prefix whose assertion fails within `frames`, each looked at by itself, and the
         frame.
         """

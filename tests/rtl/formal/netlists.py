@@ -5,32 +5,37 @@ import collections
 import json
 import re
 from pathlib import Path
+from typing import Any, DefaultDict, Dict, Iterable, Iterator, List, Mapping, Optional, Set, Tuple, Union
 
 from .models import yosys
 
 TOP = "tl_bridge"
+Bit = Union[int, str]  # a number, or a constant such as "0"
+Cell = Dict[str, Any]
+Modules = Dict[str, Dict[str, Any]]
 
 
-def rtl_files(folder):
+def rtl_files(folder: Path) -> str:
     return " ".join(
         str(path) for path in sorted(Path(folder).resolve().glob("*.sv")) if not path.name.startswith(f"{TOP}_")
     )
 
 
-def build(folder, parameters, script, room):
+def build(folder: Path, parameters: Mapping[str, int], script: str, room: Path) -> Modules:
     """A netlist of tl_bridge, as JSON; `script` follows the elaboration."""
     sets = "".join(f"chparam -set {name} {value} {TOP}; " for name, value in parameters.items())
     yosys(
         f"read_verilog -sv {rtl_files(folder)}; {sets}hierarchy -check -top {TOP}; {script}; write_json netlist.json",
         room,
     )
-    return json.loads((Path(room) / "netlist.json").read_text())["modules"]
+    made: Modules = json.loads((room / "netlist.json").read_text())["modules"]
+    return made
 
 
 class Flat:
     """A flat netlist: which cell drives a bit, the bits of each name, and the registers with their clocks."""
 
-    def __init__(self, modules):
+    def __init__(self, modules: Modules) -> None:
         (self.module,) = modules.values()
         self.cells = self.module["cells"]
         self.bits = {name: wire["bits"] for name, wire in self.module["netnames"].items()}
@@ -43,7 +48,8 @@ class Flat:
         self.outputs = {
             name: port["bits"] for name, port in self.module["ports"].items() if port["direction"] == "output"
         }
-        self.driver, self.clock_of = {}, {}
+        self.driver: Dict[Bit, Cell] = {}
+        self.clock_of: Dict[Bit, Optional[str]] = {}
         for cell in self.cells.values():
             for port, direction in cell["port_directions"].items():
                 if direction == "output":
@@ -53,14 +59,16 @@ class Flat:
                 clock = self.inputs.get(cell["connections"].get("C", cell["connections"].get("CLK"))[0])
                 for bit in cell["connections"]["Q"]:
                     self.clock_of[bit] = clock
-        self.named = collections.defaultdict(list)
+        self.named: DefaultDict[Bit, List[Tuple[str, int]]] = collections.defaultdict(list)
         for name, bits in self.bits.items():
             for index, bit in enumerate(bits):
                 self.named[bit].append((name, index))
 
-    def cone(self, bits):
+    def cone(self, bits: Iterable[Bit]) -> Set[Bit]:
         """The inputs and register bits before these bits, without those behind a register."""
-        found, seen, waiting = set(), set(), list(bits)
+        found: Set[Bit] = set()
+        seen: Set[Bit] = set()
+        waiting = list(bits)
         while waiting:
             bit = waiting.pop()
             if isinstance(bit, str) or bit in seen:
@@ -75,7 +83,7 @@ class Flat:
                     waiting += cell["connections"][port]
         return found
 
-    def crossings(self):
+    def crossings(self) -> Iterator[Tuple[Bit, Bit, bool]]:
         """(from bit, to bit, whether it comes straight) for each path from a register of one clock to a register of
         another.
         """
@@ -91,17 +99,17 @@ class Flat:
                         yield bit, to, port == "D" and bit == cell["connections"]["D"][0]
 
 
-def is_register(cell):
+def is_register(cell: Cell) -> bool:
     return "dff" in cell["type"].lower() or "latch" in cell["type"].lower()
 
 
-def registers(modules, module, dots="", path=""):
+def registers(modules: Modules, module: str, dots: str = "", path: str = "") -> Iterator[Tuple[str, int, str]]:
     """Each register bit below a module, by its name in the RTL: (name in a flat netlist, index, name of its cell in the
     words of Vivado).
     """
     ports = modules[module]["ports"]
     wires = {name: wire["bits"] for name, wire in modules[module]["netnames"].items() if not wire.get("hide_name")}
-    wires_of = collections.defaultdict(set)
+    wires_of: DefaultDict[Bit, Set[str]] = collections.defaultdict(set)
     for name, bits in wires.items():
         for bit in bits:
             wires_of[bit].add(name)
@@ -120,10 +128,10 @@ def registers(modules, module, dots="", path=""):
                     default=None,
                 )
                 if own:
-                    base, brackets = re.fullmatch(r"(.*?)((?:\[\d+\])*)", own).groups()
+                    ((base, brackets),) = re.findall(r"^(.*?)((?:\[\d+\])*)$", own)
                     index = wires[own].index(bit)
                     yield dots + own, index, f"{path}{base}_reg{brackets}[{index}]"
 
 
-def top_of(modules):
+def top_of(modules: Modules) -> str:
     return next(name for name, module in modules.items() if int(module["attributes"].get("top", "0"), 2))

@@ -1,5 +1,7 @@
 """The size of the bridge in generic cells of yosys, and its longest path; a latch or a loop is a failure."""
 import re
+from pathlib import Path
+from typing import Mapping
 
 from .models import Failure, yosys
 from .netlists import TOP, rtl_files
@@ -7,7 +9,7 @@ from .netlists import TOP, rtl_files
 GATES = "AND,OR,XOR,MUX"
 
 
-def measure(rtl, parameters, room):
+def measure(rtl: Path, parameters: Mapping[str, int], room: Path) -> str:
     """Cells and flip-flops after `synth -flatten`; the longest path from flip-flop or input to flip-flop or output, in
     gates of two inputs.
     """
@@ -27,5 +29,5 @@ def measure(rtl, parameters, room):
     stat, path = (room / "stat").read_text(), (room / "path").read_text()
     cells = int(re.findall(r"Number of cells: *(\d+)", stat)[-1])
     flops = sum(int(count) for count in re.findall(r"\$_\w*DFF\w* +(\d+)", stat))
-    gates = int(re.search(r"length=(\d+)", path)[1])
+    gates = int(re.findall(r"length=(\d+)", path)[0])
     return f"{cells} cells, {flops} flip-flops, longest path {gates} gates"
