@@ -5,7 +5,7 @@
 #   make library C=8 M=4                            out/libtlbridge_8_4.a, for a client's link of 8 bytes and a manager's of 4
 #   make test                                       tests the programs, the libraries that are built, the scripts and the documents;
 #                                                   a program that is not built is built first. Two minutes
-#   make test-long                                  the tests that take minutes each
+#   make test-long                                  the tests that `make test` leaves out, some of which take minutes each
 #   make install PREFIX=.. [DESTDIR=..] [PAIRS=..]  the files that need no proof, then the library, then the programs, each once it is ready
 #   make install-files PREFIX=.. [DESTDIR=..]       only the files that need no proof and no `rt`: SystemVerilog, Python, the unverified model,
 #                                                   headers, examples, documents, man pages, completion for bash
@@ -48,12 +48,12 @@ library:
 	@[ -n "$(C)" ] && [ -n "$(M)" ] || { echo "make: give both widths in bytes, for example make library C=8 M=4" >&2; exit 1; }
 	+@$(again) out/libtlbridge_$(C)_$(M).a
 
-# BUILDS=both: each program has to be there in both builds, as `rt ci` leaves them.
+# BUILDS=both: each program has to be there in both builds, as `rt ci` leaves them, and the tests marked `gate` run, too.
 test:
-	@tools/run-tests $(if $(filter both,$(BUILDS)),--both-builds) -m "not long"
+	@tools/run-tests $(if $(filter both,$(BUILDS)),--both-builds -m "not long",-m "not long and not gate")
 
 test-long:
-	@tools/run-tests $(if $(filter both,$(BUILDS)),--both-builds) -m long
+	@tools/run-tests $(if $(filter both,$(BUILDS)),--both-builds) -m "long or gate"
 
 out/libtlbridge_%.a: $(proved)
 	tools/make-library $(subst _, ,$*)

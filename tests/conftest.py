@@ -117,23 +117,25 @@ def pytest_runtest_makereport(item: pytest.Item, call: "pytest.CallInfo[None]") 
         outcome.get_result().user_properties.append(("processor seconds", processor_seconds() - item.stash[BEGUN]))
 
 
-# Files whose tests need nothing in common, and take so long that all processors should share them.
+# Files whose tests need nothing in common, and take so long that all processors should share them: those with the most
+# expensive tests first.
 SHARED = tuple(
     f"tests/{name}.py"
     for name in (
-        "checker/test_checker",
+        "repository/test_linters",
+        "verify/test_verify",
+        "rtl/test_rtl_proofs",
         "checker/test_levels",
+        "rtl/test_rtl_resets",
+        "checker/test_checker",
+        "links/test_links",
         "explain/test_explain",
         "explain/test_remarks",
-        "links/test_links",
         "program/test_chain",
         "program/test_hostile",
         "program/test_program",
         "program/test_refusals",
         "repository/test_inputs",
-        "repository/test_linters",
-        "rtl/test_rtl_proofs",
-        "rtl/test_rtl_resets",
     )
 )
 SHARES = 8
@@ -166,7 +168,8 @@ def pytest_collection_modifyitems(items: List[pytest.Item]) -> None:
     """Begins with the files that one process runs, and ends with the small units that fill all processes. pytest has
     put tests with the same build of a program next to each other before.
     """
-    items.sort(key=lambda item: item.nodeid.partition("::")[0] in SHARED)
+    places = {file: place for place, file in enumerate(SHARED, 1)}
+    items.sort(key=lambda item: places.get(item.nodeid.partition("::")[0], 0))
 
 
 @pytest.fixture
@@ -184,13 +187,20 @@ def pytest_pyfunc_call(pyfuncitem: pytest.Function) -> Iterator[None]:
         differences.fail()
 
 
-@pytest.fixture(scope="session", params=project.BUILDS, ids=("llvm", "rattle"))
+# The build by LLVM is the one that users run. `rt ci` leaves both, so the gate tests both.
+BUILDS = [
+    pytest.param(build, id="rattle" if build else "llvm", marks=[pytest.mark.gate] * bool(build))
+    for build in project.BUILDS
+]
+
+
+@pytest.fixture(scope="session", params=BUILDS)
 def tlbridge(request: pytest.FixtureRequest) -> Path:
     """The verified program `tlbridge`, once in each build."""
     return project.needs_program("tlbridge", request.param)
 
 
-@pytest.fixture(scope="session", params=project.BUILDS, ids=("llvm", "rattle"))
+@pytest.fixture(scope="session", params=BUILDS)
 def tlexplain(request: pytest.FixtureRequest) -> Path:
     """The verified program `tlexplain`, once in each build."""
     return project.needs_program("tlexplain", request.param)

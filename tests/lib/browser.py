@@ -31,9 +31,10 @@ class Browser:
             f"--user-data-dir={folder}/browser",
             "--window-size=1300,900",
         ]
+        # (dash, which is the `sh` of Debian, knows no number of a file above 9)
         line = f'exec "$@" 3<&{self.commands} 4>&{self.answers_to}'
         self.process = subprocess.Popen(
-            ["sh", "-c", line, "sh", *words], pass_fds=(self.commands, self.answers_to), stderr=subprocess.DEVNULL
+            ["bash", "-c", line, "bash", *words], pass_fds=(self.commands, self.answers_to), stderr=subprocess.DEVNULL
         )
         os.close(self.commands)
         os.close(self.answers_to)

@@ -2,6 +2,7 @@
 (docs/CHECKER.md).
 """
 from dataclasses import dataclass
+from functools import lru_cache
 from typing import Collection, Dict, List, Mapping, Optional, Set, Tuple
 
 NAMES = {
@@ -101,6 +102,12 @@ def answers_a_request(channel: str, beat: Beat) -> bool:
     return channel == "D" and name_of(channel, beat) != "ReleaseAck"
 
 
+@lru_cache(maxsize=None)
+def lanes_of(offset: int, size: int, width: int) -> int:
+    """The mask of the lanes of a beat that begins at this lane."""
+    return sum(1 << (offset + i) % width for i in range(min(1 << size, width)))
+
+
 def head(channel: str, beat: Beat) -> Head:
     return (
         beat.opcode,
@@ -130,8 +137,7 @@ class Link:
         self.overflow = False
 
     def active(self, beat: Beat) -> int:
-        width = self.settings.DATA_BYTES
-        return sum(1 << (beat.address + i) % width for i in range(min(1 << beat.size, width)))
+        return lanes_of(beat.address % self.settings.DATA_BYTES, beat.size, self.settings.DATA_BYTES)
 
     def mask_is_wrong(self, channel: str, beat: Beat) -> bool:
         if channel in "CD":

@@ -6,6 +6,8 @@ from pathlib import Path
 from typing import Mapping, Optional, Sequence, Union
 
 Word = Union[str, Path, int]
+# For Verilator's makefiles, if a simulation is short: its C++ is one file, which is compiled without optimization.
+BRIEF = "OPT_FAST=-O0 OPT_SLOW=-O0 OPT_GLOBAL=-O0 VM_PARALLEL_BUILDS=0"
 
 
 def run(

@@ -4,6 +4,7 @@ say. The lines of a scoreboard are those of docs/SCOREBOARD.md; the monitor's ar
 faults are those of
 tests/lib/checker_model.py."""
 from dataclasses import dataclass, replace
+from functools import lru_cache
 from typing import Callable, Iterator, List, Optional, Sequence, Tuple
 
 import tables
@@ -55,6 +56,17 @@ def started(events: Sequence[Event], first: int = 100) -> List[Event]:
     ]
 
 
+@lru_cache(maxsize=None)
+def begun_once(client: int, manager: int) -> List[Event]:
+    """The events of `begun`, made once."""
+    return started(exchange(client, manager))
+
+
+def begun(client: int, manager: int) -> List[Event]:
+    """Lawful traffic of all channels, after a reset of both links."""
+    return list(begun_once(client, manager))
+
+
 def changed(events: Sequence[Event], at: int, *names: str) -> Tuple[List[Event], str]:
     """The traffic with one bit of each of these fields of a far beat changed, the highest, and the line about it."""
     came = events[at]
@@ -67,7 +79,7 @@ def of_fields(client: int, manager: int) -> Iterator[Case]:
     """Each field of each channel, at the first, a middle and the last beat of a burst or at the only beat of a message,
     by turns.
     """
-    events = started(exchange(client, manager))
+    events = begun(client, manager)
     for channel, names in FIELDS.items():
         for turn, name in enumerate(names):
             places = ("only",) if channel == "E" else ("first", "middle", "last", "only")
@@ -182,7 +194,7 @@ def of_refused_beats(client: int, manager: int, *faults: int) -> Iterator[Case]:
     for channel in "ABCD":
         for fault in faults or FAULTS:
             place = "middle" if fault == 7 else "only"
-            events = started(exchange(client, manager))
+            events = begun(client, manager)
             made = broken(events, channel, fault, place)
             if made is None:
                 continue
@@ -235,7 +247,7 @@ def of_resets_amid(client: int, manager: int, channel: str) -> Iterator[Case]:
     response, and a mistake at its end.
     """
     for links in ((CLIENT,), (MANAGER,), (CLIENT, MANAGER)):
-        events = started(exchange(client, manager))
+        events = begun(client, manager)
         # after its first beat, or before its last one
         bursts = of(events, channel, far=False, place="first")
         at = (
@@ -267,8 +279,8 @@ def of_resets_amid(client: int, manager: int, channel: str) -> Iterator[Case]:
 
 
 def of_ends(client: int, manager: int) -> Iterator[Case]:
-    yield Case("lawful traffic", started(exchange(client, manager)), 0, [], True)
-    yield Case("lawful traffic in few cycles", packed(started(exchange(client, manager))), 0, [])
+    yield Case("lawful traffic", begun(client, manager), 0, [], True)
+    yield Case("lawful traffic in few cycles", packed(begun(client, manager)), 0, [])
     yield Case("far beats before their near beats", started(exchange(client, manager, far_first=True)), 0, [])
     yield Case(
         "no beat",

@@ -20,7 +20,7 @@ import link_cases
 import pytest
 from board_library import PLAIN_BRIDGE, compile_object
 from checker_model import Beat, Checker, Settings
-from commands import Word, run, succeed
+from commands import BRIEF, Word, run, succeed
 from lawful import Event
 from link_cases import Case
 from once import made_once
@@ -520,8 +520,7 @@ def build(folder: Path, pair: Pair, stop: int) -> None:
     ]
     words += ["--Mdir", folder / "built", "-o", "links", *(["-DDEFAULTS"] if pair == (8, 4) else [])]
     words += [f"-GCLIENT={pair[0]}", f"-GMANAGER={pair[1]}", f"-GSTOP={stop}"]
-    words += [f"-GALLOW_NO_BEATS={int(pair != (8, 4))}", "-CFLAGS", "-O0"]
-    words += ["-MAKEFLAGS", "OPT_FAST=-O0 OPT_SLOW=-O0 OPT_GLOBAL=-O0", "-LDFLAGS", wrapped]
+    words += [f"-GALLOW_NO_BEATS={int(pair != (8, 4))}", "-MAKEFLAGS", BRIEF, "-LDFLAGS", wrapped]
     succeed([*words, *PARTS, SV / "tlbridge_scoreboard.sv", *objects], folder, LIMIT)
 
 

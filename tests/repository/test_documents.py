@@ -31,6 +31,7 @@ from textwrap import dedent
 from typing import Any, Dict, Iterable, Iterator, List, Optional, Sequence, Set, Tuple
 
 import pytest
+from commands import BRIEF
 from project import EXAMPLES, ROOT, needs_program
 
 DOCUMENTS = [
@@ -62,6 +63,8 @@ TOOLS = {
     "cocotb-config": re.compile(r"\bcocotb\b"),
 }
 LIBRARY = re.compile(r"\$PREFIX/(lib|share/tlbridge/python)\b|pkg-config")
+# Whole runs of tools, each of which tests/verify, tests/prove and tests/monitor run at smaller sizes.
+WHOLE_RUN = re.compile(r"tlbridge-(verify|prove) .*--top|examples/formal/run")
 
 
 def anchors(text: str) -> Set[str]:
@@ -143,6 +146,7 @@ class Desk:
             "PREFIX": str(self.prefix),
             "PATH": f"{self.prefix}/bin:{os.environ['PATH']}",
             "PKG_CONFIG_PATH": f"{self.prefix}/lib/pkgconfig",
+            "MAKEFLAGS": BRIEF,
         }
 
     def install(self, programs: Any) -> None:
@@ -189,9 +193,17 @@ def desk(tmp_path_factory: pytest.TempPathFactory) -> Desk:
     return Desk(tmp_path_factory.mktemp("desk"), programs, Path(prefix).resolve() if prefix else None)
 
 
+def marks_of(command: str) -> List[pytest.MarkDecorator]:
+    """A command that takes long is left to the gate."""
+    return [pytest.mark.gate] * bool(WHOLE_RUN.search(command))
+
+
 def by_page(found: Iterable[Any]) -> List[Any]:
     """The parameters of a test that has several for each document."""
-    return [pytest.param(*values, id=f"{path.relative_to(ROOT)}: {name}") for path, name, *values in found]
+    return [
+        pytest.param(*values, id=f"{path.relative_to(ROOT)}: {name}", marks=marks_of(name))
+        for path, name, *values in found
+    ]
 
 
 PAGES = pytest.mark.parametrize("path", DOCUMENTS, ids=lambda path: str(path.relative_to(ROOT)))
@@ -228,8 +240,19 @@ def test_what_a_program_prints_has_its_command(path: Path) -> None:
         assert is_shown, block[0]
 
 
+<<<<<<< ours
 @pytest.mark.parametrize("script", sorted(EXAMPLES.glob("*/run")), ids=lambda script: str(script.parent.name))
 def test_an_example_prints_its_stored_output(desk: Desk, tmp_path: Path, script: Path) -> None:
+=======
+EXAMPLES_WITH_COMMANDS = [
+    pytest.param(script, id=script.parent.name, marks=marks_of(str(script)))
+    for script in sorted(EXAMPLES.glob("*/run"))
+]
+
+
+@pytest.mark.parametrize("script", EXAMPLES_WITH_COMMANDS)
+def test_an_example_prints_its_stored_output(desk, tmp_path, script):
+>>>>>>> theirs
     """The commands of each example print the output that is stored with them."""
     stored, command = script.parent / "output", script.read_text()
     if not stored.exists():

@@ -169,6 +169,7 @@ def test_fifo_keeps_its_contract(tmp_path: Path) -> None:
     assert outcome.reached == outcome.covers == 2, outcome.not_reached
 
 
+@pytest.mark.gate
 @pytest.mark.parametrize("bug", QUICK, ids=[one.assertion for one in QUICK])
 def test_planted_bug_fails_quickly(bug: Bug, tmp_path: Path) -> None:
     needs_tools("yosys", "yosys-abc", "verilator")

@@ -147,6 +147,7 @@ def test_resets_in_mid_run(config: Config, tmp_path: Path) -> None:
     assert beats >= config.beats and resets >= config.resets and watched >= 10
 
 
+@pytest.mark.gate
 @pytest.mark.parametrize("bug", BUGS, ids=[one.name for one in BUGS])
 def test_planted_bug_is_seen(bug: Bug, tmp_path: Path) -> None:
     needs_tools("iverilog", "vvp")

@@ -123,6 +123,7 @@ def test_a_design_in_reset_for_ever(tmp_path: Path) -> None:
     assert status == 1 and "MISTAKE: hang: no beat moves" in out and "polarity of the reset" in out
 
 
+@pytest.mark.gate  # test_verify_whole.py has the same without a simulator
 def test_several_seeds_and_their_join(tmp_path: Path) -> None:
     words = ("--simulator", "icarus", "--messages", "150", "--shrink-seconds", "3", "--no-waves")
     status, out, err = verify(

@@ -25,7 +25,7 @@ from typing import Any, List, NamedTuple, Sequence, Tuple
 import pytest
 import wave_bench
 from board_library import PLAIN_BRIDGE, SOURCES, compile_object
-from commands import Word, run, said, succeed
+from commands import BRIEF, Word, run, said, succeed
 from once import made_once
 from planted import Change, Planted
 from project import MODEL, ROOT, RTL, SV, built, needs_tools
@@ -123,7 +123,7 @@ def build(folder: Path, of: Run, bug: int, archive: Path) -> None:
         words: List[Word] = ["iverilog", "-g2012", "-s", "top", *defines, "-o", "sim", MONITOR, *sources]
     else:
         words = ["verilator", "--binary", "--timing", "-j", 1, "-Wno-fatal", "-Wno-lint", "-Wno-style"]
-        words += ["-MAKEFLAGS", "OPT_FAST=-O0 OPT_SLOW=-O0 OPT_GLOBAL=-O0", "--top-module", "top", "--Mdir", "obj"]
+        words += ["-MAKEFLAGS", BRIEF, "--top-module", "top", "--Mdir", "obj"]
         words += ["--trace-fst" if dump == "fst" else "--trace", *flags.split(), *defines, "-o", "../sim"]
         words += [MONITOR, *sources, SCOREBOARD, archive]
     succeed(words, folder, 900)
@@ -156,7 +156,9 @@ def wave(request: pytest.FixtureRequest, tmp_path_factory: pytest.TempPathFactor
     names, simulator, dump, _ = of
     needs_tools(*(("iverilog", "vvp") if simulator == "icarus" else ("verilator", "g++", "make")))
     needs_tools(*(["fst2vcd"] if dump == "fst" else []))
-    archive = made_once(tmp_path_factory, "wave_board", build_archive) / "libtlbridge.a"
+    archive = Path("libtlbridge.a")
+    if simulator == "verilator":
+        archive = made_once(tmp_path_factory, "wave_board", build_archive) / archive
     in_source = bug if names == "bridge" else 0
     name = re.sub(r"\W+", "-", f"wave {name_of(of)} {in_source}")
     sim = made_once(tmp_path_factory, name, lambda place: build(place, of, in_source, archive)) / "sim"
