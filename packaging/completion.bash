@@ -17,7 +17,8 @@ _tlbridge() {
         words="--top --client --manager --device --host --client-clock --client-reset --manager-clock --manager-reset --one-clock --tie --struct
             --seed --seeds --jobs --messages --level --largest --only --window --in-order --no-early --no-reuse --no-denied --no-blocking
             --no-reset --same-cycle --no-same-cycle --after-reset --withdraw --skew --no-skew --plusarg --rules-only --no-memory --may-withdraw
-            --denied-is-corrupt --corrupt-stays --copies-all --simulator --seconds --shrink-seconds --no-waves --out --junit --help"
+            --denied-is-corrupt --denied-alike --done-not-denied --reads-accepted --reads-no-later --reads-alike --corrupt-stays
+            --copies-all --simulator --seconds --shrink-seconds --no-waves --out --junit --help"
         [ "$COMP_CWORD" -gt 1 ] || words="merge $words"
         [ "${COMP_WORDS[1]}" != merge ] || words="--json --junit --help"
         ;;

@@ -359,7 +359,9 @@ def play_of(design: Design, *words: str) -> play.Play:
     made = options.arguments().parse_args(list(words))
     bench = SimpleNamespace(has_two=False)
     names: Dict[str, Any] = dict(design=design, options=made, is_bridge=False, has_memory=True, bench=bench, start=0.0)
-    names.update(limits=Limits(("get", "put"), 4, (0, 4096)), forced={}, compiled={}, explore_sizes=lambda *_: None)
+    names.update(
+        limits=Limits(("get", "put"), 4, (0, 4096)), forced={}, compiled={}, explore_sizes=lambda *_: None, too_large=""
+    )
     names.update(simulation=lambda _: None, rules=Rules(False, True), judge=Judge(design, Rules(False, True)))
     made_session: Any = SimpleNamespace(**names)
     return play.Play(made_session, 1, session.Voice(), Path())
@@ -452,10 +454,14 @@ def test_what_is_not_tried(monkeypatch: pytest.MonkeyPatch, word: str) -> None:
     made = play_of(one_link(client=link(), manager=link()), *([] if "messages" in word else ["--messages=2000"]), word)
     tried: List[str] = []
     monkeypatch.setattr(play.Play, "failing_with", lambda _, kind: tried.append(kind.name))
-    assert not list(made.under_conditions()) and tried == []
+    is_all = "--seeds" in word or "--messages" in word  # all is left out, and not only one
+    assert not list(made.under_conditions()) and tried == ([] if is_all else ["withdraw"])
+    tried.clear()
     made.session.options.seeds, made.most = None, 2000
     made.session.options.same_cycle = made.session.options.no_same_cycle = False
-    assert not list(made.under_conditions()) and tried == ["same-cycle"]  # the links have no reset
+    assert not list(made.under_conditions()) and tried == ["same-cycle", "withdraw"]  # the links have no reset
+    made.session.options.withdraw = True
+    assert not list(made.under_conditions()) and tried[2:] == ["same-cycle"]
 
 
 def test_conditions_that_no_run_shows(monkeypatch: pytest.MonkeyPatch) -> None:
@@ -516,7 +522,17 @@ BAD: Dict[str, Tuple[List[str], int, str]] = {
     "memory of a bridge": ([START, "--no-memory"], 2, "--no-memory is for a design with one link"),
     "same cycle, and not": ([START, "--same-cycle", "--no-same-cycle"], 2, "--same-cycle and --no-same-cycle exclude"),
     "denied data of a bridge": ([START, "--denied-is-corrupt"], 2, "--denied-is-corrupt is for a device"),
-    "corrupt data of a bridge": ([START, "--corrupt-stays"], 2, "--corrupt-stays and --copies-all are for a host"),
+    "corrupt data of a bridge": ([START, "--corrupt-stays"], 2, "--corrupt-stays is for a host or a device"),
+    "a bridge that copies": ([START, "--copies-all"], 2, "--copies-all is for a host"),
+    "denied requests of a bridge": ([START, "--denied-alike"], 2, "are for a device, or with --rules-only"),
+    "reads of a bridge": ([START, "--reads-accepted"], 2, "--reads-accepted and --reads-no-later are for a device"),
+    "later writes of a bridge": (
+        [START, "--reads-no-later"],
+        2,
+        "--reads-accepted and --reads-no-later are for a device",
+    ),
+    "what nobody writes": ([START, "--reads-alike"], 2, "are for a device, or with --rules-only"),
+    "what a plain bridge did": ([START, "--done-not-denied"], 2, "--done-not-denied is for --rules-only"),
     "after no reset": ([START, "--after-reset", "--no-reset"], 2, "--after-reset and --no-reset exclude each other"),
     "jobs of one seed": ([START, "--jobs", "2"], 2, "--jobs is for --seeds"),
     "seeds": ([START, "--seeds", "5-1"], 2, "--seeds 5-1: it has to be FIRST-LAST"),

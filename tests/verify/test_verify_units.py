@@ -7,6 +7,7 @@ from typing import Any, Dict, List, Mapping, Optional, Sequence
 
 import pytest
 
+from tlbridge.verify import play
 from tlbridge.verify.bench import Run, Settings, Simulation
 from tlbridge.verify.design import Design, DesignError, Link, Signal, Source, modules_of
 from tlbridge.verify.explore import Explorer, Pair, rules_out_atomics, stated_largest, stated_level
@@ -136,6 +137,8 @@ def test_the_styles_have_their_settings() -> None:
     assert traffic.styled("full", 60)[1]["calm"] == 0x3FF
     assert traffic.styled("blocking", 60)[1]["blocking"] == 1
     assert traffic.styled("long stalls", 60)[1]["long_stalls"] == 1
+    taken_back = [traffic.styled("withdraw", 60)[1] for _ in range(9)]
+    assert all(made["steady"] == 0 == made["patient"] and made["calm"] & 0x2AA == 0 for made in taken_back)
     made = [traffic.styled("reset", 600) for _ in range(60)]
     assert all(40 <= settings["reset_at"] <= 400 and len(script) == 150 for script, settings in made)
     assert min(settings["reset_at"] for _, settings in made) < 60 and max(s["reset_at"] for _, s in made) > 300
@@ -591,3 +594,17 @@ def test_what_is_not_compared() -> None:
     only = Design(Source("dut", ()), {}, link("up", 8, UH), link("down", 4, UL))
     assert not_compared(only) == ["A corrupt", "D corrupt"] and not_compared(bridge()) == []
     assert Beat(1, "client", "A 4 0 0 00 0").values()["opcode"] == "4"
+
+
+def test_a_design_that_seems_to_split() -> None:
+    """A request of the manager link has a smaller size than it has to have. An unknown size tells nothing."""
+
+    def seems(words: str) -> bool:
+        return play.seems_to_split([Problem("wrong", "A", words, 1)])
+
+    assert seems("manager link: Get of 4 bytes, source 01, beat 3 of A: size is 2, expected 3")
+    assert seems("manager link: Get of 4 bytes, source 01, beat 3 of A: size is 2, expected a")
+    for words in ("manager link: size is 3, expected 2", "client link: size is 2, expected 3"):
+        assert not seems(words)
+    assert not seems("manager link: a beat, beat 3 of A: size is x, expected 3")
+    assert not seems("manager link: a beat, beat 3 of A: size is X, expected 3")

@@ -19,7 +19,8 @@ from tlbridge.verify import design as reader
 from tlbridge.verify import play, session
 from tlbridge.verify.bench import Bench, OverTimeError, Run, Simulation, _read_output, version_of
 from tlbridge.verify.design import Design, DesignError, Link, Port, Signal, Source
-from tlbridge.verify.judge import Model
+from tlbridge.verify.explore import held_largest
+from tlbridge.verify.judge import Judge, Model, Problem
 from tlbridge.verify.options import arguments, choice_of, seeds_of, source_of, window_of
 from tlbridge.verify.outcome import Folder, Outcome, written
 from tlbridge.verify.seeds import junit, status_of, summary
@@ -537,10 +538,47 @@ def test_the_largest_messages_that_a_design_holds(
         (4096, "4096 bytes are played"),
     ):
         made = session_of(wire(size=4, more=" corrupt:1"), monkeypatch, tmp_path)
-        monkeypatch.setattr(session, "held_largest", lambda *_: most)
+        wrong = "hang: no beat moves" if most == 256 else ""
+        monkeypatch.setattr(session, "held_largest", lambda *_: (most, wrong))
         made.explore_sizes(made.simulation("icarus"), Voice())
         made.explore_sizes(made.simulation("icarus"), Voice())  # only once
         assert capsys.readouterr().out == f"  messages of up to {said}\n" and made.limits.largest == most
+        conditions = [(one.line, one.option) for one in play.Play(made, 1, Voice(True), tmp_path).seen()]
+        line = "unless messages above 256 bytes have to pass: hang: no beat moves"
+        assert conditions == ([(line, "--largest 512")] if most == 256 else [])
+    for size, expected in ((32, 32), (64, 64), (256, 256), (1000, 512)):  # a message has to fit into the window
+        made = session_of(wire("c", size=4, more=" corrupt:1"), monkeypatch, tmp_path, f"--window 0:{size}")
+        monkeypatch.setattr(session, "held_largest", lambda *words: (words[-1], ""))
+        made.explore_sizes(made.simulation("icarus"), Voice())
+        assert made.limits.largest == expected
+
+
+def test_what_goes_wrong_with_larger_messages(monkeypatch: pytest.MonkeyPatch, tmp_path: Path) -> None:
+    """The largest size that passes with stalls, too, and the first problem of the next one. A run that does not end in
+    time tells nothing."""
+    made = session_of(wire(size=4, more=" corrupt:1"), monkeypatch, tmp_path)
+    seen: List[Tuple[int, int]] = []
+
+    def problems(_: object, run: Run, *__: object) -> List[Problem]:
+        return [Problem("hang", "", "hang: no beat moves", 1)] if seen[-1] == wrong else []
+
+    def run(_: object, script: Sequence[Message], settings: Mapping[str, int], *__: object, **___: object) -> Run:
+        seen.append((1 << script[0].size, settings["calm"]))
+        if seen[-1] == wrong and is_late:
+            raise OverTimeError("too late")
+        return Run(tmp_path, "")
+
+    simulation = made.simulation("icarus")
+    monkeypatch.setattr(Judge, "problems", problems)
+    monkeypatch.setattr(type(simulation), "run", run)
+    traffic = Traffic(made.design, made.limits, 1, True, False, False)
+    for is_late, wrong, expected in (
+        (False, (512, 0), (256, "hang: no beat moves")),
+        (False, (128, 0x3FF), (64, "hang: no beat moves")),
+        (True, (512, 0), (256, "")),
+        (False, (0, 0), (4096, "")),
+    ):
+        assert held_largest(traffic, simulation, made.judge, {}, tmp_path, 4096) == expected
 
 
 def test_rounds_that_fit_into_the_time(monkeypatch: pytest.MonkeyPatch, tmp_path: Path) -> None:

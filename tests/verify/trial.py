@@ -42,14 +42,16 @@ UNDER = {
     "frag": (5,),
     "burst_ram": (7,),
     "regfile": (4,),
-    "dma_host": (1, 3, 4),
+    "dma_host": (1, 3, 4, 6),
     "src_shrink": (5,),
     "id_pool": (4, 6),
     "uh_async": (3,),
     "ul_handshake": (2,),
-    "uh_fragment": (6,),
+    "uh_fragment": (6, 7),
+    "ot_ram": (2,),
+    "parts": (2,),
 }
-MISSED = {"hs4_cdc": (5,), "dma_host": (6,), "ot_ram": (2,), "uh_fragment": (7,)}
+MISSED = {"hs4_cdc": (5,)}
 
 
 def designs() -> Dict[str, Path]:

@@ -178,23 +178,26 @@ def stated_largest(files: Sequence[str]) -> Optional[int]:
 
 def held_largest(
     traffic: Traffic, simulation: Simulation, judge: Judge, forced: Settings, room: Path, most: int
-) -> int:
+) -> Tuple[int, str]:
     """Returns the size of the largest messages that a design holds, of those above 64 bytes: in plain traffic, one
-    message at a time, without stalls and with stalls."""
+    message at a time, without stalls and with stalls. Then comes what goes wrong with the next size, if that is known.
+    """
     size, held = PLAIN_LARGEST, PLAIN_LARGEST
     while size < most:
         size *= 2
+        traffic.limits = replace(traffic.limits, largest=size)
         script = [traffic.message(kind, size.bit_length() - 1, source) for kind in traffic.kinds for source in (0, 1)]
         for calm in (0x3FF, 0):
             settings = {**traffic.settings(calm), "serial": 1, "in_order": 1, **forced}
             try:
                 run = simulation.run(script, settings, room, seconds=20)
             except DesignError:
-                return held
-            if judge.problems(run, Beats(simulation.design, run)):
-                return held
+                return held, ""
+            problems = judge.problems(run, Beats(simulation.design, run))
+            if problems:
+                return held, problems[0].words
         held = size
-    return held
+    return held, ""
 
 
 def explored(

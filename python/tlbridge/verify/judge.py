@@ -344,7 +344,7 @@ class Judge:
         if self.reference is not None:
             found += self.reference.problems(run, beats)
         if self.rules.strict:
-            found += [problem for name, problem in self.broken_rules(beats).items() if name in self.rules.strict]
+            found += self.broken_rules(beats, self.rules.strict).values()
         if run.hang:
             found.append(Problem("hang", "", f"hang: {run.hang.rstrip(',:')}", run.time))
         # a hang comes after all others; of two at one time, the wrong beat says more than the rule that it breaks
@@ -353,11 +353,14 @@ class Judge:
         found.sort(key=lambda problem: (group.get(problem.kind, 0), problem.time, rank.get(problem.kind, 2)))
         return found
 
-    def broken_rules(self, beats: Beats) -> Dict[str, Problem]:
-        """Returns the first beat that breaks a strict rule, by the name of the rule."""
-        from .strict import broken_rules
+    def broken_rules(self, beats: Beats, names: Optional[Sequence[str]] = None) -> Dict[str, Problem]:
+        """Returns the first beat that breaks a strict rule, by the name of the rule: of these rules, or of all. The
+        rules of memories are tried only if reads return what was written."""
+        from .strict import OF_MEMORIES, RULES, broken_rules
 
-        return {} if self.rules.is_bridge else broken_rules(self.design, beats)
+        is_tried = self.rules.is_memory or self.design.client is None
+        tried = [name for name in names or RULES if is_tried or name not in OF_MEMORIES]
+        return {} if self.rules.is_bridge else broken_rules(self.design, beats, tried)
 
     @staticmethod
     def _complaint(time: int, side: str, channel: str, words: str) -> Problem:

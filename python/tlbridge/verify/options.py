@@ -140,10 +140,35 @@ def arguments() -> argparse.ArgumentParser:
         "--denied-is-corrupt", action="store_true", help="denied data that are not corrupt are a mistake of a device"
     )
     judging.add_argument(
-        "--corrupt-stays", action="store_true", help="data that a host read as corrupt must not be written as good data"
+        "--denied-alike", action="store_true", help="the design has to deny all equal requests, or none of them"
     )
     judging.add_argument(
-        "--copies-all", action="store_true", help="a host that copies memory must not write anything else in between"
+        "--done-not-denied",
+        action="store_true",
+        help="with --rules-only: a request that was done behind the design must not be denied",
+    )
+    judging.add_argument(
+        "--reads-accepted",
+        action="store_true",
+        help="a read of a device has to see each write that was accepted before it [only those that were acknowledged]",
+    )
+    judging.add_argument(
+        "--reads-no-later",
+        action="store_true",
+        help="a read of a device must not see a write that was accepted after it",
+    )
+    judging.add_argument(
+        "--reads-alike", action="store_true", help="a byte that nobody writes has to read the same each time"
+    )
+    judging.add_argument(
+        "--corrupt-stays",
+        action="store_true",
+        help="data that a host or a device got as corrupt must not become good data",
+    )
+    judging.add_argument(
+        "--copies-all",
+        action="store_true",
+        help="a host that copies memory must not write anything else in between, or elsewhere",
     )
     running = words.add_argument_group("running")
     running.add_argument("--simulator", choices=("auto", "icarus", "verilator"), default="auto")

@@ -23,8 +23,10 @@ from .judge import Beat, Beats, Judge, Problem, is_near, name_of, trace_of
 from .options import DEFAULT_MESSAGES, SECONDS, seeds_of
 from .outcome import Condition, INCOMPLETE, MISTAKE, Outcome, RIGHT
 from .report import Coverage, speed_of
+from .restored import Restored
 from .session import FIRST_ROUNDS, LONG, Late, MIDDLE, SHORT, Session, Voice
 from .shrink import Shrinker, needs_of, options_of
+from .strict import RULES
 from .traffic import HOST_STYLES, Message, STYLES, Traffic, style_of
 
 _LEAST_ROUNDS = 6  # in Icarus, even if Verilator is ready earlier
@@ -77,9 +79,15 @@ UNLESS = {
             "at_once",
             "after reset",
         ),
+        Unless("withdraw", "a valid may fall before ready", "--withdraw", "withdraw", "withdraw"),
         Unless("denied-is-corrupt", "denied data have to be corrupt", "--denied-is-corrupt"),
-        Unless("corrupt-stays", "data that it read as corrupt have to be written as corrupt", "--corrupt-stays"),
-        Unless("copies-all", "all that it writes has to be what it read", "--copies-all"),
+        Unless("denied-alike", "equal requests have to be denied alike", "--denied-alike"),
+        Unless("done-not-denied", "what was done behind it must not be denied", "--done-not-denied"),
+        Unless("reads-accepted", "a read has to see each write that was accepted before it", "--reads-accepted"),
+        Unless("reads-no-later", "a read must not see a write that was accepted after it", "--reads-no-later"),
+        Unless("reads-alike", "what nobody writes has to stay the same", "--reads-alike"),
+        Unless("corrupt-stays", "data that it got as corrupt have to stay corrupt", "--corrupt-stays"),
+        Unless("copies-all", "all that it writes has to be what it read, over one distance", "--copies-all"),
     )
 }
 
@@ -127,6 +135,8 @@ class Play:
         self.begun = time.monotonic()  # of the rounds
         compares = session.design.client is None and session.has_memory
         self.reference = Reference(session.design) if compares else None
+        is_device = session.rules.is_memory and session.design.manager is None
+        self.restored = Restored(session.design) if is_device else None
         self.broken: Dict[str, Round] = {}  # the first round that breaks a strict rule, by its name
 
     def traffic(self, sequence: int) -> Traffic:
@@ -363,8 +373,12 @@ class Play:
             if problems:
                 rounds.close()
                 return self.failed(done, problems[0], out)
-            for name in session.judge.broken_rules(done.beats):
-                self.broken.setdefault(name, done.round)
+            if self.restored is not None and done.run is not None:
+                if done.run.reset_time >= 0 or self.coverage.counts["runs"] <= FIRST_ROUNDS:
+                    self.restored.add(done.run)
+            unbroken = [name for name in RULES if name not in self.broken]
+            for name in session.judge.broken_rules(done.beats, unbroken) if unbroken else ():
+                self.broken[name] = done.round
         rounds.close()
         return self.passed(last, out)
 
@@ -469,6 +483,8 @@ class Play:
         has_resets = all(link.reset for link in session.design.links.values())
         if session.design.client is not None and has_resets and not (options.after_reset or options.no_reset):
             tried.append(UNLESS["after-reset"])
+        if not options.withdraw:
+            tried.append(UNLESS["withdraw"])
         for kind in tried:
             failing = self.failing_with(kind)
             if failing is not None:
@@ -521,6 +537,11 @@ class Play:
         if limits.far and limits.window:
             words = f"it answers at {limits.far:#x}, and denies what is right above its own addresses"
             yield Condition("all bits of an address count", words)
+        if self.session.too_large:
+            words, option = self.session.too_large, f"--largest {2 * limits.largest}"
+            yield Condition(f"messages above {limits.largest} bytes have to pass", words, option)
+        if self.restored is not None and self.restored.words:
+            yield Condition("a reset has to bring back what it held at first", self.restored.words)
         late = self.netlist() if self.most >= _LEAST_TRIED else None
         if late and late.single:
             more = f" and {len(late.single) - 3} more" if len(late.single) > 3 else ""
@@ -682,5 +703,6 @@ class Play:
 
 def seems_to_split(problems: List[Problem]) -> bool:
     """Whether a request left the design with a smaller size than it has to have."""
-    sizes = (re.search(r"^manager link: .*\bsize is (\w), expected (\w)", problem.words) for problem in problems)
+    wrong = re.compile(r"^manager link: .*\bsize is ([0-9a-f]), expected ([0-9a-f])")
+    sizes = (wrong.search(problem.words) for problem in problems)
     return any(found and int(found[1], 16) < int(found[2], 16) for found in sizes)

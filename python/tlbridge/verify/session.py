@@ -17,11 +17,14 @@ from .judge import Judge, Rules
 from .options import SECONDS, choice_of, source_of, window_of
 from .report import not_compared
 from .skew import skewed
+from .strict import RULES
 from .traffic import ATOMICS, PLAIN_LARGEST, Traffic, limits_of
 
 FIRST_ROUNDS = 13  # in Icarus, if both simulators are used: two directed rounds and each style
 # Messages of a round in Icarus, and of the first and the later ones in Verilator.
 SHORT, MIDDLE, LONG = 200, 400, 1500
+# The options that make a strict rule one whose breach is a mistake.
+_STRICT = tuple(name.replace("-", "_") for name in RULES)
 _LOOP_SECONDS = 5  # of processor time for a hundred cycles, which no design needs
 
 
@@ -51,6 +54,7 @@ class Session:
             kinds = tuple(kind for kind in self.limits.kinds if kind not in ATOMICS)
             self.limits = replace(self.limits, kinds=kinds)
         self.stated = stated_largest(source.files) if options.largest is None else None
+        self.too_large = ""  # what goes wrong with messages above the largest that were found to pass
         self.most_bytes = self.limits.largest  # that the size field can say, if nothing else is known
         if self.stated is not None:
             self.most_bytes = min(self.most_bytes, self.stated)
@@ -59,7 +63,7 @@ class Session:
             self.limits = replace(self.limits, largest=min(self.most_bytes, PLAIN_LARGEST))
         plain = not set(self.limits.kinds) & {"acquire", "acquireperm", "release", "probe"}
         self.has_memory = not self.is_bridge and plain
-        strict = [name for name in ("denied_is_corrupt", "corrupt_stays", "copies_all") if getattr(options, name)]
+        strict = [name for name in _STRICT if getattr(options, name)]
         self.rules = Rules(
             self.is_bridge,
             self.has_memory and self.design.client is not None and not options.no_memory,
@@ -101,8 +105,17 @@ class Session:
             raise DesignError("--same-cycle and --no-same-cycle exclude each other")
         if options.denied_is_corrupt and (design.client is None or design.is_bridge and not options.rules_only):
             raise DesignError("--denied-is-corrupt is for a device, or with --rules-only")
-        if (options.corrupt_stays or options.copies_all) and design.client is not None:
-            raise DesignError("--corrupt-stays and --copies-all are for a host")
+        if options.copies_all and design.client is not None:
+            raise DesignError("--copies-all is for a host")
+        if options.corrupt_stays and design.is_bridge:
+            raise DesignError("--corrupt-stays is for a host or a device")
+        if (options.reads_accepted or options.reads_no_later) and (design.client is None or design.is_bridge):
+            raise DesignError("--reads-accepted and --reads-no-later are for a device")
+        is_judged = design.client is not None and (not design.is_bridge or options.rules_only)
+        if (options.denied_alike or options.reads_alike) and not is_judged:
+            raise DesignError("--denied-alike and --reads-alike are for a device, or with --rules-only")
+        if options.done_not_denied and not options.rules_only:
+            raise DesignError("--done-not-denied is for --rules-only")
         if options.after_reset and options.no_reset:
             raise DesignError("--after-reset and --no-reset exclude each other")
         if options.no_memory and design.client is None:
@@ -296,8 +309,12 @@ class Session:
         if self.most_bytes <= self.limits.largest or self.design.client is None:
             return
         most, self.most_bytes = self.most_bytes, 0
+        if self.limits.window:
+            most = min(most, 1 << (self.limits.window[1].bit_length() - 1))
+        if most <= self.limits.largest:
+            return
         traffic = Traffic(self.design, self.limits, 1, self.is_bridge, self.bench.has_two, self.has_memory)
-        held = held_largest(traffic, simulation, self.judge, self.forced, self.room / "sizes", most)
+        held, self.too_large = held_largest(traffic, simulation, self.judge, self.forced, self.room / "sizes", most)
         self.limits = replace(self.limits, largest=held)
         more = f"; it fails with those of {2 * held} bytes, so add --largest {2 * held} if it has to hold them"
         say(f"  messages of up to {held} bytes are played{more if held < most else ''}")

@@ -343,6 +343,11 @@ class Traffic:
                 settings.update(at_once=1, held=0, calm=self.random.choice((0x3FF, 0x3FF, 0)))
                 return self.drawn(min(length, 60), all_sources), settings
             return self.drawn(min(length, 150), all_sources), settings
+        if (
+            name == "withdraw"
+        ):  # stalls on ready, so that there is time to take a valid back; that passes through some designs
+            settings.update(calm=self.random.choice((0, 0x155)), patient=0, steady=0)
+            return self.drawn(length, self.random.choice((1, 4, all_sources))), settings
         if name == "same cycle":
             settings["calm"] = self.random.choice((0x3FF, 0x2AA, 0))
         return self.drawn(length, self.random.choice((4, all_sources))), settings

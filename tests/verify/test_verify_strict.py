@@ -1,0 +1,397 @@
+"""The strict rules, which a right design need not keep, over beats that are written by hand. No simulator is needed."""
+
+from pathlib import Path
+from typing import Dict, List, Optional, Tuple
+
+import pytest
+
+from tlbridge.verify.bench import Run
+from tlbridge.verify.design import Design, Link, Signal, Source
+from tlbridge.verify.judge import Beats, Judge, Rules
+from tlbridge.verify.restored import Restored
+
+Lines = List[str]
+
+
+def get(address: int, source: int = 0, size: int = 2) -> str:
+    return f"A 4 0 {size} {source:02x} {address:016x} f 00000000 0"
+
+
+def put(address: int, data: str, source: int = 0, mask: str = "f", corrupt: int = 0, size: int = 2) -> str:
+    return f"A {0 if mask == 'f' else 1} 0 {size} {source:02x} {address:016x} {mask} {data} {corrupt}"
+
+
+def add(address: int, operand: str, source: int = 0) -> str:
+    return f"A 2 4 2 {source:02x} {address:016x} f {operand} 0"
+
+
+def ack(source: int = 0, denied: int = 0, size: int = 2) -> str:
+    return f"D 0 0 {size} {source:02x} 00 {denied} 00000000 0"
+
+
+def data(value: str = "00000000", source: int = 0, denied: int = 0, corrupt: int = 0, size: int = 2) -> str:
+    return f"D 1 0 {size} {source:02x} 00 {denied} {value} {corrupt}"
+
+
+def link(without: str = "") -> Link:
+    """A link of four bytes, without one field."""
+    on = {"A": ("address", "mask", "data", "corrupt"), "D": ("denied", "data", "corrupt")}
+    bits = {"address": 32, "data": 32, "mask": 4}
+    return Link(
+        "",
+        {
+            channel: {name: Signal(name, 0, bits.get(name, 1), "input") for name in names if name != without}
+            for channel, names in on.items()
+        },
+    )
+
+
+DEVICE, HOST = Design(Source("dut", ()), {}, link()), Design(Source("dut", ()), {}, None, link())
+BETWEEN = Design(Source("dut", ()), {}, link(), link())
+
+
+def broken(
+    folder: Path, design: Design, near: Lines, far: Optional[List[Tuple[int, str]]] = None, is_memory: bool = True
+) -> Dict[str, str]:
+    """Returns what these beats break, with what is said of it. The beats of `near` come one in a cycle, and those of
+    `far`, on the link to the manager, in the cycles that are named."""
+    sides = {"manager" if design.client is None else "client": list(enumerate(near))}
+    sides.update({"manager": far} if far is not None else {})
+    for side, beats in sides.items():
+        (folder / f"{side}.beats").write_text("".join(f"{line}\n" for _, line in beats))
+        (folder / f"{side}.beats.times").write_text("".join(f"{10000 * at}\n" for at, _ in beats))
+    is_memory = is_memory and design.client is not None
+    run, judge = Run(folder, ""), Judge(design, Rules(False, is_memory))
+    beats_of = Beats(design, run)
+    found = {name: problem.words for name, problem in judge.broken_rules(beats_of).items()}
+    for name, words in found.items():  # an option makes it a mistake
+        strict = Judge(design, Rules(False, is_memory, (name,))).problems(run, beats_of)
+        assert [problem.words for problem in strict if problem.words == words] == [words]
+    return found
+
+
+# ---- a read sees each write that was accepted before it
+
+WRITTEN = [put(16, "11111111"), ack()]
+BURST = [
+    *(put(16, "11111111", size=3), put(16, "11111111", size=3), ack(size=3)),
+    *(put(16, "22222222", size=3), put(16, "22222222", size=3)),
+]
+STALE = {
+    "the write before it": (
+        [*WRITTEN, put(16, "22222222"), get(16, 1), data("11111111", 1), ack()],
+        "reads 11 at 0x10",
+    ),
+    "one byte of it": (
+        [*WRITTEN, put(16, "00002200", mask="2"), get(16, 1), data("11111111", 1), ack()],
+        "reads 11 at 0x11, which holds 22 by a write that was accepted before",
+    ),
+    "after the response of the write": (
+        [*WRITTEN, put(16, "22222222"), get(16, 1), ack(), data("11111111", 1)],
+        "reads 11 at 0x10, which holds 22 by a write",
+    ),
+    "an atomic": ([*WRITTEN, put(16, "22222222"), add(16, "01010101", 1), data("11111111", 1), ack()], "reads 11 at"),
+    "a burst": ([*BURST, get(20, 1), data("11111111", 1), ack(size=3)], "reads 11 at 0x14, which holds 22"),
+}
+FRESH = {
+    "the new value": [*WRITTEN, put(16, "22222222"), get(16, 1), data("22222222", 1), ack()],
+    "a write after it": [*WRITTEN, get(16, 1), put(16, "22222222"), data("22222222", 1), ack()],  # another rule
+    "the value before a write after it": [*WRITTEN, get(16, 1), put(16, "22222222"), data("11111111", 1), ack()],
+    "a denied write": [*WRITTEN, put(16, "22222222"), get(16, 1), data("11111111", 1), ack(denied=1)],
+    "a write without a response": [*BURST, get(20, 1), data("11111111", 1)],  # it may be denied
+    "never written": [get(16, 1), data("12345678", 1)],
+    "two writes, the second value": [
+        *(put(16, "11111111"), put(16, "22222222", 1), get(16, 2), data("22222222", 2), ack(1), ack(0)),
+    ],
+}
+
+
+@pytest.mark.parametrize("case", STALE)
+def test_a_read_of_an_old_value(tmp_path: Path, case: str) -> None:
+    """A byte is older than a write that was accepted before the read. Without the rule, either value is right."""
+    lines, words = STALE[case]
+    found = broken(tmp_path, DEVICE, lines)
+    assert list(found) == ["reads-accepted"] and words in found["reads-accepted"]
+    assert broken(tmp_path, DEVICE, lines, is_memory=False) == {}
+
+
+@pytest.mark.parametrize("case", FRESH)
+def test_a_read_of_a_value_that_may_be_there(tmp_path: Path, case: str) -> None:
+    """Nothing older than the last write that was accepted before the read."""
+    assert "reads-accepted" not in broken(tmp_path, DEVICE, FRESH[case])
+
+
+def test_a_design_between_two_links_may_read_an_old_value(tmp_path: Path) -> None:
+    """The rule is one of devices: behind another design, the memory of this program takes its time."""
+    assert broken(tmp_path, BETWEEN, STALE["an atomic"][0], []) == {}
+
+
+# ---- a read sees no write that was accepted after it
+
+
+def test_a_read_of_a_value_that_comes_later(tmp_path: Path) -> None:
+    """A byte is that of a write that was accepted after the read, and of none before. Otherwise that is right."""
+    later = [*WRITTEN, get(16, 1), put(16, "22222222"), data("22222222", 1), ack()]
+    words = "client link: AccessAckData of 4 bytes, source 01 reads 22 at 0x10, which holds 11 by all that was accepted"
+    found = broken(tmp_path, DEVICE, later)
+    assert list(found) == ["reads-no-later"] and found["reads-no-later"].startswith(words)
+    assert broken(tmp_path, BETWEEN, later, []) == {} == broken(tmp_path, DEVICE, later, is_memory=False)
+    old = [put(16, "22222222"), ack(), *WRITTEN, get(16, 1), put(16, "22222222"), data("22222222", 1), ack()]
+    assert "reads-no-later" not in broken(tmp_path, DEVICE, old)  # it may be the old value
+    right = (
+        [*WRITTEN, get(16, 1), put(16, "22222222"), data("11111111", 1), ack()],
+        [*WRITTEN, put(16, "22222222"), get(16, 1), data("22222222", 1), ack()],
+        [get(16, 1), put(16, "22222222"), data("22222222", 1), ack()],  # nobody knows what it held
+        [*WRITTEN, get(16, 1), put(16, "11111111", 2), data("11111111", 1), ack(2)],
+    )
+    for lines in right:
+        assert broken(tmp_path, DEVICE, lines) == {}
+
+
+# ---- what nobody writes stays the same
+
+READ = [get(16), data("44332211"), get(16, 1), data("44332219", 1)]
+
+
+def test_a_byte_that_changes_though_nobody_writes_it(tmp_path: Path) -> None:
+    """A read returns another value than the one before, and no write came that was not denied."""
+    words = "client link: AccessAckData of 4 bytes, source 01 reads 19 at 0x10, and before 11, and no write came"
+    assert broken(tmp_path, DEVICE, READ) == {"reads-alike": words} == broken(tmp_path, BETWEEN, READ, [])
+    denied = [put(16, "44332219"), ack(denied=1)]
+    assert broken(tmp_path, DEVICE, [*READ[:2], *denied, *READ[2:]]) == {"reads-alike": words}
+    assert broken(tmp_path, BETWEEN, [*READ[:2], *denied, *READ[2:]], []) == {}  # a part of it may be done
+    assert broken(tmp_path, DEVICE, READ, is_memory=False) == {}
+    right = (
+        [*READ[:2], *READ[:2]],
+        [*READ[:2], get(16, 1, size=0), data("ffffff11", 1, size=0)],
+        [*READ[:2], get(16, 1), data("443322xx", 1)],
+        [*READ[:2], put(16, "00000019", mask="1"), *READ[2:], ack()],
+        [*READ, put(16, "00000019", mask="1"), ack()],  # it is offered already
+        [*READ[:2], add(16, "00000008"), data("44332211"), *READ[2:]],
+        [*READ[:2], *READ[2:3], data("44332219", 1, corrupt=1)],
+    )
+    for lines in right:
+        assert broken(tmp_path, DEVICE, lines) == {}
+
+
+# ---- equal requests are denied alike
+
+UNLIKE = {
+    "denied later": (
+        [get(16), data(), get(16, 1), data("00000000", 1, 1, 1)],
+        "source 01 at 0x10 is denied, and an equal",
+    ),
+    "denied first": (
+        [get(16), data("00000000", 0, 1, 1), get(16, 1), data("00000000", 1)],
+        "is not denied, and an equal",
+    ),
+    "a put": (
+        [put(16, "11111111"), ack(), put(16, "22222222"), ack(denied=1)],
+        "AccessAck of 4 bytes, source 00 at 0x10",
+    ),
+    "out of order": (
+        [get(16), get(16, 1), data("00000000", 1), data("00000000", 0, 1, 1)],
+        "source 00 at 0x10 is denied, and an equal request was not",
+    ),
+}
+ALIKE = {
+    "another address": [get(16), data(), get(20), data("00000000", 0, 1, 1)],
+    "another size": [get(16, size=1), data(size=1), get(16), data("00000000", 0, 1, 1)],
+    "another kind": [put(16, "11111111"), ack(), get(16), data("00000000", 0, 1, 1)],
+    "another mask": [put(16, "11111111", mask="3"), ack(), put(16, "11111111", mask="c"), ack(denied=1)],
+    "corrupt data": [put(16, "11111111"), ack(), put(16, "11111111", corrupt=1), ack(denied=1)],
+    "all denied": [get(16), data("00000000", 0, 1, 1), get(16), data("00000000", 0, 1, 1)],
+    "no response": [get(16), data("00000000", 0, 1, 1), get(16)],
+    "an unknown size": [get(16), data(), get(16), data("00000000", 0, 1, 1).replace("D 1 0 2", "D 1 0 x")],
+}
+
+
+@pytest.mark.parametrize("case", UNLIKE)
+def test_equal_requests_that_are_not_denied_alike(tmp_path: Path, case: str) -> None:
+    """A device denies one of two equal requests."""
+    lines, words = UNLIKE[case]
+    found = broken(tmp_path, DEVICE, lines)
+    assert list(found) == ["denied-alike"] and words in found["denied-alike"]
+    assert broken(tmp_path, BETWEEN, lines, []) == found
+    for error in (ack(7, denied=1), data("00000000", 7, corrupt=1)):  # behind it, something was denied meanwhile
+        behind = [(at, error) for at in range(len(lines))]
+        assert broken(tmp_path, BETWEEN, lines, behind) == {}
+
+
+@pytest.mark.parametrize("case", ALIKE)
+def test_requests_that_may_be_denied(tmp_path: Path, case: str) -> None:
+    """They are not equal, or none of them is denied."""
+    assert broken(tmp_path, DEVICE, ALIKE[case]) == {}
+
+
+# ---- what was done behind a design is not denied
+
+PUT = [put(16, "44332211", size=3), put(16, "88776655", size=3), ack(denied=1, size=3)]
+BEHIND = [(0, put(16, "44332211", 5)), (1, put(20, "88776655", 6)), (1, ack(5)), (2, ack(6))]
+DENIED_GET = [get(16), data("00000000", 0, 1, 1)]
+
+
+def test_a_request_that_was_done_and_is_denied(tmp_path: Path) -> None:
+    """All of a put or of a Get was done behind the design, without an error there."""
+    found = broken(tmp_path, BETWEEN, PUT, BEHIND)
+    words = "client link: AccessAck of 8 bytes, source 00 at 0x10 is denied, and was done behind the design"
+    assert found == {"done-not-denied": words}
+    found = broken(tmp_path, BETWEEN, DENIED_GET, [(0, get(16, 3)), (1, data("44332211", 3))])
+    assert list(found) == ["done-not-denied"]
+    atomic = [add(16, "00000001"), data("00000000", 0, 1, 1)]
+    steps = [(0, get(16, 3)), (0, data("44332211", 3)), (1, put(16, "44332212", 3)), (1, ack(3))]
+    assert list(broken(tmp_path, BETWEEN, atomic, steps)) == ["done-not-denied"]
+
+
+NOT_DONE: Dict[str, Tuple[Lines, List[Tuple[int, str]]]] = {
+    "a part is denied there": (PUT, [*BEHIND[:2], (1, ack(5, denied=1)), BEHIND[3]]),
+    "a part is not done": (PUT, [BEHIND[0], BEHIND[2]]),
+    "a part has no response": (PUT, BEHIND[:3]),
+    "a response comes later": (PUT, [*BEHIND[:3], (3, ack(6))]),
+    "a request came before": ([ack(7), *PUT[:2], ack(7), PUT[2]], BEHIND),
+    "it is read only": (PUT, [(0, get(16, 5)), (0, get(20, 6)), (1, data("00000000", 5)), (2, data("00000000", 6))]),
+    "corrupt data": (DENIED_GET, [(0, get(16, 3)), (1, data("44332211", 3, corrupt=1))]),
+    "a corrupt put": ([put(16, "44332211", corrupt=1), ack(denied=1)], [(0, put(16, "44332211", 5)), (1, ack(5))]),
+    "not denied": ([*PUT[:2], ack(size=3)], BEHIND),
+    "nothing is done": (PUT, []),
+    "at an unknown address": (PUT, [(0, BEHIND[0][1].replace("0010 f", "00x0 f")), *BEHIND[1:]]),
+    "by another request": ([get(20, 2), *PUT[:2], PUT[2]], [(at + 1, line) for at, line in BEHIND]),
+}
+
+
+@pytest.mark.parametrize("case", NOT_DONE)
+def test_a_request_that_may_be_denied(tmp_path: Path, case: str) -> None:
+    """It was not done as a whole, or it has another reason."""
+    near, far = NOT_DONE[case]
+    assert broken(tmp_path, BETWEEN, near, far) == {}
+
+
+# ---- corrupt data of a device stay corrupt
+
+
+def test_corrupt_data_that_a_device_returns_as_good_data(tmp_path: Path) -> None:
+    """Corrupt data were written, and nothing good came after them into the same beat."""
+    bad, half = [put(16, "11111111", corrupt=1), ack()], [put(16, "00110000", mask="4", corrupt=1), ack()]
+    words = "client link: AccessAckData of 1 bytes, source 00 is good at 0x10, where corrupt data were written"
+    lost = [*bad, get(18, size=0), data(size=0)]
+    assert broken(tmp_path, DEVICE, lost) == {"corrupt-stays": words}
+    good = [put(16, "22222222"), ack()]
+    over = [*good, *half, get(16), data("22002222")]
+    for lines in ([*half, get(18, size=0), data(size=0)], [*half, get(16), data()], over):
+        assert list(broken(tmp_path, DEVICE, lines)) == ["corrupt-stays"]
+    right = (
+        [*bad, get(16), data(corrupt=1)],
+        [*bad, get(16), data("00000000", 0, 1, 1)],
+        [*bad, *good, get(16), data("22222222")],
+        [*bad, put(16, "00000022", mask="1"), ack(), get(18, size=0), data("00110000", size=0)],
+        [*bad, put(16, "00000022", mask="1"), get(18, 1, size=0), data("00110000", 1, size=0)],
+        [*bad, put(16, "22222222"), get(16, 1), data("22222222", 1)],  # the write of good data may have come first
+        [bad[0], ack(denied=1), get(16), data()],
+        [*half, get(16, size=1), data(size=1)],
+        [*bad, get(20), data()],
+    )
+    for lines in right:
+        assert broken(tmp_path, DEVICE, lines) == {}
+    assert broken(tmp_path, Design(Source("dut", ()), {}, link("corrupt")), lost) == {}
+    assert broken(tmp_path, DEVICE, lost, is_memory=False) == {} == broken(tmp_path, BETWEEN, lost, [])
+
+
+# ---- a reset brings back what a device held at first
+
+
+def restored(folder: Path, *runs: Tuple[Lines, Lines]) -> str:
+    """Returns what is said of a device after these runs, each with its beats before a reset and after it."""
+    made = Restored(DEVICE)
+    for before, after in runs:
+        lines = [*before, *after]
+        (folder / "client.beats").write_text("".join(f"{line}\n" for line in lines))
+        (folder / "client.beats.times").write_text("".join(f"{10000 * at}\n" for at in range(len(lines))))
+        made.add(Run(folder, "", reset_time=10000 * len(before) - 5000 if after else -1))
+    return made.words
+
+
+def read(address: int, value: str) -> Lines:
+    return [get(address), data(value)]
+
+
+def write(address: int, value: str) -> Lines:
+    return [put(address, value), ack()]
+
+
+FIRST = [*read(0, "00000000"), *read(4, "000000a5"), *write(0, "11111111"), *write(4, "22222222")]
+
+
+def test_a_byte_that_a_reset_does_not_bring_back(tmp_path: Path) -> None:
+    """Other bytes come back, so it is no memory, which keeps its data through a reset."""
+    words = "after a reset, 0x4 reads 22 as before it, and not a5 as at first; 7 other bytes come back"
+    assert restored(tmp_path, (FIRST, [*read(0, "00000000"), *read(4, "00000022")])) == words
+    first, later = FIRST[:4], [*FIRST[4:], *read(0, "11111111")]
+    assert restored(tmp_path, (first, []), (later, [*read(0, "00000000"), *read(4, "00000022")])) == words
+
+
+BACK = {
+    "all comes back": (FIRST, [*read(0, "00000000"), *read(4, "000000a5")]),
+    "a memory": (FIRST, [*read(0, "11111111"), *read(4, "22222222")]),
+    "few come back": (FIRST, [*read(0, "11111100"), *read(4, "222222a5")]),
+    "another value": (FIRST, [*read(0, "00000000"), *read(4, "00000033")]),
+    "written after the reset": (FIRST, [*read(0, "00000000"), *write(4, "22222222"), *read(4, "22222222")]),
+    "not known at first": (FIRST[4:], [*read(0, "00000000"), *read(4, "00000022")]),
+    "not acknowledged": (FIRST[:-1], [*read(0, "00000000"), *read(4, "00000022")]),
+    "denied": ([*FIRST[:-1], ack(denied=1)], [*read(0, "00000000"), *read(4, "00000022")]),
+    "corrupt": ([*FIRST[:-2], put(4, "22222222", corrupt=1), ack()], [*read(0, "00000000"), *read(4, "00000022")]),
+    "not written": (FIRST[:-2], [*read(0, "00000000"), *read(4, "000000a5")]),
+    "a denied read": (FIRST, [*read(0, "00000000"), get(4), data("00000022", 0, 1, 1)]),
+    "a corrupt read": (FIRST, [*read(0, "00000000"), get(4), data("00000022", corrupt=1)]),
+    "an unknown value": (FIRST, [*read(0, "00000000"), *read(4, "000000xx")]),
+    "an atomic": ([*FIRST[:-2], add(4, "00000022"), data("000000a5")], [*read(0, "00000000"), *read(4, "00000022")]),
+}
+
+
+@pytest.mark.parametrize("case", BACK)
+def test_bytes_after_a_reset(tmp_path: Path, case: str) -> None:
+    """All come back, or nobody knows what they held."""
+    assert restored(tmp_path, BACK[case]) == ""
+
+
+def test_a_byte_that_is_not_the_same_at_first(tmp_path: Path) -> None:
+    """It tells nothing about a reset."""
+    after = [*read(0, "00000000"), *read(4, "00000022")]
+    assert restored(tmp_path, (read(4, "00000077"), []), (FIRST, after)) == ""
+
+
+# ---- a host copies adjacent data to adjacent places
+
+
+def copied(words: int, distances: Dict[int, int], first: int = 0) -> Lines:
+    """A host that copies words. `distances` has the numbers of the words from which on a distance holds."""
+    lines, distance = [], 0
+    for at in range(words):
+        distance = distances.get(at, distance)
+        place = first + 4 * at
+        value = f"{0xABCD0000 + 17 * place:08x}"
+        lines += [get(place), data(value), put(place + distance, value, 1), ack(1)]
+    return lines
+
+
+def test_a_host_that_copies_to_another_place(tmp_path: Path) -> None:
+    """A carry of the target's address is lost."""
+    found = broken(tmp_path, HOST, copied(40, {0: 4096, 20: 0}))
+    value = f"{0xABCD0000 + 17 * 80:08x}"
+    words = f"writes {value} at 0x50, and the data before it, of 0x4c, went to 0x104c"
+    assert list(found) == ["copies-all"] and found["copies-all"].endswith(words)
+
+
+RIGHT_COPIES = {
+    "one distance": copied(40, {0: 4096}),
+    "too few to say so": copied(10, {0: 4096, 5: 0}),
+    "another job": [*copied(20, {0: 4096}), *copied(20, {0: 8192}, 1024)],
+    "the same job again": [*copied(40, {0: 4096}), *copied(40, {0: 8192})],
+    "many jumps": copied(40, {at: 4096 * (1 + at % 3) for at in range(0, 40, 4)}),
+    "mostly other writes": [*copied(20, {0: 4096, 10: 0}), *(put(8192 + 4 * at, f"{at:08x}", 1) for at in range(40))],
+}
+
+
+@pytest.mark.parametrize("case", RIGHT_COPIES)
+def test_a_host_that_may_copy_so(tmp_path: Path, case: str) -> None:
+    """Adjacent data go to adjacent places, or the host has an order of its own."""
+    assert broken(tmp_path, HOST, RIGHT_COPIES[case]) == {}
