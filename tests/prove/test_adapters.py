@@ -8,7 +8,7 @@ from typing import Dict
 
 import pytest
 from adapters import ADAPTERS, CROSSING, EARLY, SKID, START, STRUCTS, WIDE, Adapter, Planted
-from play import Played, is_found, play, play_bug, play_correct
+from play import Played, is_found, line_of_bug, line_of_correct, play, play_bug, play_correct
 from project import needs_tools
 
 pytestmark = pytest.mark.simulator
@@ -57,8 +57,10 @@ def test_user_bits_are_part_of_the_head(tmp_path: Path, models: Path) -> None:
 @pytest.mark.long
 @pytest.mark.parametrize("adapter, bug", BUGS, ids=[f"{adapter.name}: {bug.name}" for adapter, bug in BUGS])
 def test_planted_bug_is_found(adapter: Adapter, bug: Planted, tmp_path: Path) -> None:
+    """An expected assertion is among the first that fail. `-rP` prints the rows of the table."""
     needs_tools(*TOOLS)
     run = play_bug(adapter, bug, tmp_path)
+    print(line_of_bug(adapter, bug, run))
     assert is_found(bug, run), run.said
 
 
@@ -68,6 +70,7 @@ def test_correct_adapter_has_no_failure(adapter: Adapter, tmp_path: Path, models
     """Each assertion is proved, or has no counterexample in the adapter's number of cycles."""
     needs_tools(*TOOLS)
     run = play_correct(adapter, tmp_path, models)
+    print(line_of_correct(adapter, run))
     assert run.status == 0, run.said
     assert {verdict for verdict, _ in run.rows.values()} <= {
         "proved",

@@ -10,6 +10,7 @@ import shutil
 import stat
 import subprocess
 import sys
+import time
 from pathlib import Path
 from typing import Any, Dict, List, Optional, Sequence
 
@@ -132,6 +133,27 @@ def test_killed_yosys_claims_nothing(tmp_path: Path) -> None:
     run = prove(tmp_path / "cache", tmp_path, *start(), path=fake(tmp_path, "yosys", "kill -9 $$"))
     assert run.status == 4 and run.claims_nothing(), run.out + run.err
     assert "yosys" in run.err and len(run.err.splitlines()) == 1
+
+
+def test_a_run_that_is_ended(tmp_path: Path) -> None:
+    """SIGTERM ends the run, with the tools that it started and its temporary files."""
+    needs_tools("verilator")
+    place = fake(tmp_path, "yosys", f"[ $1 != -V ] || exit 0; echo $$ > {tmp_path}/id; exec sleep 3600")
+    environment = {**os.environ, "PATH": place + os.pathsep + os.environ["PATH"], "TMPDIR": str(tmp_path / "temporary")}
+    (tmp_path / "temporary").mkdir()
+    command = [sys.executable, str(PROVE), *start(), "--no-cache"]
+    process = subprocess.Popen(command, cwd=tmp_path, env=environment, stdout=subprocess.PIPE, stderr=subprocess.PIPE)
+    end = time.monotonic() + 600
+    while not (tmp_path / "id").is_file() or not (tmp_path / "id").read_text():
+        assert time.monotonic() < end and process.poll() is None
+        time.sleep(0.05)
+    assert list((tmp_path / "temporary").iterdir())
+    process.terminate()
+    out, err = process.communicate(timeout=600)
+    assert process.returncode == 143 and b"proved" not in out and err == b""
+    with pytest.raises(ProcessLookupError):
+        os.kill(int((tmp_path / "id").read_text()), 0)
+    assert not list((tmp_path / "temporary").iterdir())
 
 
 def test_model_without_assertions_claims_nothing(cache: Path, bounded: Run, tmp_path: Path) -> None:

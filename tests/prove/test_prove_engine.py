@@ -2,7 +2,9 @@
 
 import argparse
 import json
+import os
 import stat
+import time
 from pathlib import Path
 from typing import Any, Dict, List, Tuple
 
@@ -16,7 +18,7 @@ from tlbridge.prove.errors import ProveError
 from tlbridge.prove.failure import sends_offered
 from tlbridge.prove.harness import Harness, Options, spread, write_harness
 from tlbridge.prove.model import Model, short_name
-from tlbridge.prove.report import words_of
+from tlbridge.prove.report import Progress, words_of
 from tlbridge.prove.search import Search
 from tlbridge.prove.session import Session
 from tlbridge.verify.design import Design, Port, Signal, Source, find_links
@@ -84,6 +86,29 @@ def test_solver_that_ends_proves(fake_abc: Path, tmp_path: Path) -> None:
     assert engine.unbounded(a_model(tmp_path), 0, 1).kind == PROVED
 
 
+def test_solver_that_reaches_its_limit_proves_nothing(
+    fake_abc: Path, tmp_path: Path, monkeypatch: pytest.MonkeyPatch
+) -> None:
+    """abc runs on after twice the time of its search, and at least a minute more. The system ends it, so the assertion
+    keeps its bound, whatever abc has printed.
+    """
+    fake_abc.write_text(f"#!/bin/sh\nprintf '{VERIFIED.strip()}\\nProperty proved.\\n'\nwhile :; do :; done\n")
+    monkeypatch.setattr(engine, "MORE_SECONDS", 1)
+    found = engine.unbounded(a_model(tmp_path), 0, 0)
+    assert (found.kind, found.frames) == (OPEN, 0) and 0.5 < found.seconds < 20
+
+
+@pytest.mark.parametrize("seconds, limit", [(10, 70), (300, 600)])
+def test_limit_of_a_question(seconds: int, limit: int, fake_abc: Path, tmp_path: Path) -> None:
+    """The search has the seconds of the question, and the whole tool twice that or a minute more."""
+    given = "while [ $(ulimit -t) = unlimited ]; do sleep 0.01; done; ulimit -t"  # it is set after the start
+    fake_abc.write_text(f'#!/bin/sh\necho "$2" > {tmp_path}/asked\n{given} >> {tmp_path}/asked\n')
+    with pytest.raises(ProveError):
+        engine.bounded(a_model(tmp_path), 0, 9, seconds)
+    asked, seen = (tmp_path / "asked").read_text().splitlines()
+    assert f"bmc3 -F 9 -T {seconds};" in asked and int(seen) == limit
+
+
 def test_two_assertions_at_once(fake_abc: Path, tmp_path: Path) -> None:
     """abc gets both outputs as one, so that a proof is one of each."""
     fake_abc.write_text(f'#!/bin/sh\necho "$2" > {tmp_path}/asked\necho tlbridge-prove-has-ended\n')
@@ -99,6 +124,43 @@ def test_one_dead_solver_ends_the_run(fake_abc: Path, tmp_path: Path) -> None:
     questions = [(number, lambda number=number: engine.bounded(a_model(tmp_path), number, 3, 1)) for number in range(3)]
     with pytest.raises(ProveError):
         list(engine.in_parallel(1, questions))
+
+
+def test_error_ends_the_tools_that_run(fake_abc: Path, tmp_path: Path) -> None:
+    """One abc dies while another one has hours to go."""
+    fake_abc.write_text(
+        f"#!/bin/sh\ncase $2 in *'-O 1'*) while [ ! -s {tmp_path}/id ]; do sleep 0.01; done; kill -9 $$ ;; esac\n"
+        f"echo $$ > {tmp_path}/id\nexec sleep 3600\n"
+    )
+    questions = [(number, lambda number=number: engine.bounded(a_model(tmp_path), number, 3, 1)) for number in range(4)]
+    began = time.monotonic()
+    with pytest.raises(ProveError, match="ended by signal 9"):
+        list(engine.in_parallel(2, questions))
+    assert time.monotonic() - began < 600
+    with pytest.raises(ProcessLookupError):
+        os.kill(int((tmp_path / "id").read_text()), 0)
+
+
+def test_progress_without_a_terminal(monkeypatch: pytest.MonkeyPatch, capsys: pytest.CaptureFixture[str]) -> None:
+    """A note each half minute, with the time since the run began."""
+    times = [100.0]
+    monkeypatch.setattr(time, "monotonic", lambda: times[0])
+    shown = Progress()
+    for second in range(100, 192):
+        times[0] = float(second)
+        shown.show("proofs: 3 of 32")
+    said = capsys.readouterr()
+    assert said.out == ""
+    assert said.err.splitlines() == [f"tlbridge-prove: proofs: 3 of 32, {seconds} s so far" for seconds in (30, 60, 90)]
+
+
+def test_progress_while_nothing_ends(fake_abc: Path, tmp_path: Path) -> None:
+    """A question that takes long has a tick each second."""
+    fake_abc.write_text("#!/bin/sh\nsleep 2.5\necho tlbridge-prove-has-ended\n")
+    ticks: List[int] = []
+    questions = [(7, lambda: engine.bounded(a_model(tmp_path), 0, 3, 1))]
+    found = list(engine.in_parallel(1, questions, lambda: ticks.append(1)))
+    assert [number for number, _ in found] == [7] and len(ticks) >= 2
 
 
 def test_missing_solver(tmp_path: Path, monkeypatch: pytest.MonkeyPatch) -> None:
@@ -133,7 +195,7 @@ def a_session(verdicts: Dict[str, str], monkeypatch: pytest.MonkeyPatch, folder:
     made.words = argparse.Namespace(reset_cycles=1, jobs=1, only="", cycles=20)
     made.options = Options()
     made.frames = 21
-    made.began = 0.0
+    made.shown = Progress()
     made.model = a_model(folder)
     kinds = {number: verdicts[label.rpartition(".")[2]] for number, label in enumerate(LABELS)}
     monkeypatch.setattr(engine, "bounded", lambda _, index, frames, seconds: an_end(kinds[index], frames))
@@ -259,8 +321,12 @@ def test_smaller_model_assumes_less(tmp_path: Path, monkeypatch: pytest.MonkeyPa
         assert f".{words}" in texts[0]
 
 
-def a_search(monkeypatch: pytest.MonkeyPatch, folder: Path, small: Verdict, whole: Verdict) -> List[Tuple[str, str]]:
-    """The questions about one assertion, in which model and of which kind; and its verdict as the last one."""
+def a_search(
+    monkeypatch: pytest.MonkeyPatch, folder: Path, small: Verdict, whole: Verdict, later: Verdict
+) -> List[Tuple[str, str]]:
+    """The questions about one assertion, in which model and of which kind; and its verdict as the last one. `later` is
+    the end of the search for counterexamples in the smaller model.
+    """
     made = a_session(dict.fromkeys(("Data0", "SeesBeat", "SeesByte"), BOUNDED), monkeypatch, folder)
     made.words = argparse.Namespace(
         reset_cycles=1, jobs=1, only="", cycles=20, unbounded=True, seconds=9, keep_going=False
@@ -278,32 +344,37 @@ def a_search(monkeypatch: pytest.MonkeyPatch, folder: Path, small: Verdict, whol
         return answer
 
     monkeypatch.setattr(made, "build_small", lambda letter: models["small"])
-    monkeypatch.setattr(engine, "bounded", ask("bounded", {"whole": Verdict(BOUNDED, 9, 0.1)}))
+    monkeypatch.setattr(engine, "bounded", ask("bounded", {"whole": Verdict(BOUNDED, 9, 0.1), "small": later}))
     monkeypatch.setattr(engine, "unbounded", ask("unbounded", {"small": small, "whole": whole}))
     search = Search(made)
     search.run([0])
-    return [*asked, ("verdict", search.verdicts[0].kind)]
+    found = search.verdicts[0]
+    return [*asked, ("verdict", f"{found.kind} {found.frames}" if found.kind == BOUNDED else found.kind)]
+
+
+PROOFS = [("small", "unbounded 9"), ("whole", "unbounded 9")]
 
 
 @pytest.mark.parametrize(
-    "small, whole, asked",
+    "small, whole, later, asked",
     [
-        (PROVED, OPEN, [("small", "unbounded 9"), ("verdict", PROVED)]),
-        (FAILS, PROVED, [("small", "unbounded 9"), ("whole", "unbounded 9"), ("verdict", PROVED)]),
-        (FAILS, FAILS, [("small", "unbounded 9"), ("whole", "unbounded 9"), ("verdict", FAILS)]),
-        (OPEN, PROVED, [("small", "unbounded 9"), ("whole", "bounded 21"), ("verdict", BOUNDED)]),
-        (
-            FAILS,
-            OPEN,
-            [("small", "unbounded 9"), ("whole", "unbounded 9"), ("whole", "bounded 21"), ("verdict", BOUNDED)],
-        ),
+        (PROVED, OPEN, BOUNDED, [*PROOFS[:1], ("verdict", PROVED)]),
+        (FAILS, PROVED, BOUNDED, [*PROOFS, ("verdict", PROVED)]),
+        (FAILS, FAILS, BOUNDED, [*PROOFS, ("verdict", FAILS)]),
+        (OPEN, PROVED, BOUNDED, [*PROOFS[:1], ("small", "bounded 21"), ("verdict", "bounded 14")]),
+        (FAILS, OPEN, BOUNDED, [*PROOFS, ("small", "bounded 21"), ("verdict", "bounded 14")]),
+        # a counterexample in the smaller model is none in the whole one, which has a bound of 9
+        (OPEN, OPEN, FAILS, [*PROOFS[:1], ("small", "bounded 21"), ("whole", "bounded 21"), ("verdict", "bounded 9")]),
+        # abc is ended before it prints a bound: the one of the first step holds
+        (OPEN, OPEN, OPEN, [*PROOFS[:1], ("small", "bounded 21"), ("verdict", "bounded 9")]),
     ],
 )
 def test_a_failure_in_the_smaller_model_is_none(
-    small: str, whole: str, asked: List[Tuple[str, str]], tmp_path: Path, monkeypatch: pytest.MonkeyPatch
+    small: str, whole: str, later: str, asked: List[Tuple[str, str]], tmp_path: Path, monkeypatch: pytest.MonkeyPatch
 ) -> None:
-    """The smaller model assumes less, so a proof in it counts, and a counterexample in it does not."""
-    found = a_search(monkeypatch, tmp_path, Verdict(small, 4, 0.1), Verdict(whole, 5, 0.1))
+    """The smaller model assumes less, so a proof or a bound in it counts, and a counterexample in it does not."""
+    ends = Verdict(later, {BOUNDED: 14, FAILS: 6, OPEN: 0}[later], 0.1)
+    found = a_search(monkeypatch, tmp_path, Verdict(small, 4, 0.1), Verdict(whole, 5, 0.1), ends)
     assert found == [("whole", "bounded 9"), *asked]
 
 
@@ -345,7 +416,8 @@ def test_short_counterexamples_come_first(
 
     monkeypatch.setattr(engine, "bounded", ask)
     search = Search(made)
-    monkeypatch.setattr(search, "prover", lambda indices: prove)
+    monkeypatch.setattr(search, "smaller", lambda indices: {})
+    monkeypatch.setattr(search, "prover", lambda small: prove)
     search.run([0, 1])
     limit = 300 if cycles == 8 and not words["unbounded"] else 20
     assert asked == [("bounded", 0, 9, limit), ("bounded", 1, 9, limit), *later]
@@ -354,6 +426,20 @@ def test_short_counterexamples_come_first(
     assert search.first_failure() == 1
     said = capsys.readouterr().out
     assert f"a.Data0          no counterexample in {bound - 1} cycles" in said and "d.Head           fails in" in said
+
+
+def test_the_cause_comes_first(tmp_path: Path, monkeypatch: pytest.MonkeyPatch) -> None:
+    """If several assertions fail in the same cycle, the counterexample is of the cause."""
+    made = a_session(dict.fromkeys(("Data0", "SeesBeat", "SeesByte"), BOUNDED), monkeypatch, tmp_path)
+    names = ("watch.SourceA", "watch.d.watch.Data0", "watch.d.watch.Early", "watch.a.watch.Head")
+    made.model = Model(tmp_path, names)
+    search = Search(made)
+    search.verdicts = {index: Verdict(FAILS, 4, 0.1) for index in range(3)}
+    assert search.first_failure() == 2
+    search.verdicts[3] = Verdict(FAILS, 3, 0.1)
+    assert search.first_failure() == 3
+    search.verdicts = {0: Verdict(FAILS, 4, 0.1), 1: Verdict(FAILS, 4, 0.1), 3: Verdict(PROVED, 0, 0.1)}
+    assert search.first_failure() == 1
 
 
 def test_source_room_is_proved_with_source_one(tmp_path: Path, monkeypatch: pytest.MonkeyPatch) -> None:
@@ -371,7 +457,8 @@ def test_source_room_is_proved_with_source_one(tmp_path: Path, monkeypatch: pyte
         return Verdict(FAILS if model is small else PROVED, 3, 0.5)
 
     monkeypatch.setattr(engine, "unbounded", ask)
-    prove = Search(made).prover([0, 1])
+    search = Search(made)
+    prove = search.prover(search.smaller([0, 1]))
     assert prove(1) == Verdict(PROVED, 3, 1.0) and asked == [(True, 1, True), (False, 1, False)]
     asked.clear()
     assert prove(0).kind == PROVED and asked == [(True, 0, False), (False, 0, False)]

@@ -3,19 +3,22 @@ failure."""
 
 import argparse
 import os
+import signal
 import threading
 import time
 from pathlib import Path
-from typing import Any, Dict, List, Sequence, Tuple
+from typing import Any, Dict, List, Optional, Sequence, Tuple
 
 import pytest
+from project import needs_tools
 
-from tlbridge.prove import command, engine, model, netlist, projects, replay, tools, user_bits
+from tlbridge.prove import command, engine, failure, model, netlist, projects, replay, tools, user_bits
 from tlbridge.prove.engine import BOUNDED, FAILS, PROVED, Verdict
 from tlbridge.prove.errors import ProveError
 from tlbridge.prove.harness import Harness, Options, write_harness
 from tlbridge.prove.model import Model
 from tlbridge.prove.options import command_line
+from tlbridge.prove.report import Progress
 from tlbridge.prove.search import Search
 from tlbridge.prove.session import Session
 from tlbridge.verify.design import Design, Port, Signal, Source, find_links
@@ -49,6 +52,13 @@ def test_a_tool_runs_to_its_end(tmp_path: Path) -> None:
     assert time.monotonic() - began < 50
     with pytest.raises(ProcessLookupError):
         os.kill(int((tmp_path / "pid").read_text()), 0)
+
+
+def test_a_tool_that_reaches_its_processor_time() -> None:
+    """The system ends it by SIGXCPU. A tool that only waits has no such limit."""
+    done = tools.run_tool(["sh", "-c", "while :; do :; done"], 600, None, 1)
+    assert done.status == -signal.SIGXCPU and 0.5 < done.seconds < 20
+    assert tools.run_tool(["sh", "-c", "sleep 1.2"], 600, None, 1).status == 0
 
 
 def test_a_tool_that_is_missing(tmp_path: Path, monkeypatch: pytest.MonkeyPatch) -> None:
@@ -124,7 +134,7 @@ def test_the_bench_of_a_replay() -> None:
     text = replay.bench_of(HARNESS, TABLE, False, True)
     assert "    reg [0:0] free_valid = 0;\n    reg [11:0] free_data = 0;\n" in text
     assert "    tlbridge_proof proof (.clock(clock), .free_valid(free_valid), .free_data(free_data));\n" in text
-    assert "        proof.dut.state = 3'h5;\n        proof.dut.off = 1'h0;\n" in text
+    assert "        $deposit(proof.dut.state, 3'h5);\n        $deposit(proof.dut.off, 1'h0);\n" in text
     steps = "        // step 0\n        free_valid = 1'h1;\n        free_data = 12'habc;\n"
     steps += "        #5 {clock} = {1{1'b1}}; #5 {clock} = 0;\n"
     steps += steps.replace("step 0", "step 1").replace("1'h1", "1'h0").replace("habc", "h0")
@@ -163,6 +173,33 @@ def test_what_a_replay_reports(tmp_path: Path, monkeypatch: pytest.MonkeyPatch) 
     assert bad == replay.Replayed((), "Icarus cannot read the design: dut.sv:3: error: odd")
     assert played("exit 1", "").problem == "Icarus cannot read the design: it printed nothing"
     assert played("", "exit 2").problem == "vvp ended with status 2"
+
+
+ENUMERATED = """module holder (input wire clock);
+    typedef enum logic [1:0] {IDLE, BUSY, LAST} state_t;
+    state_t state;
+    logic [3:0] words[0:1];
+    always_ff @(posedge clock) begin
+        $display("%0t: replay.proof.watch.a.watch: State%0d_%0d", $time, state, words[1]);
+        state <= state == BUSY ? LAST : IDLE;
+    end
+endmodule
+"""
+
+
+@pytest.mark.simulator
+def test_a_replay_sets_registers_of_any_type(tmp_path: Path) -> None:
+    """Icarus takes no number for a register of an enumerated type, except by $deposit, which takes no word of a
+    memory.
+    """
+    needs_tools("iverilog", "vvp")
+    (tmp_path / "holder.sv").write_text(ENUMERATED)
+    module = "module tlbridge_proof (input wire clock, input wire [0:0] free_valid);\n    holder dut (.clock(clock));\n"
+    harness = Harness(f"{module}endmodule\n", "AD", {}, {}, (), (("free_valid", 1),))
+    (tmp_path / "proof.sv").write_text(harness.text)
+    table: List[Dict[str, int]] = [{"free_valid": 1, "init dut.state": 1, "init dut.words[1]": 5}, {}]
+    shown = replay.replay(tmp_path, harness, table, ["holder.sv"], [], False)
+    assert shown == replay.Replayed(("5000 a.State1_5", "15000 a.State2_5"))
 
 
 def test_the_name_of_a_register() -> None:
@@ -256,11 +293,22 @@ def test_the_assertions_that_a_model_keeps(tmp_path: Path, monkeypatch: pytest.M
 # ---- what is printed
 
 
-def result(monkeypatch: pytest.MonkeyPatch, folder: Path, verdicts: Dict[int, Verdict], asked: List[int]) -> int:
-    """Prints the result of a session whose search ends with these verdicts, and returns its exit status."""
+def result(
+    monkeypatch: pytest.MonkeyPatch,
+    folder: Path,
+    verdicts: Dict[int, Verdict],
+    asked: List[int],
+    largest: Optional[int] = None,
+) -> int:
+    """Prints the result of a session whose search ends with these verdicts, and returns its exit status. `largest` is
+    the word of the command line.
+    """
     session = Session.__new__(Session)
-    session.words = argparse.Namespace(reset_cycles=2, out=str(folder / "out"), seconds=9, top="dut", unbounded=False)
-    session.options, session.began = Options(reset_cycles=2), time.monotonic()
+    session.words = argparse.Namespace(
+        reset_cycles=2, out=str(folder / "out"), seconds=9, top="dut", unbounded=False, largest=largest
+    )
+    session.design = a_design()
+    session.options, session.shown = Options(reset_cycles=2), Progress()
     session.model, session.harness, session.folder = Model(folder, LABELS), HARNESS, folder
     monkeypatch.setattr(Session, "build_whole", lambda _: None)
     monkeypatch.setattr(Session, "chosen", lambda _: asked)
@@ -285,10 +333,11 @@ def test_a_failure_without_icarus(
     tmp_path: Path, monkeypatch: pytest.MonkeyPatch, capsys: pytest.CaptureFixture[str]
 ) -> None:
     asked: List[int] = []
+    size = [2]
 
     def counterexample(_: Model, index: int, frame: int, seconds: int, path: Path) -> List[Dict[str, int]]:
         asked.append(index)
-        return [*TABLE[:1], {"free_client_a_valid": 1}]
+        return [*TABLE[:1], {"free_client_a_valid": 1, "free_client_a_size": size[0]}]
 
     monkeypatch.setattr(engine, "counterexample", counterexample)
     monkeypatch.setattr("shutil.which", lambda name: None)
@@ -299,13 +348,33 @@ def test_a_failure_without_icarus(
         asked == [1] and "3 assertions: 3 fail\n" in out and f"counterexample of a.Invented, in {tmp_path}/out:" in out
     )
     assert "--forwards-offered" in out and "There is no Icarus (`apt install iverilog`), so there is no waveform" in out
+    assert "--largest" not in out
     assert (tmp_path / "out" / "inputs.txt").read_text() == (
-        "step 0: free_valid=1 free_data=abc client_tick=1\nstep 1: free_client_a_valid=1\n"
+        "step 0: free_valid=1 free_data=abc client_tick=1\nstep 1: free_client_a_valid=1 free_client_a_size=2\n"
     )
     assert (tmp_path / "out" / "proof.sv").read_text() == HARNESS.text
     assert result(monkeypatch, tmp_path, fails, [0]) == 1
     out = capsys.readouterr().out
     assert "1 assertion: 1 fails\n" in out and "--forwards-offered" not in out
+    size[0] = 4  # 16 bytes, and the links have 4
+    assert result(monkeypatch, tmp_path, fails, [0]) == 1
+    said = (
+        "a message of 16 bytes is offered, which has more than one beat on both links. If your neighbours send none, "
+    )
+    assert said + "add --largest 4\n" in capsys.readouterr().out
+    assert result(monkeypatch, tmp_path, fails, [0], 16) == 1
+    assert "add --largest" not in capsys.readouterr().out
+
+
+@pytest.mark.parametrize(
+    "response, time, found", [("D 1 0 0 02", 15000, True), ("D 1 0 0 02", 25000, False), ("D 1 0 0 01", 15000, False)]
+)
+def test_a_response_in_the_cycle_of_its_request(response: str, time: int, found: bool, tmp_path: Path) -> None:
+    """It has the time and the source of a request."""
+    (tmp_path / "manager.beats").write_text(f"A 4 0 0 02 0000 1 00 0\n{response} 00 0 01 0\n")
+    (tmp_path / "manager.beats.times").write_text(f"15000\n{time}\n")
+    assert failure.responds_at_once(tmp_path / "manager.beats") == found
+    assert not failure.responds_at_once(tmp_path / "client.beats")
 
 
 def test_the_words_of_the_command_line() -> None:

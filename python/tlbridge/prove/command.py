@@ -2,8 +2,9 @@
 from __future__ import annotations
 
 import os
+import signal
 import time
-from typing import Optional, Sequence
+from typing import Any, Optional, Sequence
 
 from ..run import FailureError, status_of
 from .covers import reach
@@ -25,7 +26,7 @@ def prove(session: Session) -> int:
     used = os.times()
     taken = used.user + used.system + used.children_user + used.children_system
     say(summary([search.verdicts[index] for index in indices], session.options))
-    say(f"it took {taken:.0f} s of processor time, {time.monotonic() - session.began:.0f} s by the clock")
+    say(f"it took {taken:.0f} s of processor time, {time.monotonic() - session.shown.began:.0f} s by the clock")
     index = search.first_failure()
     if index is None:
         return 0
@@ -42,8 +43,14 @@ def run(session: Session) -> int:
     return prove(session)
 
 
+def end(number: int, _: Any) -> None:
+    """Ends the run after a signal, with its temporary files and the tools that it started."""
+    raise SystemExit(128 + number)
+
+
 def main(arguments: Optional[Sequence[str]] = None) -> int:
     words = command_line().parse_args(arguments)
+    before = signal.signal(signal.SIGTERM, end)
 
     def command() -> int:
         try:
@@ -55,4 +62,7 @@ def main(arguments: Optional[Sequence[str]] = None) -> int:
         except ProveError as error:
             raise FailureError(str(error), error.status) from error
 
-    return status_of(command, note)
+    try:
+        return status_of(command, note)
+    finally:
+        signal.signal(signal.SIGTERM, before)

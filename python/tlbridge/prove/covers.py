@@ -1,6 +1,7 @@
 """Shows that the assumptions of a proof exclude nothing: each kind of beat can arrive, and time goes on."""
 from __future__ import annotations
 
+from contextlib import closing
 from functools import partial
 from typing import Mapping, Tuple
 
@@ -41,9 +42,15 @@ def reach(session: Session) -> None:
     ]
     # yosys removes those that are impossible from the model
     found = {label: Verdict(OPEN, 0, 0.0) for label in model.folded if is_cover(label)}
-    for done, (index, verdict) in enumerate(engine.in_parallel(words.jobs, questions), 1):
-        session.progress("kinds of beats", done, len(questions))
-        found[model.labels[index]] = verdict
+    done = 0
+
+    def tick() -> None:
+        session.progress("kinds of beats", done, len(questions), NEEDED_SECONDS)
+
+    with closing(engine.in_parallel(words.jobs, questions, tick)) as results:
+        for index, verdict in results:
+            done += 1
+            found[model.labels[index]] = verdict
     within = f"{frames - words.reset_cycles} {session.unit}"
     check_needed(found, frames, within)
     kinds = {

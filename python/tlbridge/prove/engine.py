@@ -6,16 +6,20 @@ that it found.
 from __future__ import annotations
 
 import re
-from concurrent.futures import Future, ThreadPoolExecutor, as_completed
+import signal
+from concurrent.futures import FIRST_COMPLETED, Future, ThreadPoolExecutor, wait
 from dataclasses import dataclass
 from pathlib import Path
-from typing import Callable, Dict, Iterator, List, Sequence, Tuple
+from typing import Callable, Dict, Generator, List, Sequence, Tuple, TypeVar
 
 from .errors import TOOL, ProveError
 from .model import Model, last_line
-from .tools import run_tool
+from .tools import RUNNING, run_tool
 
 LAST_WORD = "tlbridge-prove-has-ended"
+MORE_SECONDS = 60  # at least, for what abc does before and after a search that has a limit
+TICK_SECONDS = 1.0
+Found = TypeVar("Found")
 PROVED, BOUNDED, FAILS, OPEN = "proved", "bounded", "fails", "open"
 
 
@@ -31,12 +35,17 @@ class Verdict:
 
 
 def ask(model_path: Path, steps: Sequence[str], seconds: float) -> Tuple[str, float]:
-    """Runs steps of abc on a model, and returns what it printed and its seconds of processor time. Errors: abc
-    died or printed no last word (4).
+    """Runs steps of abc on a model, and returns what it printed and its seconds of processor time.
+
+    The steps limit their search to `seconds`. If abc still runs after twice that time, and a minute later at least,
+    it is ended, and nothing of what it printed counts. Errors: abc died or printed no last word (4).
     """
     script = "; ".join([f"read_aiger {model_path}", *steps, f"echo {LAST_WORD}"])
-    done = run_tool(["yosys-abc", "-c", script], 100 * seconds + 3600)
+    limit = int(seconds) + max(int(seconds), MORE_SECONDS)
+    done = run_tool(["yosys-abc", "-c", script], 100 * seconds + 3600, None, limit)
     status, said = done.status, done.said
+    if status == -signal.SIGXCPU:
+        return "", done.seconds
     if status != 0 or LAST_WORD not in map(str.strip, said.splitlines()):
         how = f"was ended by signal {-status}" if status < 0 else f"ended with status {status}"
         raise ProveError(
@@ -75,19 +84,34 @@ def unbounded(model: Model, index: int, seconds: int, with_previous: bool = Fals
     return verdict(said, taken)
 
 
-def in_parallel(jobs: int, questions: Sequence[Tuple[int, Callable[[], Verdict]]]) -> Iterator[Tuple[int, Verdict]]:
-    """Asks all questions with `jobs` at once, and yields each number with its verdict as it comes. The first error
-    ends it.
+def no_tick() -> None:
+    """Does nothing."""
+
+
+def in_parallel(
+    jobs: int, questions: Sequence[Tuple[int, Callable[[], Found]]], tick: Callable[[], None] = no_tick
+) -> Generator[Tuple[int, Found], None, None]:
+    """Asks all questions with `jobs` at once, and yields each number with its result as it comes. The first error
+    ends it, and all tools that run. `tick` is called each second.
     """
-    with ThreadPoolExecutor(max_workers=max(1, jobs)) as pool:
-        waiting: Dict["Future[Verdict]", int] = {pool.submit(question): number for number, question in questions}
-        try:
-            for done in as_completed(waiting):
-                yield waiting[done], done.result()
-        except BaseException:
-            for one in waiting:
-                one.cancel()
-            raise
+    pool = ThreadPoolExecutor(max_workers=max(1, jobs))
+    numbers: Dict["Future[Found]", int] = {pool.submit(question): number for number, question in questions}
+    waiting = set(numbers)
+    try:
+        while waiting:
+            done, waiting = wait(waiting, TICK_SECONDS, FIRST_COMPLETED)
+            for one in done:
+                yield numbers[one], one.result()
+            tick()
+    except BaseException:
+        for one in numbers:
+            one.cancel()
+        while not all(one.done() for one in numbers):
+            RUNNING.end()
+            wait(numbers, 0.1)
+        raise
+    finally:
+        pool.shutdown()
 
 
 def counterexample(model: Model, index: int, frame: int, seconds: int, path: Path) -> List[Dict[str, int]]:

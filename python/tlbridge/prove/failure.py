@@ -6,7 +6,7 @@ import shutil
 import subprocess
 import sys
 from pathlib import Path
-from typing import Dict, Sequence
+from typing import Dict, Sequence, Set, Tuple
 
 from ..judge import find_program
 from . import engine
@@ -33,6 +33,12 @@ def show(session: Session, index: int, frame: int) -> None:
             "  a near beat is offered then. If the design sends parts of a beat before it accepts the beat, add "
             "--forwards-offered"
         )
+    bytes_sent, width = largest_message(table), max(link.width for link in session.design.links.values())
+    if bytes_sent > width and not words.largest:
+        say(
+            f"  a message of {bytes_sent} bytes is offered, which has more than one beat on both links. If your "
+            f"neighbours send none, add --largest {width}"
+        )
     if not shutil.which("iverilog") or not shutil.which("vvp"):
         say(
             "  inputs.txt: the inputs of proof.sv, step by step. There is no Icarus (`apt install iverilog`), "
@@ -54,6 +60,11 @@ def show(session: Session, index: int, frame: int) -> None:
         )
     )
     show_beats(out)
+    if session.options.same_cycle_response and responds_at_once(out / "manager.beats"):
+        say(
+            "  the manager responds in the cycle in which it accepts the request. If yours never does, add "
+            "--no-same-cycle-response"
+        )
     compare([link.width for link in session.design.links.values()], out)
 
 
@@ -76,6 +87,36 @@ def sends_offered(options: Options, name: str, last: Dict[str, int]) -> bool:
     letter = "a" if name.endswith(".SourceA") else name[0]
     near = "client" if letter in "ace" else "manager"
     return bool(last.get(f"free_{near}_{letter}_valid"))
+
+
+def largest_message(table: Sequence[Dict[str, int]]) -> int:
+    """Returns the bytes of the largest message of which a beat is offered, or 0. `table` has the inputs of each
+    step.
+    """
+    senders = ("client_a", "manager_b", "client_c", "manager_d")
+    sizes = [
+        1 << values.get(f"free_{sender}_size", 0)
+        for values in table
+        for sender in senders
+        if values.get(f"free_{sender}_valid")
+    ]
+    return max(sizes, default=0)
+
+
+def responds_at_once(path: Path) -> bool:
+    """Returns whether a request and a response of one source are on a link at the same time. `path` is a monitor file,
+    with its times in the file of that name and `.times`.
+    """
+    times = path.with_name(f"{path.name}.times")
+    if not path.is_file() or not times.is_file():
+        return False
+    requests: Set[Tuple[str, str]] = set()
+    responses: Set[Tuple[str, str]] = set()
+    for line, time in zip(path.read_text().splitlines(), times.read_text().splitlines()):
+        channel, _, _, _, source, *_ = [*line.split(), *5 * [""]]
+        if channel in ("A", "D"):
+            (requests if channel == "A" else responses).add((time, source))
+    return bool(requests & responses)
 
 
 def show_beats(out: Path) -> None:

@@ -102,8 +102,8 @@ def command_line() -> argparse.ArgumentParser:
         "--seconds",
         metavar="S",
         type=_number(1, 1000000, "a number of seconds"),
-        default=300,
-        help="of processor time, for each assertion and each of both steps [default: 300]",
+        default=100,
+        help="of processor time, for each search for one assertion [default: 100]",
     )
     proof.add_argument(
         "--only", metavar="REGEX", default="", help="only assertions whose names match, as a.Data or Head"

@@ -36,6 +36,14 @@ class Replayed:
     problem: str = ""
 
 
+def first_value(name: str, value: int) -> str:
+    """Returns a statement that gives a register its first value. An assignment needs a cast if the type of the register
+    has a name, and Icarus has no $deposit of a word of a memory.
+    """
+    number = f"{value.bit_length() or 1}'h{value:x}"
+    return f"proof.{name} = {number}" if name.endswith("]") else f"$deposit(proof.{name}, {number})"
+
+
 def bench_of(harness: Harness, table: Sequence[Dict[str, int]], two_clocks: bool, with_registers: bool) -> str:
     """Returns the text of the bench: each row of the counterexample is one step."""
     declared = "".join(f"    reg [{bits - 1}:0] {name} = 0;\n" for name, bits in harness.inputs)
@@ -45,7 +53,7 @@ def bench_of(harness: Harness, table: Sequence[Dict[str, int]], two_clocks: bool
     if with_registers and table:
         for name, value in table[0].items():
             if name.startswith("init dut."):
-                registers += f"        proof.{name[5:]} = {value.bit_length() or 1}'h{value:x};\n"
+                registers += f"        {first_value(name[5:], value)};\n"
     steps: List[str] = []
     for number, values in enumerate(table):
         steps.append(f"        // step {number}\n")

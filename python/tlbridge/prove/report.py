@@ -2,6 +2,7 @@
 from __future__ import annotations
 
 import sys
+import time
 from typing import List, Sequence
 
 from ..run import one_line
@@ -9,6 +10,7 @@ from .engine import FAILS, PROVED, Verdict
 from .harness import Harness, Options
 
 PROGRAM = "tlbridge-prove"
+NOTE_SECONDS = 30.0  # between two notes of progress, if standard error is no terminal
 
 
 def note(text: str) -> None:
@@ -24,6 +26,23 @@ def progress(text: str) -> None:
     """Shows what is going on in the last line of a terminal, until the next line is printed."""
     if sys.stderr.isatty():
         print(f"\r\033[K{text}", end="", file=sys.stderr, flush=True)
+
+
+class Progress:
+    """Shows what is going on: in the last line of a terminal, or else as a note every half minute."""
+
+    def __init__(self) -> None:
+        self.began = self.noted = time.monotonic()
+
+    def show(self, text: str) -> None:
+        """Shows a text, with the seconds since the run began."""
+        now = time.monotonic()
+        line = f"{text}, {now - self.began:.0f} s so far"
+        if sys.stderr.isatty():
+            progress(line)
+        elif now - self.noted >= NOTE_SECONDS:
+            self.noted = now
+            note(line)
 
 
 def stated(options: Options, harness: Harness) -> List[str]:

@@ -9,15 +9,16 @@ import time
 from dataclasses import replace
 from functools import cached_property
 from pathlib import Path
-from typing import Dict, List
+from typing import Dict, List, Tuple
 
 from ..verify.design import DesignError, described, read_design
+from .engine import in_parallel
 from .errors import TOOL, ProveError
 from .harness import TOP, Harness, is_cover, write_harness
 from .model import Model, Recipe, build, cache_folder, short_name
 from .options import choice_of, options_of, source_of
 from .projects import write_sby, write_tcl
-from .report import progress, say, stated, unit_of
+from .report import Progress, say, stated, unit_of
 from .sizes import check_sizes, sizes_of
 from .tools import find_tool, proof_files
 
@@ -29,7 +30,7 @@ class Session:
 
     def __init__(self, words: argparse.Namespace):
         self.words = words
-        self.began = time.monotonic()
+        self.shown = Progress()
         for option in ("out", "sby", "tcl"):
             folder = getattr(words, option)
             if folder and Path(folder).exists() and not Path(folder).is_dir():
@@ -61,8 +62,10 @@ class Session:
         """Returns the name of an assertion of `model` as it is printed."""
         return short_name(self.model.labels[index])
 
-    def progress(self, what: str, done: int, total: int) -> None:
-        progress(f"{what}: {done} of {total}, {time.monotonic() - self.began:.0f} s" if done < total else "")
+    def progress(self, what: str, done: int, total: int, seconds: int) -> None:
+        """Shows how many questions have a result. `seconds` of processor time are the limit of each."""
+        if done < total:
+            self.shown.show(f"{what}: {done} of {total}, each in up to {seconds} s of processor time")
 
     def describe(self) -> None:
         """Prints the links, and what a result holds under."""
@@ -101,9 +104,16 @@ class Session:
             ticks,
         )
         began = time.monotonic()
-        progress(f"{what}: yosys reads the design")
         cache = self.folder / "models" if self.words.no_cache else cache_folder()
-        model, was_there = build(recipe, cache, lambda netlist: check_sizes(netlist, self.sizes))
+
+        def make() -> Tuple[Model, bool]:
+            return build(recipe, cache, lambda netlist: check_sizes(netlist, self.sizes))
+
+        def tick() -> None:
+            self.shown.show(f"{what}: yosys reads the design")
+
+        tick()
+        ((_, (model, was_there)),) = in_parallel(1, [(0, make)], tick)
         how = "from the cache" if was_there else f"in {time.monotonic() - began:.0f} s"
         say(f"{what} of {len([label for label in model.labels if not is_cover(label)])} assertions, {how}")
         return model

@@ -3,14 +3,16 @@ from __future__ import annotations
 
 import contextlib
 import os
+import resource
 import shutil
 import signal
 import subprocess
 import tempfile
+import threading
 import time
 from dataclasses import dataclass
 from pathlib import Path
-from typing import List, Optional, Sequence
+from typing import List, Optional, Sequence, Set, Tuple
 
 from .errors import TOOL, ProveError
 
@@ -34,11 +36,58 @@ def find_tool(name: str) -> str:
     return path
 
 
-def run_tool(words: Sequence[str], seconds: float, folder: Optional[Path] = None) -> Ended:
+class Running:
+    """The tools that run at this time, by their process ids. A tool is waited for under the lock, so that no id is one
+    of a process that has ended.
+    """
+
+    def __init__(self) -> None:
+        self.lock = threading.Lock()
+        self.ids: Set[int] = set()
+
+    def add(self, pid: int, processor_seconds: Optional[int]) -> None:
+        """Adds a tool that has just started, and limits its processor time. A lower limit of the user holds."""
+        with self.lock:
+            self.ids.add(pid)
+            if processor_seconds is not None:
+                with contextlib.suppress(OSError, ValueError):
+                    _, most = resource.prlimit(pid, resource.RLIMIT_CPU)
+                    resource.prlimit(pid, resource.RLIMIT_CPU, (processor_seconds, most))
+
+    def wait(self, pid: int) -> Optional[Tuple[int, resource.struct_rusage]]:
+        """Returns the status of a tool and what it used, or nothing while it runs."""
+        with self.lock:
+            ended, status, usage = os.wait4(pid, os.WNOHANG)
+            if not ended:
+                return None
+            self.ids.discard(pid)
+            return status, usage
+
+    def kill(self, pid: int) -> None:
+        """Kills a tool, and waits for its end. It may have ended before."""
+        with self.lock, contextlib.suppress(ProcessLookupError, ChildProcessError):
+            self.ids.discard(pid)
+            os.kill(pid, signal.SIGKILL)
+            os.waitpid(pid, 0)
+
+    def end(self) -> None:
+        """Kills all tools."""
+        with self.lock:
+            for pid in self.ids:
+                with contextlib.suppress(ProcessLookupError):
+                    os.kill(pid, signal.SIGKILL)
+
+
+RUNNING = Running()
+
+
+def run_tool(
+    words: Sequence[str], seconds: float, folder: Optional[Path] = None, processor_seconds: Optional[int] = None
+) -> Ended:
     """Runs a tool to its end.
 
-    `seconds` is a limit of wall-clock time that no sound run reaches. Errors: the tool is missing, or reaches the
-    limit (4).
+    `seconds` is a limit of wall-clock time that no sound run reaches. After `processor_seconds` of processor time, the
+    signal SIGXCPU ends the tool. Errors: the tool is missing, or reaches the limit of wall-clock time (4).
     """
     find_tool(words[0])
     end = time.monotonic() + seconds
@@ -48,18 +97,18 @@ def run_tool(words: Sequence[str], seconds: float, folder: Optional[Path] = None
         )
         pause = 0.005
         try:
+            RUNNING.add(process.pid, processor_seconds)
             while True:
-                pid, status, usage = os.wait4(process.pid, os.WNOHANG)
-                if pid:
+                found = RUNNING.wait(process.pid)
+                if found is not None:
+                    status, usage = found
                     break
                 if time.monotonic() > end:
                     raise ProveError(f"{words[0]} did not end within {seconds:.0f} seconds: nothing is claimed", TOOL)
                 time.sleep(pause)
                 pause = min(0.1, 1.5 * pause)
         except BaseException:
-            with contextlib.suppress(ProcessLookupError, ChildProcessError):
-                os.kill(process.pid, signal.SIGKILL)
-                os.waitpid(process.pid, 0)
+            RUNNING.kill(process.pid)
             raise
         finally:
             process.returncode = 0  # it was waited for here
