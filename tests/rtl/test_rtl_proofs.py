@@ -206,7 +206,7 @@ def test_lemmas_and_data_of_d(tmp_path: Path) -> None:
 
 def outcome_of(kinds: Sequence[str], row: str = "A-4-2", tried_all: bool = True) -> Outcome:
     verdicts = {f"a.Data{number}": engine.Verdict(kind, 0, 1.0) for number, kind in enumerate(kinds)}
-    return Outcome(ROW[row], verdicts, 2.0, ("a.Data0", 1.0), 3, 4, ["SeesShort"], tried_all)
+    return Outcome(ROW[row], verdicts, 2.0, ("Data0", 1.0), 3, 4, ["SeesShort"], tried_all)
 
 
 def test_line_claims_no_more_than_was_proved() -> None:

@@ -1,11 +1,13 @@
 """Models of the steps of a row: some assertions of a model are to be proved, others, which are proved, are assumed."""
 from __future__ import annotations
 
+import re
 from pathlib import Path
 from typing import Sequence
 
+from tlbridge.prove.engine import ask
 from tlbridge.prove.errors import TOOL, ProveError
-from tlbridge.prove.model import Model, simplify
+from tlbridge.prove.model import Model
 
 
 def step_model(model: Model, proves: Sequence[int], given: Sequence[int], folder: Path) -> Model:
@@ -29,5 +31,13 @@ def step_model(model: Model, proves: Sequence[int], given: Sequence[int], folder
     sizes = b"aig %d %d %d 0 %d %d %d" % (top, inputs, latches, gates, len(kept), len(assumed))
     folder.mkdir(parents=True)
     (folder / "model.aig").write_bytes(b"\n".join([sizes, *lines[:latches], *kept, *assumed, gates_part]))
-    simplify(folder, len(kept))
+    fold(folder, len(kept))
     return Model(folder, tuple(model.labels[number] for number in proves))
+
+
+def fold(folder: Path, outputs: int) -> None:
+    """Writes `small.aig`, in which the constraints are part of the assertions. abc simplifies it for each question."""
+    said, _ = ask(folder / "model.aig", ["fold", "strash", f"write_aiger {folder / 'small.aig'}", "print_stats"], 60)
+    found = re.search(r"i/o *= *\d+/ *(\d+)", re.sub(r"\x1b\[[0-9;]*m", "", said))
+    if not found or int(found[1]) != outputs or not (folder / "small.aig").is_file():
+        raise ProveError(f"the model of a step does not have {outputs} outputs: nothing is proved", TOOL)

@@ -10,7 +10,6 @@ from .rows import ADDRESS_BITS, SINK_BITS, SOURCE_BITS, Row
 
 HEAD_BITS = {"A": 8, "B": 8, "C": 8, "D": 5}  # of a word: the head without opcode and size
 SOURCE_BIT = {"A": 4, "D": 2}  # .. its bit with the source
-COUNT_BITS = 3
 RELEASE_ACK = 6
 WATCHED = {
     "near_is_watched": "comes",
@@ -61,7 +60,7 @@ def lemma_lines(row: Row) -> Lines:
         watch_probes(out, row, channel)
         if row.words(channel):
             word_lemmas(out, row, channel)
-            if row.is_deep and channel == row.channel:
+            if channel == row.channel:
                 deep_lemmas(out, row)
         else:
             moves_of_wires(out, channel)
@@ -117,6 +116,54 @@ def word_lemmas(out: Lines, row: Row, channel: str) -> None:
         ports.update({name: "1'b0" for name in WATCHED})
         ports.update({"value": "8'd0", "bytes": f"{8 * words}'d0"})
     out.instance("tl_word_lemmas", {"WORDS": words}, f"{letter}_words", ports)
+    if words >= 4:
+        chain_lemmas(out, row, channel)
+
+
+def converter_of(row: Row, channel: str) -> str:
+    """Returns the place of the converter of a channel, inside the harness."""
+    near, far = (getattr(row, side) for side in sides(channel))
+    place = f"dut.{'b_c_e.' if channel in 'BC' else ''}{channel.lower()}"
+    return f"{place}.{'narrows.narrow' if near > far else 'widens.widen'}"
+
+
+def slot_bits_of(row: Row) -> int:
+    """Returns the bits of the number of a slot."""
+    return max(1, (max(row.client, row.manager) // min(row.client, row.manager)).bit_length() - 1)
+
+
+def chain_lemmas(out: Lines, row: Row, channel: str) -> None:
+    """Adds the lemmas about the order of the words in a deep queue of a channel."""
+    letter, words, wide = channel.lower(), row.words(channel), max(row.client, row.manager)
+    near, far = (getattr(row, side) for side in sides(channel))
+    byte_bits, converter, watch = row.largest.bit_length(), converter_of(row, channel), f"watch.{letter}.watch"
+    probes = {
+        "gathers": (f"{letter}_words.gathers", 1),
+        "gathered": (f"{letter}_words.gathered", 1),
+        "in_word": (f"{converter}.{'begun' if near > far else 'gathers'}", 1),
+        "next_slot": (f"{converter}.next_slot", slot_bits_of(row)),
+        "near_event": (f"{watch}.near_event", 1),
+        "near_has_data": (f"{watch}.near_has_data", 1),
+        "near_size": (f"{watch}.near_size", row.size_bits),
+        "near_left": (f"{watch}.near_left", byte_bits),
+        "far_left": (f"{watch}.far_left", byte_bits),
+    }
+    if row.by_contracts:
+        del probes["in_word"]
+        out.lines.append(f"wire {letter}_chain_in_word = {letter}_live && {letter}_any_in_word;")
+    for name, (inner, bits) in probes.items():
+        out.probe(f"{letter}_chain_{name}", inner, bits)
+    ports = {name: f"{letter}_chain_{name}" for name in (*probes, "in_word")}
+    ports.update({name: f"{letter}_{name}" for name in ("puts", "gets", "count", "first", "near_begins")})
+    opcode = HEAD_BITS[channel] + 1 + 8 * wide + row.size_bits
+    all_words = [f"{letter}_word_{number}" for number in reversed(range(words))]
+    kind = "~{0}[{1}]" if channel in "AB" else "{0}[{1}]"
+    bit = opcode + (2 if channel in "AB" else 0)
+    ports["with_data"] = f"{{{', '.join(kind.format(word, bit) for word in all_words)}}}"
+    ports["sizes"] = f"{{{', '.join(f'{word}[{opcode - 1}:{opcode - row.size_bits}]' for word in all_words)}}}"
+    sizes = {"WORDS": words, "BYTE_BITS": byte_bits, "SIZE_BITS": row.size_bits, "SLOT_BITS": slot_bits_of(row)}
+    sizes.update({"NARROW": min(near, far), "WIDE": wide, "NARROWS": int(near > far)})
+    out.instance("tl_chain_lemmas", sizes, f"{letter}_words_chain_lemmas", ports)
 
 
 def deep_lemmas(out: Lines, row: Row) -> None:
@@ -124,25 +171,27 @@ def deep_lemmas(out: Lines, row: Row) -> None:
     letter, words, wide = row.channel.lower(), row.words(row.channel), max(row.client, row.manager)
     near, far = (getattr(row, side) for side in sides(row.channel))
     byte_bits = row.largest.bit_length()
-    converter = f"dut.{'b_c_e.' if letter in 'bc' else ''}{letter}."
-    converter += "narrows.narrow" if near > far else "widens.widen"
-    slot_bits = max(1, (wide // min(near, far)).bit_length() - 1)
+    converter, slot_bits = converter_of(row, row.channel), slot_bits_of(row)
     inner = {
         f"{letter}_words": {"watched": words, "holds": words, "gathered": 1, "gathered_watched": 1, "gathered_byte": 1},
         f"watch.{letter}.watch": {
             **{name: 1 for name in ("picked", "begun", "done", "has_data", "near_open")},
-            **{name: COUNT_BITS for name in ("held", "ahead_kept")},
+            **{name: row.count_bits for name in ("held", "ahead_kept")},
             **{name: byte_bits for name in ("near_left", "near_count_kept", "far_count_kept", "number_kept")},
             **{name: 3 for name in ("near_power", "far_power", "wide_power")},
             **{name: 1 for name in ("partial", "bad_kept", "masked_in_kept")},
             "lane": 7,
-            "size": row.size_bits,
-            "head": 3 + HEAD_BITS[row.channel],
+            **{name: 1 for name in ("comes", "near_has_data", "near_partial")},
+            **{name: row.size_bits for name in ("size", "near_size")},
+            **{name: 3 + HEAD_BITS[row.channel] for name in ("head", "near_head")},
         },
         converter: {"next_slot": slot_bits},
     }
     ports = {"first": f"{letter}_first", "count": f"{letter}_count", "in_word": "deep_in_word"}
-    out.probe("deep_in_word", f"{converter}.{'begun' if near > far else 'gathers'}")
+    if row.by_contracts:
+        out.lines.append(f"wire deep_in_word = {letter}_live && {letter}_any_in_word;")
+    else:
+        out.probe("deep_in_word", f"{converter}.{'begun' if near > far else 'gathers'}")
     for place, names in inner.items():
         for name, bits in names.items():
             out.probe(f"deep_{name}", f"{place}.{name}", bits)
@@ -159,10 +208,48 @@ def deep_lemmas(out: Lines, row: Row) -> None:
     masked, mask = row.channel in "AB", opcode + 3
     masks = ", ".join(f"{word}[{mask + wide - 1}:{mask}]" for word in all_words)
     ports["masks"] = f"{{{masks}}}" if masked else f"{words * wide}'d0"
-    sizes = {"WORDS": words, "COUNT_BITS": COUNT_BITS, "BYTE_BITS": byte_bits, "SIZE_BITS": row.size_bits}
+    sizes = {"WORDS": words, "COUNT_BITS": row.count_bits, "BYTE_BITS": byte_bits, "SIZE_BITS": row.size_bits}
     sizes.update({"WIDE": wide, "MASKED": int(masked)})
     sizes.update({"HEAD_BITS": 3 + HEAD_BITS[row.channel], "SLOT_BITS": slot_bits, "NARROWS": int(near > far)})
     out.instance("tl_deep_lemmas", sizes, f"{letter}_words_deep_lemmas", ports)
+    part_lemmas(out, row, converter, slot_bits)
+
+
+def part_lemmas(out: Lines, row: Row, converter: str, slot_bits: int) -> None:
+    """Adds the lemmas about the word that is written, and about its part in a converter in front of the queue."""
+    letter, words, wide = row.channel.lower(), row.words(row.channel), max(row.client, row.manager)
+    near, far = (getattr(row, side) for side in sides(row.channel))
+    narrows, watch = near > far, f"watch.{letter}.watch"
+    byte_bits = row.largest.bit_length()
+    held = []
+    for lane in range(wide):
+        has_place = not narrows and lane < wide - near
+        if has_place:
+            out.probe(f"held_{lane}", f"{converter}.lanes[{lane}].early.held", 9)
+        held.append(f"held_{lane}" if has_place else "9'd0")
+    if not narrows:
+        out.probe("deep_corrupt_held", f"{converter}.corrupt_held")
+    for name, bits in (("number", byte_bits), ("masked_in", 1), ("bad", 1), ("value_kept", 8)):
+        out.probe(f"now_{name}", f"{watch}.{name}", bits)
+    for name in ("gathers_watched", "gathers_byte"):
+        out.probe(f"deep_{name}", f"{letter}_words.{name}")
+    top = 3 + row.size_bits + HEAD_BITS[row.channel] + 1 + 8 * wide
+    masked = row.channel in "AB"
+    queue = place_of_crossing(row, row.channel) + (".queue" if row.by_contracts else "")
+    out.probe("deep_put", f"{queue}.w_data", top + (wide if masked else 0))
+    put = f"{f'deep_put[{top + wide - 1}:{top}]' if masked else f'{wide}' + chr(39) + 'd0'}, deep_put[{8 * wide}:0]"
+    datas = [f"{letter}_word_{number}[{8 * wide - 1}:0]" for number in reversed(range(words))]
+    names = "watched gathered_watched gathered_byte gathers_watched gathers_byte next_slot picked has_data size partial"
+    names += " lane number_kept masked_in_kept bad_kept"
+    ports = {name: f"deep_{name}" for name in names.split()}
+    ports.update({name: f"now_{name}" for name in ("number", "masked_in", "bad", "value_kept")})
+    ports.update({name: f"deep_{name}" for name in ("near_power", "wide_power")})
+    ports.update({"near_count": "deep_near_count_kept", "value": f"{letter}_value", "puts": f"{letter}_puts"})
+    ports.update({"put": f"{{{put}}}", "datas": f"{{{', '.join(datas)}}}", "held": f"{{{', '.join(reversed(held))}}}"})
+    ports["corrupt_held"] = "1'b0" if narrows else "deep_corrupt_held"
+    sizes = {"WORDS": words, "BYTE_BITS": byte_bits, "SIZE_BITS": row.size_bits, "SLOT_BITS": slot_bits}
+    sizes.update({"NARROW": min(near, far), "WIDE": wide, "MASKED": int(masked), "NARROWS": int(narrows)})
+    out.instance("tl_part_lemmas", sizes, f"{letter}_words_part_lemmas", ports)
 
 
 def words_of_contract(out: Lines, row: Row, channel: str, bits: int) -> None:
@@ -170,9 +257,31 @@ def words_of_contract(out: Lines, row: Row, channel: str, bits: int) -> None:
     letter, queue = channel.lower(), f"{place_of_crossing(row, channel)}.queue"
     for name in ("puts", "gets"):
         out.probe(f"{letter}_{name}", f"{queue}.{name}")
-    out.probe(f"{letter}_count", f"{queue}.count", row.words(channel).bit_length())
+    clean_lemmas(out, row, channel)
     for number in range(row.words(channel)):
         out.probe(f"{letter}_word_{number}", f"{queue}.words[{number}]", bits)
+
+
+def clean_lemmas(out: Lines, row: Row, channel: str) -> None:
+    """Adds the count of the words of a queue between two clocks, which is 0 before the first message, and the lemma
+    that it is.
+    """
+    letter, words = channel.lower(), row.words(channel)
+    count_bits, (near, far) = words.bit_length(), sides(channel)
+    narrows = getattr(row, near) > getattr(row, far)
+    out.probe(f"{letter}_any_count", f"{place_of_crossing(row, channel)}.queue.count", count_bits)
+    out.probe(f"{letter}_any_in_word", f"{converter_of(row, channel)}.{'begun' if narrows else 'gathers'}")
+    out.lines.append(f"wire {letter}_live;")
+    value = f"{letter}_live ? {letter}_any_count : {count_bits}'d0"
+    out.lines.append(f"wire [{count_bits - 1}:0] {letter}_count = {value};")
+    ports = {
+        "near_begins": f"{letter}_near_begins",
+        "far_moves": f"{far}_tick && {far}_{letter}_valid && {far}_{letter}_ready",
+        "count": f"{letter}_any_count",
+        "in_word": f"{letter}_any_in_word",
+        "live": f"{letter}_live",
+    }
+    out.instance("tl_clean_lemmas", {"WORDS": words}, f"{letter}_words_clean_lemmas", ports)
 
 
 def words_of_fifo(out: Lines, row: Row, channel: str, bits: int) -> None:
@@ -273,7 +382,7 @@ def source_lemmas(out: Lines, row: Row) -> None:
     out.probe("chosen", "watch.d.source")
     for channel, inside in (("A", "requests_inside"), ("D", "responses_inside")):
         letter = channel.lower()
-        out.probe(inside, f"watch.d.{inside}", COUNT_BITS)
+        out.probe(inside, f"watch.d.{inside}", row.count_bits)
         out.probe(f"{letter}_in", f"watch.d.{letter}_in")
         top = 3 + row.size_bits + HEAD_BITS[channel] + 8 * wide
         chosen, words = [], max(1, row.words(channel))
@@ -292,7 +401,7 @@ def source_lemmas(out: Lines, row: Row) -> None:
             "is_chosen": f"{letter}_chosen",
             "inside": inside,
         }
-        out.instance("tl_source_lemmas", {"WORDS": words, "COUNT_BITS": COUNT_BITS}, f"{letter}_sources", ports)
+        out.instance("tl_source_lemmas", {"WORDS": words, "COUNT_BITS": row.count_bits}, f"{letter}_sources", ports)
 
 
 def lane_lemmas(out: Lines, row: Row) -> None:

@@ -104,17 +104,17 @@ class Row:
     def size_bits(self) -> int:
         return (self.largest.bit_length() - 1).bit_length()
 
+    @property
+    def count_bits(self) -> int:
+        """The bits of the counts of messages in the watch: of those in a full FIFO, and of two more."""
+        return max(3, (self.depth + 2).bit_length())
+
     def words(self, channel: str) -> int:
         """The most words in the FIFO of a channel: 0 if it is wires."""
         near, far = (self.client, self.manager) if channel in "ACE" else (self.manager, self.client)
         if self.depth == 0 and near > far and channel != "E":
             return 2
         return self.depth + (self.clocks == 2)
-
-    @property
-    def is_deep(self) -> bool:
-        """Whether the queue of the channel has four words or more, so that the proof needs more lemmas."""
-        return self.words(self.channel) >= 4
 
     @property
     def parameters(self) -> Dict[str, str]:
@@ -172,34 +172,41 @@ def unneeded(channels: str) -> str:
 LANES = r"_lemmas\.(Lane|Held|Aligned)$"
 
 
-def stages_of(channel: str, is_deep: bool) -> Tuple[Stage, ...]:
+def stages_of(channel: str) -> Tuple[Stage, ...]:
     """Returns the stages of a proof by lemmas. Steps whose lemmas a row does not have are left out."""
     letter = channel.lower()
-    watch = Step(rf"^{letter}\.(?!Source)", rf"^{letter}_words(_deep_lemmas)?\.|" + LANES)
-    rules = Step(r"^far_rules\.", rf"^{letter}\.|^request_lemmas\.")
-    places = rf"^{letter}_words\.(Begins|Empty|Watched|Here)$"
-    first_and_count = rf"^{letter}_words\.(Begins|Empty)$"
-    marks: Tuple[Step, ...] = (Step(places),)
-    deep = r"_words_deep_lemmas\."
-    if is_deep:
-        places += "|" + deep
-        marks = (
-            Step(first_and_count + "|" + deep + "Count$"),
-            Step(deep + r"(Kind|Size|Fields|Near)$", first_and_count + "|" + deep),
-            Step(deep + r"Marks$", first_and_count + "|" + deep),
-            Step(rf"^{letter}_words\.(Watched|Here)$", first_and_count + "|" + deep),
-            Step(deep + r"(Bad|Masked|Active)$", first_and_count + "|" + deep),
-        )
-    words = (*marks, Step(rf"^{letter}_words\.Value", places))
     if channel == "E":
         return (Stage((Step(r"^e\."),), others(channel)),)
+    marks = rf"^{letter}_words(_(clean|deep|part|chain)_lemmas)?\."
+    known = rf"^{letter}_words\.(Begins|Empty)$|{letter}_words_(clean|chain|deep)_lemmas\.|" + LANES
+    clean = r"_words_clean_lemmas\."
+    words = (
+        Step(clean),
+        Step(rf"^{letter}_words\.Empty$|_words_deep_lemmas\.Count$", clean),
+        Step(
+            rf"^{letter}_words\.Begins$|_words_chain_lemmas\.",
+            rf"^{letter}_words\.Empty$|_words_deep_lemmas\.Count$|" + clean,
+        ),
+        Step(r"_words_deep_lemmas\.(Near|Later|Far|None)$", known),
+        Step(r"_words_deep_lemmas\.(Kind|Size|Fields)$", known),
+        Step(r"_words_deep_lemmas\.Marks$", known),
+        Step(rf"^{letter}_words\.(Watched|Here)$", known),
+        Step(r"_words_part_lemmas\.(Fits|Part)", known),
+        Step(r"_words_part_lemmas\.Put", marks + "|" + LANES),
+        Step(r"_words_deep_lemmas\.(Bad|Masked|Active)$|_words_part_lemmas\.Idle$", marks + "|" + LANES),
+        Step(rf"^{letter}_words\.Value", marks + "|" + LANES),
+        Step(rf"^{letter}\.(?!Source)", marks + "|" + LANES),
+        Step(r"^far_rules\.", rf"^{letter}\.|^request_lemmas\."),
+    )
     if channel != "D":
-        return (Stage((*words, watch, rules), others(channel)),)
+        return (Stage(words, others(channel)),)
     in_flight = tuple(
         Stage(
             (
-                Step(rf"^{one}_words\.(Begins|Empty)$"),
-                Step(rf"^{one}_sources\.Inside$", rf"^{one}_words\.(Begins|Empty)$"),
+                Step(rf"^{one}_words_clean_lemmas\."),
+                Step(rf"^{one}_words\.Empty$", rf"^{one}_words_clean_lemmas\."),
+                Step(rf"^{one}_words\.Begins$|{one}_words_chain_lemmas\.", rf"^{one}_words(_clean_lemmas)?\."),
+                Step(rf"^{one}_sources\.Inside$", rf"^{one}_words(_(clean|chain)_lemmas)?\."),
                 Step(f"Source{one.upper()}$", rf"^{one}_"),
             ),
             others(one),
@@ -218,20 +225,7 @@ def stages_of(channel: str, is_deep: bool) -> Tuple[Stage, ...]:
             Step(r"^request_lemmas\.", counts + r"|_lemmas\."),
         )
     )
-    rest = Stage(
-        (
-            Step(deep + r"Count$"),
-            Step(deep + r"(Kind|Size|Fields|Near)$", r"^d_words\.(Begins|Empty)$|" + deep),
-            Step(deep + r"Marks$", r"^d_words\.(Begins|Empty)$|" + deep),
-            Step(r"^d_words\.(Watched|Here)$", LANES + r"|^d_words\.(Begins|Empty)$|" + deep),
-            Step(deep + r"(Bad|Masked|Active)$", r"^d_words\.(Begins|Empty)$|" + deep),
-            Step(r"^d_words\.Value", LANES + "|" + places),
-            watch,
-            rules,
-        ),
-        others("D"),
-        ("dut.d_lane", "watch.d.lane"),
-    )
+    rest = Stage(words, others("D"), ("dut.d_lane", "watch.d.lane"))
     return (*in_flight, lanes, rest)
 
 
@@ -252,6 +246,11 @@ NAME = re.compile(
     r"(-rules)?(?:-within-(\d))?"
 )
 NAME_OF_FIFO = re.compile(r"FIFO-([248])(-two-clocks)?")
+
+
+def is_name(name: str) -> bool:
+    """Whether a row can have this name."""
+    return bool(NAME.fullmatch(name) or NAME_OF_FIFO.fullmatch(name))
 
 
 def row_named(name: str) -> Union[Row, Refinement]:
@@ -287,9 +286,7 @@ def row_named(name: str) -> Union[Row, Refinement]:
         return dataclasses.replace(row, stages=(Stage((Step(r"Late$|Ready$"),), others(channel)),))
     if len(channel) > 1:
         return dataclasses.replace(row, stages=())
-    return dataclasses.replace(
-        row, stages=stages_of(channel, row.is_deep), by_lemmas=channel != "E", by_contracts=row.clocks == 2
-    )
+    return dataclasses.replace(row, stages=stages_of(channel), by_lemmas=channel != "E", by_contracts=row.clocks == 2)
 
 
 NAMES = """

@@ -23,15 +23,30 @@ from tlbridge.verify.design import DesignError, Source, read_design
 
 from .given import step_model
 from .lemmas import gray_lines, lemma_lines, place_of_crossing, sides
-from .rows import NOT_TRIED, OTHER_ROWS, ROWS, Bound, Refinement, Row, Stage, unneeded
+from .rows import NOT_TRIED, OTHER_ROWS, ROWS, Bound, Refinement, Row, Stage, is_name, row_named, unneeded
 
 ROOT = Path(__file__).resolve().parent.parent.parent
 HERE = Path(__file__).resolve().parent
 CONTRACTS = HERE / "contracts.sv"
-COVER_FRAMES, COVER_SECONDS = 16, 60  # at most
+COVER_FRAMES, COVER_SECONDS = 16, 5  # at most
 REFINEMENT_COVER_FRAMES = 60  # the reset at power-up takes 12 cycles
 TICKS = {"client_clock": "client_tick", "manager_clock": "manager_tick"}
 SYNCHRONIZER = ROOT / "tests" / "rtl" / "formal" / "tl_synchronizer.sv"
+# Assertions of a step that match the same one are proved together
+TOGETHER = (
+    r"\.Data\d$",
+    r"_words\.Value\d$",
+    r"^[a-e]\.(Mask|Lanes)$",
+    r"^[a-e]\.(Corrupt|Early|Invented|Room|Zeros)$",
+    r"_words\.Empty$|_words_deep_lemmas\.Count$",
+    r"_words\.Begins$|_words_chain_lemmas\.",
+    r"_words\.(Watched|Here)$",
+    r"_words_deep_lemmas\.(Near|Later|Far|None)$",
+    r"_words_deep_lemmas\.(Kind|Size|Fields)$",
+    r"_part_lemmas\.(Fits|Part)",
+    r"_part_lemmas\.Put",
+    r"_deep_lemmas\.(Bad|Masked|Active)$|_part_lemmas\.Idle$",
+)
 REPLACED = ("tl_async_fifo.sv", "tl_fifo.sv", "tl_reset.sv", "tl_synchronizer.sv")
 
 
@@ -103,14 +118,15 @@ def recipe_of(row: Union[Row, Refinement], stage: Stage, rtl: Path, folder: Path
         lanes_by_client_address=row.manager > row.client,
         two_clocks=row.clocks == 2,
         max_wait=row.within,
+        count_bits=row.count_bits,
     )
     proof, probes = [*map(str, proof_files()), str(path)], {}
     if row.by_lemmas:
         lemmas = lemma_lines(row)
         options, probes = dataclasses.replace(options, extra_lines=lemmas.text), lemmas.probes
-        proof.insert(0, str(HERE / "lemmas.sv"))
-        if row.is_deep:
-            proof.insert(0, str(HERE / "deep.sv"))
+        proof = [str(HERE / "lemmas.sv"), str(HERE / "deep.sv"), *proof]
+        if any(row.words(channel) >= 4 for channel in row.channel):
+            proof.insert(0, str(HERE / "chain.sv"))
         if row.rules:
             proof.append(str(HERE / "rules.sv"))
     if row.by_contracts:
@@ -283,18 +299,62 @@ def prove_steps(model: Model, stage: Stage, outcome: Outcome, folder: Path, jobs
         ]
         if not tried:
             continue
-        part = step_model(model, tried, given, folder / str(count))
-        questions = [(place, lambda place=place: engine.unbounded(part, place, seconds)) for place in range(len(tried))]
-        for place, found in engine.in_parallel(jobs, questions):
-            name = names[tried[place]]
-            outcome.verdicts[name] = found
-            outcome.seconds += found.seconds
-            outcome.slowest = max(outcome.slowest, (name, found.seconds), key=lambda pair: pair[1])
-            print(f"  {row.name} {name}: {words_of(found)}, {found.seconds:.1f} s", flush=True)
+        groups = [[tried[place] for place in group] for group in together([names[number] for number in tried])]
+        part = step_model(model, [number for group in groups for number in group], given, folder / str(count))
+        ask_groups(part, [[names[number] for number in group] for group in groups], outcome, jobs, seconds)
         if any(outcome.verdicts[names[number]].kind != PROVED for number in tried) and step != stage.steps[-1]:
             print(f"  {row.name}: a lemma is not proved, so the next step is not tried", flush=True)
             return False
     return not outcome.left
+
+
+def together(names: Sequence[str]) -> List[List[int]]:
+    """Returns the places of these names, in groups that are proved together: those that match the same of TOGETHER.
+    A name that matches none is alone.
+    """
+    groups: Dict[str, List[int]] = {}
+    for place, name in enumerate(names):
+        pattern = next((one for one in TOGETHER if re.search(one, name)), name)
+        groups.setdefault(pattern, []).append(place)
+    return list(groups.values())
+
+
+def ask_groups(part: Model, groups: Sequence[Sequence[str]], outcome: Outcome, jobs: int, seconds: int) -> None:
+    """Asks for a proof of each group, whose names are those of the outputs of `part` in order. A proof of a group is
+    one invariant for all its assertions. If there is none, each is asked for by itself.
+    """
+    starts = [sum(map(len, groups[:number])) for number in range(len(groups))]
+    questions = [
+        (number, lambda start=start, group=group: conjunction(part, start, len(group), seconds))
+        for number, (start, group) in enumerate(zip(starts, groups))
+    ]
+    left: List[Tuple[int, str]] = []
+    for number, found in engine.in_parallel(jobs, questions):
+        outcome.seconds += found.seconds
+        if found.kind != PROVED and len(groups[number]) > 1:
+            left += [(starts[number] + place, name) for place, name in enumerate(groups[number])]
+        else:
+            note(outcome, groups[number], found)
+    alone = [(place, lambda place=place: engine.unbounded(part, place, seconds)) for place, _ in left]
+    for place, found in engine.in_parallel(jobs, alone):
+        outcome.seconds += found.seconds
+        note(outcome, [dict(left)[place]], found)
+
+
+def conjunction(part: Model, start: int, count: int, seconds: int) -> Verdict:
+    """Looks for a proof of `count` assertions of a model from `start` on, all with one invariant."""
+    if count == 1:
+        return engine.unbounded(part, start, seconds)
+    steps = [f"cone -s -O {start} -R {count}", "orpos", "scorr", "dc2", f"pdr -T {seconds}"]
+    return engine.verdict(*engine.ask(part.small, steps, seconds))
+
+
+def note(outcome: Outcome, names: Sequence[str], found: Verdict) -> None:
+    """Notes what abc found of these assertions together."""
+    outcome.verdicts.update({name: found for name in names})
+    label = ", ".join(grouped(names))
+    outcome.slowest = max(outcome.slowest, (label, found.seconds), key=lambda pair: pair[1])
+    print(f"  {outcome.row.name} {label}: {words_of(found)}, {found.seconds:.1f} s", flush=True)
 
 
 def words_of(found: Verdict) -> str:
@@ -354,7 +414,7 @@ def line_of(one: Outcome) -> str:
         bounded = f"{row.bound.cycles} cycles, {share}: {', '.join(grouped(one.bounded))}. {row.bound.obstacle}"
     kinds = f"{one.reached} of {one.covers}" + (f", not {', '.join(one.not_reached)}" if one.not_reached else "")
     name, slowest = one.slowest
-    slow = f"{name.rpartition('.')[2]} {slowest:.0f}" if name else "-"
+    slow = f"{name} {slowest:.0f}" if name else "-"
     place = f"{letters(row.channel)} | {row.client}:{row.manager}" if isinstance(row, Row) else "FIFO | -"
     if isinstance(row, Refinement) and row.clocks == 2:
         place = "FIFO and reset | -"
@@ -373,9 +433,11 @@ def is_lemma(name: str) -> bool:
 def grouped(names: Sequence[str]) -> List[str]:
     """Returns the names without their channel, `Data0` to `Data7` as one word if all are there."""
     short = sorted({name.rpartition(".")[2] for name in names})
-    bits = [name for name in short if re.fullmatch(r"Data\d", name)]
-    others = [name for name in short if name not in bits]
-    return others + (["Data0 to Data7"] if len(bits) == 8 else bits)
+    for word in ("Data", "Value"):
+        bits = [name for name in short if re.fullmatch(rf"{word}\d", name)]
+        if len(bits) == 8:
+            short = [name for name in short if name not in bits] + [f"{word}0 to {word}7"]
+    return short
 
 
 def command_line() -> argparse.ArgumentParser:
@@ -408,11 +470,11 @@ def main(arguments: Optional[Sequence[str]] = None) -> int:
         for what, why in NOT_TRIED:
             print(f"no row: {what}: {why}")
         return 0
-    unknown = [name for name in words.rows if name not in known]
+    unknown = [name for name in words.rows if not is_name(name)]
     if unknown:
         print(f"prove-rtl: there is no row {unknown[0]}; --list names all", file=sys.stderr)
         return 2
-    chosen = [known[name] for name in words.rows] or list(ROWS)
+    chosen = [known.get(name) or row_named(name) for name in words.rows] or list(ROWS)
     outcomes = []
     began = time.monotonic()
     try:
