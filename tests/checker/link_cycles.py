@@ -3,7 +3,7 @@ rules.
 """
 import random
 from dataclasses import replace
-from typing import Any, Dict, Iterable, Iterator, List, Optional, Set, Tuple
+from typing import Dict, Iterable, Iterator, List, Optional, Set, Tuple
 
 from checker_model import CHANNELS, NAMES, Beat, Checker, Settings, answers_a_request, has_data
 from tlbridge.traffic import Draws

@@ -5,7 +5,6 @@ and what is printed. The answers of tools are made up.
 import argparse
 import json
 import os
-import time
 from pathlib import Path
 from typing import Any, Dict, List, Sequence, Tuple
 
@@ -20,7 +19,7 @@ from tlbridge.prove.model import Model
 from tlbridge.prove.options import command_line, options_of
 from tlbridge.prove.remedies import REMEDIES, remedy_of
 from tlbridge.prove.replay import Replayed
-from tlbridge.prove.report import stated
+from tlbridge.prove.report import Progress, stated
 from tlbridge.prove.search import Search
 from tlbridge.prove.session import Session
 from tlbridge.verify.design import Source
@@ -33,7 +32,7 @@ def a_session(folder: Path, labels: Sequence[str] = LABELS, folded: Sequence[str
     made.words = argparse.Namespace(
         **{**given, "out": str(folder / "out"), "top": "dut", "sby": "", "tcl": "", **words}
     )
-    made.options, made.began, made.frames = Options(reset_cycles=2), time.monotonic(), 22
+    made.options, made.shown, made.frames = Options(reset_cycles=2), Progress(), 22
     made.model, made.harness, made.folder = Model(folder, tuple(labels), tuple(folded)), HARNESS, folder
     made.source, made.design = Source("dut", ("dut.sv",)), a_design()
     return made
@@ -257,9 +256,9 @@ def test_a_search_in_two_steps(
 ) -> None:
     """First in 8 cycles after the reset, for a part of the time, then in all. Each assertion has one line."""
     asked, search = searched(tmp_path, monkeypatch, {}, seconds=60)
-    assert asked == [(at, 10, 20) for at in range(3)] + [(at, 22, 60) for at in range(3)]
+    assert asked[:3] == [(at, 10, 20) for at in range(3)] and sorted(asked[3:]) == [(at, 22, 60) for at in range(3)]
     assert [search.verdicts[at] for at in range(3)] == [Verdict(BOUNDED, 22, 0.5)] * 3
-    lines = capsys.readouterr().out.splitlines()
+    lines = sorted(capsys.readouterr().out.splitlines())
     assert lines[0].split() == "a.Data0 no counterexample in 20 cycles 0.5 s".split()
     assert [line.split()[0] for line in lines] == ["a.Data0", "a.Invented", "d.SourceA"]
     assert search.first_failure() is None
@@ -280,7 +279,7 @@ def test_a_search_in_one_step(
     monkeypatch.setattr(engine, "bounded", bounded)
     Search(short).run([0, 2])
     assert asked == [(0, 10, 60), (2, 10, 60)]
-    assert [line.split()[0] for line in capsys.readouterr().out.splitlines()] == ["a.Data0", "d.SourceA"]
+    assert sorted(line.split()[0] for line in capsys.readouterr().out.splitlines()) == ["a.Data0", "d.SourceA"]
 
 
 def test_a_search_ends_at_a_short_counterexample(
@@ -292,7 +291,7 @@ def test_a_search_ends_at_a_short_counterexample(
     assert len(asked) == 3 and search.first_failure() == 1
     assert [line.split()[0] for line in capsys.readouterr().out.splitlines()] == ["a.Invented", "a.Data0", "d.SourceA"]
     asked, search = searched(tmp_path, monkeypatch, fails, keep_going=True)
-    assert asked[3:] == [(0, 22, 9), (2, 22, 9)] and search.verdicts[1] == Verdict(FAILS, 6, 0.5)
+    assert sorted(asked[3:]) == [(0, 22, 9), (2, 22, 9)] and search.verdicts[1] == Verdict(FAILS, 6, 0.5)
 
 
 # ---- the command
@@ -373,11 +372,11 @@ def test_a_proof_in_a_smaller_model(
     monkeypatch.setattr(engine, "unbounded", unbounded)
     monkeypatch.setattr(Session, "build_small", lambda _, letter: {"D": small}[letter])
     search = Search(a_session(tmp_path, labels))
-    ask = search.prover([0, 1, 2])
+    ask = search.prover(search.smaller([0, 1, 2]))
     assert ask(0) == Verdict(PROVED, 0, 0.5) and ask(2) == Verdict(PROVED, 0, 0.5)
     assert ask(1) == Verdict(PROVED, 0, 1.0)
     assert asked == [(True, 0, False), (True, 2, False), (True, 1, False), (False, 1, False)]
     small = Model(tmp_path / "small", (labels[2], labels[0]))
     asked.clear()
-    assert search.prover([0])(0) == Verdict(PROVED, 0, 0.5) and asked == [(True, 1, True)]
+    assert search.prover(search.smaller([0]))(0) == Verdict(PROVED, 0, 0.5) and asked == [(True, 1, True)]
     assert capsys.readouterr().out == ""

@@ -240,10 +240,6 @@ def test_what_a_program_prints_has_its_command(path: Path) -> None:
         assert is_shown, block[0]
 
 
-<<<<<<< ours
-@pytest.mark.parametrize("script", sorted(EXAMPLES.glob("*/run")), ids=lambda script: str(script.parent.name))
-def test_an_example_prints_its_stored_output(desk: Desk, tmp_path: Path, script: Path) -> None:
-=======
 EXAMPLES_WITH_COMMANDS = [
     pytest.param(script, id=script.parent.name, marks=marks_of(str(script)))
     for script in sorted(EXAMPLES.glob("*/run"))
@@ -251,8 +247,7 @@ EXAMPLES_WITH_COMMANDS = [
 
 
 @pytest.mark.parametrize("script", EXAMPLES_WITH_COMMANDS)
-def test_an_example_prints_its_stored_output(desk, tmp_path, script):
->>>>>>> theirs
+def test_an_example_prints_its_stored_output(desk: Desk, tmp_path: Path, script: Path) -> None:
     """The commands of each example print the output that is stored with them."""
     stored, command = script.parent / "output", script.read_text()
     if not stored.exists():
