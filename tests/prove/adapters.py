@@ -167,16 +167,10 @@ EARLY = Adapter(
         ),
     ),
 )
-# All bits of ids and addresses are free, so these bugs are seen only if the model has them all.
 WIDTHS = Adapter(
     "widths",
     "16 to 8 bytes, TL-UH, messages up to 64 bytes, all bits of address and source free",
     (*files("widths"), "--level", "uh", "--largest", "64", "--address-bits", "32", "--source-bits", "4"),
-    (
-        macro("BUG_1", "in a burst, the first part of a beat has the bytes of the second", ("a.Data0", "a.Mask"), 3),
-        macro("BUG_2", "the last beat of a message of 64 bytes is never corrupt", ("a.Corrupt",), 9),
-        macro("BUG_3", "a response is on the lanes of the source without its highest bit", ("d.Data0",), 5),
-        macro("BUG_4", "an address loses its highest bit", ("a.Head",), 3),
-    ),
+    (),
 )
-ADAPTERS = (START, NARROW_4_2, HALVES, SKID, WIDE, CROSSING, COHERENT, STRUCTS, EARLY, WIDTHS)
+ADAPTERS = (START, NARROW_4_2, HALVES, SKID, WIDE, CROSSING, COHERENT, STRUCTS, EARLY)

@@ -7,7 +7,7 @@ from pathlib import Path
 from typing import Dict
 
 import pytest
-from adapters import ADAPTERS, CROSSING, EARLY, SKID, START, STRUCTS, WIDE, Adapter, Planted
+from adapters import ADAPTERS, CROSSING, EARLY, SKID, START, STRUCTS, WIDE, WIDTHS, Adapter, Planted
 from play import Played, is_found, line_of_bug, line_of_correct, play, play_bug, play_correct
 from project import needs_tools
 
@@ -112,6 +112,15 @@ def test_messages_of_64_bytes(tmp_path: Path, models: Path) -> None:
     words = (*WIDE.words, "--param", "SIZE_BITS=3", "--largest", "64", "--unbounded", "--cycles", "8")
     run = play((*words, "--only", "a.(Early|Head|Corrupt|Data0)"), tmp_path, models)
     assert run.status == 0 and set(kinds(run).values()) == {"proved"}, run.said
+
+
+@pytest.mark.long
+def test_all_bits_of_ids_and_addresses(tmp_path: Path, models: Path) -> None:
+    """16 to 8 bytes, messages up to 64 bytes: no byte is wrong in the cycles that the search reaches."""
+    needs_tools(*TOOLS)
+    run = play((*WIDTHS.words, "--unbounded", "--seconds", "100", "--only", "Data0"), tmp_path, models)
+    assert run.status == 0 and set(run.rows) == {"a.Data0", "d.Data0"}, run.said
+    assert all(verdict == "proved" or int(verdict.split()[3]) >= 8 for verdict, _ in run.rows.values()), run.said
 
 
 @pytest.mark.long

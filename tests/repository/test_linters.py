@@ -1,5 +1,5 @@
-"""The linters of each language: black, flake8 and mypy for Python, clang-tidy and the compiler's warnings for C,
-shellcheck for scripts of the shell. A missing one is a skip."""
+"""The linters of each language: black, flake8 and mypy for Python, clang-tidy and the compiler's warnings for C, the
+compiler's warnings for C++, shellcheck for scripts of the shell. A missing one is a skip."""
 
 import os
 import re
@@ -11,9 +11,9 @@ import pytest
 from project import ROOT, compiler, needs_tools
 
 FIRST_LINE = re.compile(rb"#!.*\b(python3|sh|bash)\b")
-# The folders and scripts whose types mypy checks strictly, and those whose types are not all there.
+# The folders and scripts whose types mypy checks strictly: all but `tlexplain-model`, and `examples/`, where Python is
+# written as users may write it.
 TYPED = ("bench/", "python/", "sv/", "tests/", "tlbridge-", "tools/")
-NOT_TYPED = ("bench/gate", "tools/build")
 
 
 # For the C of all folders: a pair of widths, and the numbers that tests give to glue.c.
@@ -73,7 +73,7 @@ def typed_groups() -> List[List[str]]:
     the first one is in a group of its own."""
     groups: List[Dict[str, str]] = []
     for name in files_of("python"):
-        if name.startswith(TYPED) and name not in NOT_TYPED:
+        if name.startswith(TYPED):
             path = Path(name)
             module = name if (ROOT / path.parent / "__init__.py").exists() else path.stem
             group = next((group for group in groups if module not in group), None)
@@ -86,7 +86,7 @@ def typed_groups() -> List[List[str]]:
 
 @pytest.mark.parametrize("names", typed_groups(), ids=lambda names: f"{len(names)} from {names[0]}")
 def test_mypy(names: List[str]) -> None:
-    """The types of the package, of the tests, and of most scripts are checked strictly."""
+    """The types of the package, of the tests, and of the scripts are checked strictly."""
     folders = ["python", "tests/lib", "tools", *([os.path.dirname(names[0])] if len(names) == 1 else [])]
     passes(
         "mypy",
@@ -156,16 +156,15 @@ def test_compiler_warnings_of_cpp(name: str, tmp_path: Path) -> None:
 
 # The widest line of SystemVerilog (docs/STYLE.md). A line with a text to print may be longer.
 COLUMNS = 150
-NOT_YET = ("sv/tl_agent.sv",)
 
 
 @pytest.mark.parametrize("folder", ("sv", "rtl"))
 def test_columns_of_systemverilog(folder: str) -> None:
-    """Lines above 150 columns are hard to read side by side. One file still has some."""
+    """Lines above 150 columns are hard to read side by side."""
     wide = {}
     for path in sorted((ROOT / folder).glob("*.sv")):
         lines = path.read_text().splitlines()
         found = [number for number, line in enumerate(lines, 1) if len(line) > COLUMNS and '"' not in line]
         if found:
             wide[str(path.relative_to(ROOT))] = found
-    assert set(wide) <= set(NOT_YET), wide
+    assert wide == {}
