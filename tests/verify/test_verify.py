@@ -440,6 +440,25 @@ def test_addresses_at_the_end_of_a_window() -> None:
     assert all(far) and len(set.union(*far)) > max(map(len, far))
 
 
+def test_addresses_just_above_what_a_device_holds() -> None:
+    """They are denied, and more of them come in rounds with a reset, so that one may be under way. There, few sources
+    come twice in a row, so that many requests are under way."""
+    device = one_link(client=link())
+    assert device.client
+    device.client.reset = "reset"
+    made = maker(device, window=(0x2000, 4096), held=2048, has_pages=False)
+    shares, twice = {}, {}
+    for style in ("any", "reset"):
+        scripts = [made.styled(style, 150)[0] for _ in range(60)]
+        places = [message.address - 0x2000 for script in scripts for message in script]
+        shares[style] = sum(2048 <= place < 2048 + 256 for place in places) / len(places)
+        pairs = [pair for script in scripts for pair in zip(script, script[1:])]
+        twice[style] = sum(one.source == other.source for one, other in pairs) / len(pairs)
+        assert max(places) < 4096
+    assert 0.08 < shares["any"] < 0.18 < shares["reset"] < 0.4
+    assert twice["reset"] < 0.4 < 0.45 < twice["any"]
+
+
 def test_a_round_without_stalls_is_near() -> None:
     """Almost each read of a long round meets a write, so that one wrong value of a thousand shows."""
     made = maker(one_link(client=link()), window=(0x2000, 4096), has_pages=False)

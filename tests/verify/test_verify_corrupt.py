@@ -68,6 +68,14 @@ RIGHT = {
         [get(5, 16), data(5, "44332211"), get(6, 16), data(6, "44332211", 1)],
         [get(0, 16), data(0, "44332211"), get(1, 16), data(1, "44332211", 1)],
     ),
+    "an atomic that is computed": (
+        [put(5, 16, "44332211", 1), get(5, 16).replace("A 4", "A 3"), data(5, "44332200")],
+        [put(0, 16, "44332211", 1), get(0, 16), data(0, "44332200"), put(0, 16, "44332211")],
+    ),
+    "a byte that was read before": (
+        [put(5, 16, "44332211", 1)],
+        [put(0, 16, "44332211", 1), get(0, 16), data(0, "44332211"), put(0, 16, "44332211")],
+    ),
     "corrupt spreads": ([put(5, 16, "44332211"), get(6, 16)], [put(0, 16, "44332211", 1), get(1, 16)]),
 }
 WRONG = {
@@ -81,10 +89,25 @@ WRONG = {
         [put(0, 32, "44332211")],
         "has 11 at 0x20 as a good byte, which is corrupt on the client link",
     ),
+    "a put loses corrupt before it is read": (
+        [put(5, 32, "44332211", 1)],
+        [put(0, 32, "44332211"), get(0, 32), data(0, "44332211")],
+        "has 11 at 0x20 as a good byte, which is corrupt on the client link",
+    ),
+    "a put loses corrupt after corrupt data": (
+        [put(5, 32, "44332211", 1)],
+        [get(0, 32), data(0, "44332211", 1), put(0, 32, "44332211")],
+        "has 11 at 0x20 as a good byte, which is corrupt on the client link",
+    ),
     "a put with a mask loses corrupt": (
         [put(5, 32, "44332211", 1).replace("A 0", "A 1").replace(" f ", " 8 ")],
         [put(0, 32, "44332211").replace("A 0", "A 1").replace(" f ", " 8 ")],
         "has 44 at 0x23 as a good byte, which is corrupt on the client link",
+    ),
+    "beside an atomic that is passed on": (
+        [get(6, 32).replace("A 4", "A 3"), put(5, 32, "44332211", 1), get(7, 16).replace("A 4", "A 2")],
+        [get(0, 32).replace("A 4", "A 3"), put(0, 32, "44332211")],
+        "has 11 at 0x20 as a good byte, which is corrupt on the client link",
     ),
     "behind a response with unknown data": (
         [get(5, 16), data(5, "xxxxxxxx", 1), get(6, 64), data(6, "44332211")],

@@ -9,6 +9,7 @@ from tlbridge.verify.bench import Run
 from tlbridge.verify.design import Design, Link, Signal, Source
 from tlbridge.verify.judge import Beats, Judge, Rules
 from tlbridge.verify.restored import Restored
+from tlbridge.verify.strict import Denials
 
 Lines = List[str]
 
@@ -50,22 +51,27 @@ DEVICE, HOST = Design(Source("dut", ()), {}, link()), Design(Source("dut", ()), 
 BETWEEN = Design(Source("dut", ()), {}, link(), link())
 
 
-def broken(
-    folder: Path, design: Design, near: Lines, far: Optional[List[Tuple[int, str]]] = None, is_memory: bool = True
-) -> Dict[str, str]:
-    """Returns what these beats break, with what is said of it. The beats of `near` come one in a cycle, and those of
-    `far`, on the link to the manager, in the cycles that are named."""
+def beats_of(folder: Path, design: Design, near: Lines, far: Optional[List[Tuple[int, str]]] = None) -> Beats:
+    """Writes beats and reads them. Those of `near` come one in a cycle, and those of `far`, on the link to the manager,
+    in the cycles that are named."""
     sides = {"manager" if design.client is None else "client": list(enumerate(near))}
     sides.update({"manager": far} if far is not None else {})
     for side, beats in sides.items():
         (folder / f"{side}.beats").write_text("".join(f"{line}\n" for _, line in beats))
         (folder / f"{side}.beats.times").write_text("".join(f"{10000 * at}\n" for at, _ in beats))
+    return Beats(design, Run(folder, ""))
+
+
+def broken(
+    folder: Path, design: Design, near: Lines, far: Optional[List[Tuple[int, str]]] = None, is_memory: bool = True
+) -> Dict[str, str]:
+    """Returns what these beats break, with what is said of it."""
+    made = beats_of(folder, design, near, far)
     is_memory = is_memory and design.client is not None
     run, judge = Run(folder, ""), Judge(design, Rules(False, is_memory))
-    beats_of = Beats(design, run)
-    found = {name: problem.words for name, problem in judge.broken_rules(beats_of).items()}
+    found = {name: problem.words for name, problem in judge.broken_rules(made).items()}
     for name, words in found.items():  # an option makes it a mistake
-        strict = Judge(design, Rules(False, is_memory, (name,))).problems(run, beats_of)
+        strict = Judge(design, Rules(False, is_memory, (name,))).problems(run, made)
         assert [problem.words for problem in strict if problem.words == words] == [words]
     return found
 
@@ -218,6 +224,30 @@ def test_equal_requests_that_are_not_denied_alike(tmp_path: Path, case: str) -> 
         assert broken(tmp_path, BETWEEN, lines, behind) == {}
 
 
+def test_equal_requests_of_several_runs(tmp_path: Path) -> None:
+    """What most runs told of a request is known: the round that differs is returned, and its beats break the rule."""
+    denials: Denials[str] = Denials()
+    granted, denied = [get(16), data()], [get(16), data("00000000", 0, 1, 1)]
+    assert denials.unlike() is None
+
+    def add(name: str, lines: Lines) -> None:
+        denials.add(DEVICE, beats_of(tmp_path, DEVICE, lines), name)
+
+    for name, lines in (("a", granted), ("b", denied), ("c", [*granted, get(20), data()]), ("d", denied[:1])):
+        add(name, lines)
+    assert denials.unlike() == "b" and list(denials.known.values()) == [False]
+    judge = Judge(DEVICE, Rules(False, False, ("denied-alike",)))
+    for is_known, lines, is_broken in ((False, denied, False), (True, denied, True), (True, granted, False)):
+        if is_known:
+            judge.known = denials.known
+        words = [problem.words for problem in judge.problems(Run(tmp_path, ""), beats_of(tmp_path, DEVICE, lines))]
+        said = "client link: AccessAckData of 4 bytes, source 00 at 0x10 is denied, and an equal request was not"
+        assert words == ([said] if is_broken else [])
+    for name in "efg":
+        add(name, [get(20), data("00000000", 0, 1, 1)])
+    assert denials.unlike() == "c" and [key.address for key in denials.known] == [20]  # three to one
+
+
 @pytest.mark.parametrize("case", ALIKE)
 def test_requests_that_may_be_denied(tmp_path: Path, case: str) -> None:
     """They are not equal, or none of them is denied."""
@@ -272,7 +302,7 @@ def test_a_request_that_may_be_denied(tmp_path: Path, case: str) -> None:
 def test_corrupt_data_that_a_device_returns_as_good_data(tmp_path: Path) -> None:
     """Corrupt data were written, and nothing good came after them into the same beat."""
     bad, half = [put(16, "11111111", corrupt=1), ack()], [put(16, "00110000", mask="4", corrupt=1), ack()]
-    words = "client link: AccessAckData of 1 bytes, source 00 is good at 0x10, where corrupt data were written"
+    words = "client link: AccessAckData of 1 bytes, source 00 is good at 0x10, and corrupt data were written there"
     lost = [*bad, get(18, size=0), data(size=0)]
     assert broken(tmp_path, DEVICE, lost) == {"corrupt-stays": words}
     good = [put(16, "22222222"), ack()]

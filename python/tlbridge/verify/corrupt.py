@@ -1,7 +1,8 @@
 """Judges whether corrupt bytes stay corrupt on their way through a design that is no plain bridge.
 
 A byte that left the design as a good one was lost if the other link had this value at this address as a corrupt one
-only. Corrupt may spread to other bytes, as when beats are joined.
+only. Corrupt may spread to other bytes, as when beats are joined. Bytes of an atomic that the design computes by itself
+may have any value, so they are not judged. Nor is what it writes as it has read it before, as a cache does.
 """
 from __future__ import annotations
 
@@ -52,10 +53,23 @@ def _bytes_of(lines: List[str], width: int) -> Iterator[_Byte]:
                 yield _Byte(channel, (base + lane, value), is_bad, at)
 
 
+def _of_atomics(lines: List[str]) -> Set[int]:
+    """Returns the addresses of all atomics of a link."""
+    found: Set[int] = set()
+    for line in lines:
+        if line[0] == "A" and line[2] in "23":
+            values = values_of(line)
+            if not is_unknown(values["size"]) and not is_unknown(values["address"]):
+                address = int(values["address"], 16)
+                found |= set(range(address, address + (1 << int(values["size"], 16))))
+    return found
+
+
 def corrupt_problems(design: Design, beats: Beats) -> List[Problem]:
     """Returns the first byte of each direction that was corrupt on one link and is good on the other one."""
     links = design.links
     bytes_of = {side: list(_bytes_of(beats.lines[side], links[side].width)) for side in links}
+    computed = _of_atomics(beats.lines["client"]) - _of_atomics(beats.lines["manager"])
     written = {byte.place for byte in bytes_of["client"] if byte.channel == "A" and not byte.is_bad}
     found = []
     for channel, near, far in (("A", "client", "manager"), ("D", "manager", "client")):
@@ -64,8 +78,12 @@ def corrupt_problems(design: Design, beats: Beats) -> List[Problem]:
         good: Set[Tuple[int, str]] = set(written)
         good |= {byte.place for byte in bytes_of[near] if byte.channel == channel and not byte.is_bad}
         bad = {byte.place for byte in bytes_of[near] if byte.channel == channel and byte.is_bad} - good
+        read: Set[Tuple[int, str]] = set()  # as good bytes behind the design, before a beat that it writes
         for byte in bytes_of[far]:
-            if byte.channel == channel and not byte.is_bad and byte.place in bad:
+            if byte.channel != channel:
+                read |= {byte.place} if channel == "A" and not byte.is_bad else set()
+                continue
+            if byte.place in bad and not byte.is_bad and byte.place not in read and byte.place[0] not in computed:
                 beat = Beat(beats.times[far][byte.at], far, beats.lines[far][byte.at])
                 words = (
                     f"{far} link: {name_of(beat.line)} has {byte.place[1]} at 0x{byte.place[0]:x} as a good byte, which"

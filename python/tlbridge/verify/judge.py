@@ -12,7 +12,7 @@ from dataclasses import dataclass
 from importlib.machinery import SourceFileLoader
 from importlib.util import module_from_spec, spec_from_loader
 from pathlib import Path
-from typing import TYPE_CHECKING, Any, Dict, Iterator, List, Optional, Sequence, Set, Tuple
+from typing import TYPE_CHECKING, Any, Dict, Iterator, List, Mapping, Optional, Sequence, Set, Tuple
 
 from ..protocol import CARRIES_DATA, CHANNELS, FIELDS, FROM_CLIENT, OPCODES, beat_count
 from ..judge import find_program
@@ -21,6 +21,7 @@ from .design import Design, DesignError
 
 if TYPE_CHECKING:
     from .host import Reference
+    from .strict import Key
 
 # By channel and opcode, the name of the message.
 NAMES = {
@@ -319,6 +320,7 @@ class Judge:
         self.design, self.rules = design, rules
         self.model = Model() if rules.is_bridge else None
         self.reference: Optional["Reference"] = None  # what a host has to write
+        self.known: Mapping["Key", bool] = {}  # requests that have to be denied, by a strict rule, and that must not
 
     @property
     def name(self) -> str:
@@ -360,7 +362,7 @@ class Judge:
 
         is_tried = self.rules.is_memory or self.design.client is None
         tried = [name for name in names or RULES if is_tried or name not in OF_MEMORIES]
-        return {} if self.rules.is_bridge else broken_rules(self.design, beats, tried)
+        return {} if self.rules.is_bridge else broken_rules(self.design, beats, tried, self.known)
 
     @staticmethod
     def _complaint(time: int, side: str, channel: str, words: str) -> Problem:

@@ -138,7 +138,7 @@ def later_read(design: Design, beats: Beats) -> Optional[Problem]:
 
 
 def lost_corrupt(design: Design, beats: Beats) -> Optional[Problem]:
-    """Returns the first good beat that a device reads where corrupt data were written last."""
+    """Returns the first good beat that a device reads at a place at which corrupt data were written last."""
     if design.client is None or design.manager is not None:
         return None
     if not (design.client.has("A", "corrupt") and design.client.has("D", "corrupt")):
@@ -299,7 +299,7 @@ def _respond(
         wanted = range(request.address, request.address + (1 << request.size))
         if values["corrupt"] != "0" or request.opcode != _GET or not memory.is_spoilt(base, wanted, request.begin, at):
             return None
-        words = f"client link: {name_of(beat.line)} is good at 0x{base:x}, where corrupt data were written"
+        words = f"client link: {name_of(beat.line)} is good at 0x{base:x}, and corrupt data were written there"
         return Problem("rule", "D", words, beat.time, beat=beat)
     if values["corrupt"] != "0":
         held = [memory.possible(base + lane, request.begin, at, None) for lane in range(width)]

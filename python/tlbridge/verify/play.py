@@ -26,7 +26,7 @@ from .report import Coverage, speed_of
 from .restored import Restored
 from .session import FIRST_ROUNDS, LONG, Late, MIDDLE, SHORT, Session, Voice
 from .shrink import Shrinker, needs_of, options_of
-from .strict import RULES
+from .strict import DENIED_ALIKE, RULES, Denials
 from .traffic import HOST_STYLES, Message, STYLES, Traffic, style_of
 
 _LEAST_ROUNDS = 6  # in Icarus, even if Verilator is ready earlier
@@ -135,6 +135,7 @@ class Play:
         self.begun = time.monotonic()  # of the rounds
         compares = session.design.client is None and session.has_memory
         self.reference = Reference(session.design) if compares else None
+        self.denials: Denials[Round] = Denials()
         is_device = session.rules.is_memory and session.design.manager is None
         self.restored = Restored(session.design) if is_device else None
         self.broken: Dict[str, Round] = {}  # the first round that breaks a strict rule, by its name
@@ -376,7 +377,9 @@ class Play:
             if self.restored is not None and done.run is not None:
                 if done.run.reset_time >= 0 or self.coverage.counts["runs"] <= FIRST_ROUNDS:
                     self.restored.add(done.run)
-            unbroken = [name for name in RULES if name not in self.broken]
+            if not session.rules.is_bridge:
+                self.denials.add(session.design, done.beats, done.round)
+            unbroken = [name for name in RULES if name not in self.broken and name != DENIED_ALIKE]
             for name in session.judge.broken_rules(done.beats, unbroken) if unbroken else ():
                 self.broken[name] = done.round
         rounds.close()
@@ -472,8 +475,11 @@ class Play:
         session, options = self.session, self.session.options
         if options.seeds is not None and self.seed != seeds_of(options)[0] or self.most < _LEAST_TRIED:
             return
+        unlike = self.denials.unlike()
+        if unlike is not None:
+            self.broken[DENIED_ALIKE] = unlike
         for name, found in self.broken.items():
-            judge = Judge(session.design, replace(session.rules, strict=(name,)))
+            judge = self.strict_judge(name)
             done = self.judged(found, session.simulation(found.name), self.room / "again", judge=judge)
             if done.problems:
                 yield UNLESS[name], done
@@ -489,6 +495,12 @@ class Play:
             failing = self.failing_with(kind)
             if failing is not None:
                 yield kind, failing
+
+    def strict_judge(self, name: str) -> Judge:
+        """The judge to which a strict rule counts."""
+        judge = Judge(self.session.design, replace(self.session.rules, strict=(name,)))
+        judge.known = self.denials.known
+        return judge
 
     def failing_with(self, kind: Unless) -> Optional[Played]:
         """Plays a few rounds with what a right design need not hold, until one fails. If it also fails without that,
@@ -551,8 +563,7 @@ class Play:
     def kept_under(self, kind: Unless, done: Played, out: Path) -> Kept:
         """Shrinks a run that fails under a condition, and writes it into a folder of its own."""
         session = self.session
-        strict = () if kind.setting else (kind.name,)
-        judge = Judge(session.design, replace(session.rules, strict=strict)) if strict else session.judge
+        judge = session.judge if kind.setting else self.strict_judge(kind.name)
         folder = out / kind.name
         most = min(session.options.shrink_seconds, _UNLESS_SECONDS)
         if self.until != math.inf:

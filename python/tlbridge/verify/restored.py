@@ -17,7 +17,7 @@ _PUTS, _GET = (0, 1), 4
 
 
 class Restored:
-    """What a device held at first, and what came back after a reset, in all runs."""
+    """Collects the first bytes of a device, and those that came back after a reset, in all runs."""
 
     def __init__(self, design: Design):
         assert design.client
@@ -29,7 +29,7 @@ class Restored:
 
     @property
     def words(self) -> str:
-        """What did not come back, or an empty text."""
+        """The first byte that did not come back, in words. An empty text: all came back, or it is a memory."""
         back = [address for address in self.comes_back if address not in self.varies]
         stays = sorted(
             address for address in self.stays if address not in self.varies and address not in self.comes_back

@@ -12,13 +12,29 @@ from __future__ import annotations
 from bisect import bisect_left, bisect_right
 from collections import Counter
 from dataclasses import dataclass
-from typing import Callable, Dict, Iterable, List, NamedTuple, Optional, Sequence, Set, Tuple
+from types import MappingProxyType
+from typing import (
+    Callable,
+    Dict,
+    Generic,
+    Iterable,
+    Iterator,
+    List,
+    Mapping,
+    NamedTuple,
+    Optional,
+    Sequence,
+    Set,
+    Tuple,
+    TypeVar,
+)
 
 from ..protocol import CARRIES_DATA, beat_count
 from .design import Design
 from .judge import Beat, Beats, Problem, is_unknown, name_of, values_of
 from .memory import changed_alone, later_read, lost_corrupt, stale_read
 
+DENIED_ALIKE = "denied-alike"
 OF_MEMORIES = ("reads-accepted", "reads-no-later", "reads-alike", "corrupt-stays")
 _LEAST_COPIED, _SHARE_COPIED = 12, 0.6  # beats, and their share of what a host that copies writes
 _SHARE_JUMPS, _RECENT = (
@@ -31,9 +47,14 @@ _LEAST_BYTES = 4  # of a value that tells where it comes from
 _DOES = {0: (0, 1), 1: (0, 1), 2: (0, 1, 2, 3), 3: (0, 1, 2, 3), 4: (4,)}
 
 
-def broken_rules(design: Design, beats: Beats, names: Sequence[str]) -> Dict[str, Problem]:
-    """Returns the first beat that breaks one of these strict rules, by the name of the rule."""
-    found = {name: RULES[name](design, beats) for name in names}
+def broken_rules(
+    design: Design, beats: Beats, names: Sequence[str], known: Mapping[Key, bool] = MappingProxyType({})
+) -> Dict[str, Problem]:
+    """Returns the first beat that breaks one of these strict rules, by the name of the rule. `known` has requests that
+    have to be denied, and others that must not."""
+    found = {name: RULES[name](design, beats) for name in names if name != DENIED_ALIKE}
+    if DENIED_ALIKE in names:
+        found[DENIED_ALIKE] = denied_unlike(design, beats, known)
     return {name: problem for name, problem in found.items() if problem is not None}
 
 
@@ -53,6 +74,17 @@ def _denied_good(design: Design, beats: Beats) -> Optional[Problem]:
     return None
 
 
+class Key(NamedTuple):
+    """All that a design knows of a request before its data."""
+
+    opcode: int
+    param: str
+    size: int
+    address: int
+    masks: Tuple[str, ...]
+    is_corrupt: bool
+
+
 @dataclass
 class _Exchange:
     """A request, and its response. Places are lines of the beats of its link, and -1 if nothing came."""
@@ -69,9 +101,8 @@ class _Exchange:
     is_denied: bool = False
 
     @property
-    def key(self) -> Tuple[object, ...]:
-        """All that a device knows of a request before its data."""
-        return (self.opcode, self.param, self.size, self.address, tuple(self.masks), self.is_corrupt)
+    def key(self) -> Key:
+        return Key(self.opcode, self.param, self.size, self.address, tuple(self.masks), self.is_corrupt)
 
     @property
     def places(self) -> range:
@@ -117,24 +148,57 @@ def _has_denied(design: Design) -> bool:
     return all(link.has("D", "denied") for link in design.links.values())
 
 
-def _denied_once(design: Design, beats: Beats) -> Optional[Problem]:
-    """A response that is denied while one to an equal request is not, or the other way round. Nothing was denied behind
-    the design meanwhile."""
+def answered(design: Design, beats: Beats) -> Iterator[Tuple[Key, bool, int]]:
+    """Yields each request that was answered by itself: all that a design knows of it before its data, whether it was
+    denied, and the line of its response. Left out are those with an error behind the design meanwhile."""
     if design.client is None or not _has_denied(design):
-        return None
-    lines, times, errors = beats.lines["client"], beats.times["client"], _errors(beats)
-    before: Dict[Tuple[object, ...], bool] = {}
-    for found in sorted(_exchanges(lines, design.client.width), key=lambda one: one.response):
+        return
+    times, errors = beats.times["client"], _errors(beats)
+    for found in sorted(_exchanges(beats.lines["client"], design.client.width), key=lambda one: one.response):
         if found.response < 0 or found.opcode > 4:
             continue
-        if found.is_denied and _is_within(errors, times[found.at], times[found.response]):
-            continue
-        if before.setdefault(found.key, found.is_denied) != found.is_denied:
-            beat = Beat(times[found.response], "client", lines[found.response])
-            how = ("is denied", "was not") if found.is_denied else ("is not denied", "was")
-            words = f"client link: {name_of(beat.line)} at 0x{found.address:x} {how[0]}, and an equal request {how[1]}"
+        if not (found.is_denied and _is_within(errors, times[found.at], times[found.response])):
+            yield found.key, found.is_denied, found.response
+
+
+def denied_unlike(design: Design, beats: Beats, known: Mapping[Key, bool]) -> Optional[Problem]:
+    """A response that is denied while one to an equal request is not, or the other way round. `known` has the
+    requests that other runs denied, and those that they did not."""
+    before: Dict[Key, bool] = {}
+    for key, is_denied, at in answered(design, beats):
+        expected = known[key] if key in known else before.setdefault(key, is_denied)
+        if expected != is_denied:
+            beat = Beat(beats.times["client"][at], "client", beats.lines["client"][at])
+            how = ("is denied", "was not") if is_denied else ("is not denied", "was")
+            words = f"client link: {name_of(beat.line)} at 0x{key.address:x} {how[0]}, and an equal request {how[1]}"
             return Problem("rule", "D", words, beat.time, beat=beat)
     return None
+
+
+R = TypeVar("R")
+
+
+class Denials(Generic[R]):
+    """The rounds in which each request was denied, and in which it was not."""
+
+    def __init__(self) -> None:
+        self.rounds: Dict[Key, Tuple[List[R], List[R]]] = {}  # not denied, and denied
+        self.known: Dict[Key, bool] = {}
+
+    def add(self, design: Design, beats: Beats, played: R) -> None:
+        """Adds a round."""
+        for key, is_denied, _ in answered(design, beats):
+            self.rounds.setdefault(key, ([], []))[is_denied].append(played)
+
+    def unlike(self) -> Optional[R]:
+        """Returns a round in which a request was treated otherwise than equal ones mostly are, and `known` then has how
+        they mostly are. The request with the clearest majority counts. None: all were treated alike."""
+        both = [(key, rounds) for key, rounds in self.rounds.items() if all(rounds)]
+        if not both:
+            return None
+        key, (granted, denied) = max(both, key=lambda item: max(map(len, item[1])) / min(map(len, item[1])))
+        self.known = {key: len(denied) > len(granted)}
+        return (granted if self.known[key] else denied)[0]
 
 
 def _errors(beats: Beats) -> List[int]:
@@ -327,7 +391,7 @@ def _jump(copies: List[_Copy], width: int) -> Optional[Tuple[_Copy, str]]:
 
 RULES: Dict[str, Callable[[Design, Beats], Optional[Problem]]] = {
     "denied-is-corrupt": _denied_good,
-    "denied-alike": _denied_once,
+    DENIED_ALIKE: lambda design, beats: denied_unlike(design, beats, {}),
     "done-not-denied": _denied_done,
     "reads-accepted": stale_read,
     "reads-no-later": later_read,

@@ -188,6 +188,8 @@ class Traffic:
         span = self.limits.window[1]
         if self.limits.held and draw.random() < self.share_held:
             span = self.limits.held
+        elif self.limits.held < span and self.limits.held and draw.random() < 0.5:  # just above what is not denied
+            return self.limits.held + draw.getrandbits(draw.choice((5, 8))) % (span - self.limits.held)
         if draw.random() < self.share_near:
             return draw.getrandbits(6) % span
         if draw.random() < 0.2:
@@ -335,6 +337,8 @@ class Traffic:
         if name == "large" and self.limits.largest > PLAIN_LARGEST:
             count = max(10, min(length, 60 * length // self.limits.largest))
             return self.drawn(count, all_sources, "large"), settings
+        if name in ("reset", "after reset"):  # a denied request may be under way as well
+            self.share_held = self.random.choice((0.85, 0.6, 0.3))
         if name in ("reset", "after reset") and all(link.reset for link in self.design.links.values()):
             if self.has_two and (name == "after reset" or self.random.random() < 0.3):
                 settings.update(self.clocks(*self.random.choice(_FAR_CLOCKS)))
@@ -342,7 +346,8 @@ class Traffic:
             if name == "after reset":
                 settings.update(at_once=1, held=0, calm=self.random.choice((0x3FF, 0x3FF, 0)))
                 return self.drawn(min(length, 60), all_sources), settings
-            return self.drawn(min(length, 150), all_sources), settings
+            # a source that comes twice in a row waits for its response, and few requests are under way
+            return self.drawn(min(length, 150), all_sources, sticks=self.random.choice((0, 0, 0.5))), settings
         if (
             name == "withdraw"
         ):  # stalls on ready, so that there is time to take a valid back; that passes through some designs
