@@ -13,6 +13,7 @@ from pathlib import Path
 from typing import Dict, List, Optional, Tuple
 
 import pytest
+from commands import BRIEF
 from once import made_once
 from project import ROOT, SV, needs_tools
 from tlbridge import levels
@@ -122,7 +123,7 @@ class Bench:
                 words += [f"-Plevels.{name}={value}" for name, value in values.items()]
             else:
                 words = ["verilator", "--binary", "--timing", "--assert", "-j", "2", "-Wno-fatal", "-Wno-lint"]
-                words += ["--top-module", "levels", "--Mdir", str(folder), "-o", "bench"]
+                words += ["--top-module", "levels", "--Mdir", str(folder), "-o", "bench", "-MAKEFLAGS", BRIEF]
                 words += [f"-G{name}={value}" for name, value in values.items()]
             done = subprocess.run([*words, str(CHECKER), str(BENCH)], capture_output=True, text=True, timeout=LIMIT)
             assert done.returncode == 0, done.stderr

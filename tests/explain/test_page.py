@@ -16,9 +16,9 @@ to have each note, readable in light and dark mode, within the window and in pri
 import base64
 import json
 import re
+import resource
 import subprocess
 import sys
-import time
 from pathlib import Path
 from typing import Any, Dict, Iterator, List, Tuple
 
@@ -65,6 +65,12 @@ def pictures(said: Any) -> Any:
         elif line and not text.startswith("    lane"):
             line[-1][2] = False
     return {number: [marks for _, marks, _ in drawn] for number, drawn in found.items()}
+
+
+def seconds_of_children() -> float:
+    """The processor time of all programs that have ended."""
+    used = resource.getrusage(resource.RUSAGE_CHILDREN)
+    return used.ru_utime + used.ru_stime
 
 
 def mark(cell: Any) -> str:
@@ -355,15 +361,15 @@ class Looks:
         self.browser.media()
 
     def time(self, lines: int) -> None:
-        """The page of a long trace: the program and the browser each take about a second at most."""
+        """The page of a long trace: program and browser take MOST_SECONDS of processor time, or twice that."""
         text = lawful_trace(8, 4, lines, 1)
-        page, begun = self.folder / "page.html", time.perf_counter()
+        page, begun = self.folder / "page.html", seconds_of_children()
         page.write_bytes(self.said(self.tlexplain, "--html", text=text))
-        made, opened = time.perf_counter() - begun, self.browser.open(page)
+        made, opened = seconds_of_children() - begun, self.browser.open(page)
         beats, messages = self.browser.run("['.beat', '.message'].map(what => document.querySelectorAll(what).length)")
-        begun = time.perf_counter()
+        begun = self.browser.processor_seconds()
         self.browser.run("document.querySelector('.fold button').click(), document.body.offsetHeight")
-        unfolded = time.perf_counter() - begun
+        unfolded = self.browser.processor_seconds() - begun
         print(
             (
                 f"{lines} lines, {messages} messages: a page of {page.stat().st_size / 1e6:.1f} MB, made in"
