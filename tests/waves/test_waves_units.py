@@ -71,7 +71,7 @@ def test_a_list_says_that_a_link_was_reset_again(tmp_path: Path, capsys: pytest.
     status, lines, error = printed(tmp_path, reset_twice(), capsys)
     assert status == 0 and f"tlbridge-trace: {said}\n" in error
     status, lines, error = printed(tmp_path, reset_twice(), capsys, "--all", "--program", str(MODEL))
-    assert status == 0 and sum(line.endswith(said) for line in lines) == 1
+    assert status == 0 and lines.count(said) == 1
     status, lines, error = printed(tmp_path, reset_twice(), capsys, "--link", "in")
     assert status == 0 and "after beats" not in error
 

@@ -166,7 +166,8 @@ class Verdict:
             said.append(f"{len(self.faults) - 1} more faults after it, which may follow from it")
         if self.same:
             return [f"{self.link.name}: has no row: the same beats at the same times as {self.same.link.name}"]
-        return [f"{self.link.name}: {text}" for text in [*said, *self.level_faults, *self.remarks]]
+        name = f"{self.link.name}: "
+        return [text if text.startswith(name) else name + text for text in [*said, *self.level_faults, *self.remarks]]
 
     def record(self) -> Dict[str, Any]:
         """Returns the object for JSON."""
