@@ -116,7 +116,7 @@ def word_lemmas(out: Lines, row: Row, channel: str) -> None:
         ports.update({name: "1'b0" for name in WATCHED})
         ports.update({"value": "8'd0", "bytes": f"{8 * words}'d0"})
     out.instance("tl_word_lemmas", {"WORDS": words}, f"{letter}_words", ports)
-    if row.has_chain(channel):
+    if channel in row.channel and row.has_chain(channel):
         chain_lemmas(out, row, channel)
 
 

@@ -125,7 +125,7 @@ def recipe_of(row: Union[Row, Refinement], stage: Stage, rtl: Path, folder: Path
         lemmas = lemma_lines(row)
         options, probes = dataclasses.replace(options, extra_lines=lemmas.text), lemmas.probes
         proof = [str(HERE / "lemmas.sv"), str(HERE / "deep.sv"), *proof]
-        if any(map(row.has_chain, "AD" if row.channel == "D" else row.channel)):
+        if any(map(row.has_chain, row.channel)):
             proof.insert(0, str(HERE / "chain.sv"))
         if row.rules:
             proof.append(str(HERE / "rules.sv"))
