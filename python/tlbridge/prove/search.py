@@ -109,7 +109,7 @@ class Search:
         First in the smaller model of the channel, if there is one. A bound with its assumptions is one with all of
         them. If the assertion fails there, it is tried with all assumptions.
         """
-        session, frames, seconds = (self.session, self.session.frames, self.session.words.seconds)
+        session, frames, seconds = self.session, self.session.frames, self.session.words.seconds
 
         def ask(index: int) -> Verdict:
             label, before = session.model.labels[index], 0.0

@@ -348,9 +348,7 @@ class Traffic:
                 return self.drawn(min(length, 60), all_sources), settings
             # a source that comes twice in a row waits for its response, and few requests are under way
             return self.drawn(min(length, 150), all_sources, sticks=self.random.choice((0, 0, 0.5))), settings
-        if (
-            name == "withdraw"
-        ):  # stalls on ready, so that there is time to take a valid back; that passes through some designs
+        if name == "withdraw":  # stalls on ready, so that there is time to take a valid back
             settings.update(calm=self.random.choice((0, 0x155)), patient=0, steady=0)
             return self.drawn(length, self.random.choice((1, 4, all_sources))), settings
         if name == "same cycle":
