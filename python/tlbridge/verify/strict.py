@@ -37,7 +37,7 @@ from .memory import changed_alone, later_read, lost_corrupt, stale_read
 DENIED_ALIKE = "denied-alike"
 OF_MEMORIES = ("reads-accepted", "reads-no-later", "reads-alike", "corrupt-stays")
 _LEAST_COPIED, _SHARE_COPIED = 12, 0.6  # beats, and their share of what a host that copies writes
-_SHARE_JUMPS = 0.05  # of the adjacent beats, at most so many go elsewhere
+_SHARE_JUMPS = 0.05  # of the adjacent beats that may go elsewhere
 _RECENT = 64  # beats that count as just before
 _PUTS, _DATA = ("0", "1"), "1"
 _LEAST_BYTES = 4  # of a value that tells where it comes from
