@@ -180,6 +180,21 @@ def test_a_byte_that_changes_though_nobody_writes_it(tmp_path: Path) -> None:
         assert broken(tmp_path, DEVICE, lines) == {}
 
 
+# ---- denied data are corrupt
+
+
+def test_denied_data_that_are_not_corrupt(tmp_path: Path) -> None:
+    """A response with data is denied and good. One without data has no mark, and a good one is not denied."""
+    words = "client link: AccessAckData of 4 bytes, source 00 is denied and not corrupt"
+    assert broken(tmp_path, DEVICE, [get(16), data("00000000", 0, 1)]) == {"denied-is-corrupt": words}
+    assert broken(tmp_path, BETWEEN, [get(16), data("00000000", 0, 1)], []) == {"denied-is-corrupt": words}
+    for lines in ([get(16), data()], [get(16), data("00000000", 0, 1, 1)], [put(16, "11111111"), ack(denied=1)]):
+        assert broken(tmp_path, DEVICE, lines) == {}
+    for name in ("denied", "corrupt"):
+        design = Design(Source("dut", ()), {}, link(name))
+        assert broken(tmp_path, design, [get(16), data("00000000", 0, 1)]) == {}
+
+
 # ---- equal requests are denied alike
 
 UNLIKE = {
@@ -266,11 +281,14 @@ def test_a_request_that_was_done_and_is_denied(tmp_path: Path) -> None:
     found = broken(tmp_path, BETWEEN, PUT, BEHIND)
     words = "client link: AccessAck of 8 bytes, source 00 at 0x10 is denied, and was done behind the design"
     assert found == {"done-not-denied": words}
+    assert broken(tmp_path, BETWEEN, [line.replace("A 0 0", "A 1 0") for line in PUT], BEHIND) == found
     found = broken(tmp_path, BETWEEN, DENIED_GET, [(0, get(16, 3)), (1, data("44332211", 3))])
     assert list(found) == ["done-not-denied"]
     atomic = [add(16, "00000001"), data("00000000", 0, 1, 1)]
     steps = [(0, get(16, 3)), (0, data("44332211", 3)), (1, put(16, "44332212", 3)), (1, ack(3))]
-    assert list(broken(tmp_path, BETWEEN, atomic, steps)) == ["done-not-denied"]
+    for head in ("A 2 4", "A 3 3"):
+        lines = [line.replace("A 2 4", head) for line in atomic]
+        assert list(broken(tmp_path, BETWEEN, lines, steps)) == ["done-not-denied"]
 
 
 NOT_DONE: Dict[str, Tuple[Lines, List[Tuple[int, str]]]] = {
@@ -286,6 +304,10 @@ NOT_DONE: Dict[str, Tuple[Lines, List[Tuple[int, str]]]] = {
     "nothing is done": (PUT, []),
     "at an unknown address": (PUT, [(0, BEHIND[0][1].replace("0010 f", "00x0 f")), *BEHIND[1:]]),
     "by another request": ([get(20, 2), *PUT[:2], PUT[2]], [(at + 1, line) for at, line in BEHIND]),
+    "by another request with a response": (
+        [get(20, 2), *PUT[:2], data("00000000", 2), PUT[2]],
+        [(at + 1, line) for at, line in BEHIND],
+    ),
 }
 
 
@@ -326,17 +348,46 @@ def test_corrupt_data_that_a_device_returns_as_good_data(tmp_path: Path) -> None
     assert broken(tmp_path, DEVICE, lost, is_memory=False) == {} == broken(tmp_path, BETWEEN, lost, [])
 
 
+# ---- corrupt data of a host stay corrupt
+
+
+def test_corrupt_data_that_a_host_writes_as_good_data(tmp_path: Path) -> None:
+    """A host writes a whole beat of what it has read as corrupt data only, and never wrote before."""
+    bad, wrote = [get(16), data("12345678", corrupt=1)], [put(32, "12345678", 1), ack(1)]
+    words = "manager link: {} of 4 bytes, source 01 writes 12345678 as good data, which it has read as corrupt data"
+    assert broken(tmp_path, HOST, [*bad, *wrote]) == {"corrupt-stays": words.format("PutFullData")}
+    lines = [*bad, get(20, 2), data("87654321", 2), wrote[0].replace("A 0", "A 1"), ack(1)]
+    assert broken(tmp_path, HOST, lines) == {"corrupt-stays": words.format("PutPartialData")}
+    right = (
+        [*bad, put(32, "12345678", 1, corrupt=1), ack(1)],
+        [*bad, put(32, "12345678", 1, mask="7"), ack(1)],
+        [*bad, put(32, "12345679", 1), ack(1)],
+        [*bad, get(16), data("12345678"), *wrote],
+        [get(20), data("12345678"), *bad, *wrote],
+        [*wrote, *bad, *wrote],
+        [*wrote, *bad],
+        [*bad, add(32, "12345678", 1), data("00000000", 1)],
+    )
+    for lines in right:
+        assert broken(tmp_path, HOST, lines) == {}
+    assert broken(tmp_path, Design(Source("dut", ()), {}, None, link("corrupt")), [*bad, *wrote]) == {}
+    assert broken(tmp_path, BETWEEN, [], list(enumerate([*bad, *wrote]))) == {}
+
+
 # ---- a reset brings back what a device held at first
 
 
-def restored(folder: Path, *runs: Tuple[Lines, Lines]) -> str:
-    """Returns what is said of a device after these runs, each with its beats before a reset and after it."""
+def restored(folder: Path, *runs: Tuple[Lines, Lines], is_at_zero: bool = False) -> str:
+    """Returns what is said of a device after these runs, each with its beats before a reset and after it. The reset,
+    and all beats before it, may be at time 0."""
     made = Restored(DEVICE)
     for before, after in runs:
         lines = [*before, *after]
+        times = [0 if is_at_zero and at < len(before) else 10000 * at for at in range(len(lines))]
         (folder / "client.beats").write_text("".join(f"{line}\n" for line in lines))
-        (folder / "client.beats.times").write_text("".join(f"{10000 * at}\n" for at in range(len(lines))))
-        made.add(Run(folder, "", reset_time=10000 * len(before) - 5000 if after else -1))
+        (folder / "client.beats.times").write_text("".join(f"{time}\n" for time in times))
+        reset_time = 0 if is_at_zero else 10000 * len(before) - 5000
+        made.add(Run(folder, "", reset_time=reset_time if after else -1))
     return made.words
 
 
@@ -357,6 +408,14 @@ def test_a_byte_that_a_reset_does_not_bring_back(tmp_path: Path) -> None:
     assert restored(tmp_path, (FIRST, [*read(0, "00000000"), *read(4, "00000022")])) == words
     first, later = FIRST[:4], [*FIRST[4:], *read(0, "11111111")]
     assert restored(tmp_path, (first, []), (later, [*read(0, "00000000"), *read(4, "00000022")])) == words
+
+
+def test_a_reset_at_time_0(tmp_path: Path) -> None:
+    """It is a reset as any other: beats of the same time come before it."""
+    after = [*read(0, "00000000"), *read(4, "00000022")]
+    words = "after a reset, 0x4 reads 22 as before it, and not a5 as at first; 7 other bytes come back"
+    assert restored(tmp_path, (FIRST, after), is_at_zero=True) == words
+    assert restored(tmp_path, (FIRST[:4], []), (FIRST[4:], after), is_at_zero=True) == words
 
 
 BACK = {
@@ -381,6 +440,25 @@ BACK = {
 def test_bytes_after_a_reset(tmp_path: Path, case: str) -> None:
     """All come back, or nobody knows what they held."""
     assert restored(tmp_path, BACK[case]) == ""
+
+
+def test_bursts_before_a_reset_and_after_it(tmp_path: Path) -> None:
+    """Each beat of a burst has its place. Beats with unknown bits, and responses without a request, are left out."""
+
+    def reads(first: str, second: str) -> Lines:
+        return [get(8, size=3), data(first, size=3), data(second, size=3)]
+
+    writes = [put(8, "11111111", size=3), put(8, "22222222", size=3), ack(size=3)]
+    before = [*reads("00000000", "000000a5"), *writes]
+    unknown = [
+        get(8).replace("A 4 0 2", "A 4 0 x"),
+        data("99999999").replace("D 1 0 2", "D 1 0 x"),
+        data("99999999", 9),
+    ]
+    words = "after a reset, 0xc reads 22 as before it, and not a5 as at first; 7 other bytes come back"
+    assert restored(tmp_path, (before, reads("00000000", "00000022"))) == words
+    assert restored(tmp_path, ([*unknown, *before], [*unknown, *reads("00000000", "00000022")])) == words
+    assert restored(tmp_path, (before, reads("00000000", "000000a5"))) == ""
 
 
 def test_a_byte_that_is_not_the_same_at_first(tmp_path: Path) -> None:
@@ -409,6 +487,32 @@ def test_a_host_that_copies_to_another_place(tmp_path: Path) -> None:
     value = f"{0xABCD0000 + 17 * 80:08x}"
     words = f"writes {value} at 0x50, and the data before it, of 0x4c, went to 0x104c"
     assert list(found) == ["copies-all"] and found["copies-all"].endswith(words)
+
+
+def test_a_host_that_copies_with_unknown_beats_between(tmp_path: Path) -> None:
+    """Beats with unknown bits are left out: the verdict is that of the others."""
+    lines = copied(40, {0: 4096, 20: 0})
+    unknown = [get(512, 2).replace("A 4 0 2", "A 4 0 x"), data("00000000", 2).replace("D 1 0 2", "D 1 0 x")]
+    unknown += [put(512, "xxxxxxxx", 2), data("xxxxxxxx", 2)]
+    expected = broken(tmp_path, HOST, lines)
+    assert list(expected) == ["copies-all"]
+    assert broken(tmp_path, HOST, [*lines[:40], *unknown, *lines[40:]]) == expected
+
+
+def test_a_host_that_writes_something_else(tmp_path: Path) -> None:
+    """A word is not what was read, while those beside it are copied."""
+    for at in (0, 7, 19):
+        lines = copied(20, {0: 4096})
+        lines[4 * at + 2] = put(4096 + 4 * at, "12345678", 1)
+        words = f"a copy of the data at 0x{4 * at:x}, as beside it, would have {0xABCD0000 + 17 * 4 * at:08x}"
+        found = broken(tmp_path, HOST, lines)
+        assert list(found) == ["copies-all"] and f"writes 12345678 at 0x{4096 + 4 * at:x}" in found["copies-all"]
+        assert found["copies-all"].endswith(words)
+        assert broken(tmp_path, BETWEEN, [], list(enumerate(lines))) == {}
+    lines = copied(20, {0: 4096})
+    for at in (7, 8):  # two in a row may be data of the host
+        lines[4 * at + 2] = put(4096 + 4 * at, f"{at:08x}", 1)
+    assert broken(tmp_path, HOST, lines) == {}
 
 
 RIGHT_COPIES = {
