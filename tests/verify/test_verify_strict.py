@@ -515,8 +515,16 @@ def test_a_host_that_writes_something_else(tmp_path: Path) -> None:
     assert broken(tmp_path, HOST, lines) == {}
 
 
+def with_equal_words() -> Lines:
+    """A copy of 20 words, of which two are equal, so that only the first place of their value is known."""
+    lines, value = copied(20, {0: 4096}), f"{0xABCD0000 + 17 * 8:08x}"
+    lines[21], lines[22] = data(value), put(4096 + 20, value, 1)
+    return lines
+
+
 RIGHT_COPIES = {
     "one distance": copied(40, {0: 4096}),
+    "two equal words": with_equal_words(),
     "too few to say so": copied(10, {0: 4096, 5: 0}),
     "another job": [*copied(20, {0: 4096}), *copied(20, {0: 8192}, 1024)],
     "the same job again": [*copied(40, {0: 4096}), *copied(40, {0: 8192})],

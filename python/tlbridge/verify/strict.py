@@ -342,7 +342,7 @@ def _not_copied(design: Design, beats: Beats) -> Optional[Problem]:
         return None
     lines, width = beats.lines["manager"], design.manager.width
     copies, read = _copies(lines, width)
-    found = _elsewhere(copies, read, width) or _jump(copies, width)
+    found = _elsewhere(copies, read, width) or _jump(copies, read, width)
     if found is None:
         return None
     copy, why = found
@@ -367,13 +367,15 @@ def _elsewhere(copies: List[_Copy], read: Dict[int, Set[str]], width: int) -> Op
     return None
 
 
-def _jump(copies: List[_Copy], width: int) -> Optional[Tuple[_Copy, str]]:
-    """Returns a copy that is not beside the copy of the data before it, which was written shortly before. A host that
-    often does so has its own order, and none is returned."""
+def _jump(copies: List[_Copy], read: Dict[int, Set[str]], width: int) -> Optional[Tuple[_Copy, str]]:
+    """Returns a copy that is not beside the copy of the data before it, which was written shortly before. Data that was
+    read at several places may come from each of them, so it does not count. A host that often does so has its own order,
+    and none is returned."""
+    places = Counter(data for values in read.values() for data in values)
     last: Dict[int, Tuple[int, int]] = {}  # by the place of the data, the number of its copy, and the distance
     pairs, jumps = 0, []
     for number, copy in enumerate(copies):
-        if copy.distance is None:
+        if copy.distance is None or places[copy.data] > 1:
             continue
         source = copy.address - copy.distance
         before, distance = last.get(source - width, (-1, 0))
