@@ -83,9 +83,11 @@ def test_correct_adapter_has_no_failure(adapter: Adapter, tmp_path: Path, models
 
 @pytest.mark.long
 def test_more_free_bits_change_no_verdict(tmp_path: Path, models: Path) -> None:
-    """All bits of address and source are free, or few: each verdict is the same, without and with a planted bug."""
+    """All bits of address and source are free, or few: each verdict is the same, without and with a planted bug. The
+    fewest are four of the address: the three that choose the lane, and the highest.
+    """
     needs_tools(*TOOLS)
-    fewer, more = ("--address-bits", "3", "--source-bits", "1"), ("--address-bits", "32", "--source-bits", "2")
+    fewer, more = ("--address-bits", "4", "--source-bits", "1"), ("--address-bits", "32", "--source-bits", "2")
     for words in ((), ("--define", "BUG")):
         runs = [
             play((*START.words, *START.proof, *words, *free, "--unbounded", "--keep-going"), tmp_path, models)
