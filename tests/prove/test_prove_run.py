@@ -22,7 +22,7 @@ from tlbridge.prove.replay import Replayed
 from tlbridge.prove.report import Progress, stated
 from tlbridge.prove.search import Search
 from tlbridge.prove.session import Session
-from tlbridge.verify.design import Source
+from tlbridge.verify.design import Link, Source
 
 
 def a_session(folder: Path, labels: Sequence[str] = LABELS, folded: Sequence[str] = (), **words: Any) -> Session:
@@ -100,10 +100,14 @@ def given(*words: str) -> argparse.Namespace:
     return command_line().parse_args(["dut.sv", "--top", "dut", "--no-user-bits", *words])
 
 
-def test_options_of_a_command_line() -> None:
+def test_options_of_a_command_line(monkeypatch: pytest.MonkeyPatch) -> None:
     """Free bits, and clocks that a design has or does not have."""
     design = a_design()
     assert options_of(given("--address-bits", "1"), design).free[0] == ("address", 1)
+    for width, bits in ((1, 5), (16, 5), (32, 6), (128, 8)):  # a byte may be on any lane
+        monkeypatch.setattr(Link, "width", width)
+        assert options_of(given(), design).free[0] == ("address", bits)
+    monkeypatch.undo()
     for name in ("address", "source", "sink"):
         with pytest.raises(SystemExit):
             given(f"--{name}-bits", "0")

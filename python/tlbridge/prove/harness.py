@@ -111,6 +111,12 @@ def default_largest(design: Design, level: str) -> int:
     return int(min(wanted, 1 << min((1 << bits_of(design)["size"]) - 1, 12)))
 
 
+def default_address_bits(design: Design) -> int:
+    """Returns how many bits of an address are free: with the lowest ones, a message of one byte is on any lane."""
+    widest = max(link.width for link in design.links.values())
+    return max(DEFAULT_FREE["address"], widest.bit_length())
+
+
 def spread(name: str, free: int, bits: int) -> str:
     """Returns an expression of `bits` bits with `free` free ones: the lowest, and with two or more also the highest."""
     if free >= bits:

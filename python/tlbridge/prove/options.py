@@ -18,10 +18,11 @@ from typing import Callable, Tuple
 
 from ..verify.design import Choice, Design, Source, read_file_list
 from .errors import ProveError
-from .harness import DEFAULT_FREE, LEVELS, TIME_COVER, Options, default_largest
+from .harness import DEFAULT_FREE, LEVELS, TIME_COVER, Options, default_address_bits, default_largest
 from .report import PROGRAM
 from .user_bits import NONE, find_user_bits
 
+MORE = ", or more on a bus of more than 16 bytes"  # of the free bits of an address
 STATUSES = """
 exit status:
   0  no assertion fails: each one is proved, or has no counterexample in the printed number of cycles
@@ -171,8 +172,8 @@ def command_line() -> argparse.ArgumentParser:
             f"--{name}-bits",
             metavar="N",
             type=_number(1, 64, "a number of bits"),
-            default=count,
-            help=f"free bits of the {name}, the others are 0 [default: {count}]",
+            default=None if name == "address" else count,
+            help=f"free bits of the {name}, the others are 0 [default: {count}{MORE if name == 'address' else ''}]",
         )
     assumed.add_argument(
         "--count-bits",
@@ -253,7 +254,11 @@ def options_of(words: argparse.Namespace, design: Design) -> Options:
         words.within,
         words.count_bits,
         words.reset_cycles,
-        (("address", words.address_bits), ("source", words.source_bits), ("sink", words.sink_bits)),
+        (
+            ("address", words.address_bits or default_address_bits(design)),
+            ("source", words.source_bits),
+            ("sink", words.sink_bits),
+        ),
         tuple(words.assume),
         two,
         later_resets=words.later_resets,
