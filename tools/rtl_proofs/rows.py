@@ -299,29 +299,29 @@ def row_named(name: str) -> Union[Row, Refinement]:
 
 NAMES = """
     A-1-1 A-1-2 A-1-4 A-1-8 A-2-1 A-2-2 A-2-4 A-2-8 A-4-1 A-4-2 A-4-4 A-4-8 A-8-1 A-8-2 A-8-4 A-8-8 B-1-1 B-1-2
-    B-2-2 B-2-4 B-4-2 B-4-4 C-1-1 C-1-2 C-2-1 C-2-2 C-2-4 C-4-1 C-4-2 C-4-4 C-8-2 C-8-4 C-8-8 D-1-1 D-2-2 D-2-4
-    D-4-1 D-4-2 E-2-2 E-2-4 E-4-2 E-8-1 FIFO-2 FIFO-2-two-clocks FIFO-4-two-clocks FIFO-8-two-clocks
-    A-2-2-two-clocks A-2-4-two-clocks A-4-2-two-clocks B-2-2-two-clocks B-2-4-two-clocks B-4-2-two-clocks
-    C-2-2-two-clocks C-2-4-two-clocks C-4-2-two-clocks D-2-4-two-clocks D-4-2-two-clocks E-2-2-two-clocks
-    E-2-4-two-clocks E-4-2-two-clocks A-4-2-within-3 A-2-4-within-2 A-2-2-within-2 B-4-2-within-2 B-2-4-within-3
-    C-4-2-within-3 C-2-4-within-2 D-2-4-within-3 E-4-2-within-2 E-2-4-within-2 E-2-2-within-2 D-4-2-within-2
-    B-2-2-within-2 C-2-2-within-2 D-2-2-within-2 E-2-2-two-clocks-within-5 A-2-4-depth-0 C-2-4-depth-0
-    E-4-2-depth-4 D-4-2-entries-2 A-4-2-resets-of-manager E-4-2-resets-of-manager A-4-2-depth-0-later
-    D-4-2-resets-of-client A-4-2-depth-4 A-4-2-entries-1 A-4-2-rules AD-8-8 AD-1-2 AD-1-4 AD-2-1 AD-4-4 AD-2-8
-    AD-4-8 AD-8-2 AD-8-4 AD-1-8 AD-8-1 AD-4-2-depth-8 AD-2-4-depth-8
+    B-1-4 B-1-8 B-2-1 B-2-2 B-2-4 B-2-8 B-4-1 B-4-2 B-4-4 B-4-8 B-8-1 B-8-2 B-8-4 B-8-8 C-1-1 C-1-2 C-1-4 C-1-8
+    C-2-1 C-2-2 C-2-4 C-2-8 C-4-1 C-4-2 C-4-4 C-4-8 C-8-1 C-8-2 C-8-4 C-8-8 D-1-1 D-1-2 D-1-4 D-1-8 D-2-1 D-2-2
+    D-2-4 D-2-8 D-4-1 D-4-2 D-4-4 D-4-8 D-8-2 D-8-4 D-8-8 E-1-8 E-2-2 E-2-4 E-4-2 E-8-1 FIFO-2 FIFO-2-two-clocks
+    FIFO-4-two-clocks FIFO-8-two-clocks A-2-2-two-clocks A-2-4-two-clocks A-4-2-two-clocks B-2-2-two-clocks
+    B-2-4-two-clocks B-4-2-two-clocks C-2-2-two-clocks C-2-4-two-clocks C-4-2-two-clocks D-2-2-two-clocks
+    D-2-4-two-clocks D-4-2-two-clocks E-2-2-two-clocks E-2-4-two-clocks E-4-2-two-clocks A-4-2-within-3
+    A-2-4-within-2 A-2-2-within-2 B-4-2-within-2 B-2-4-within-3 C-4-2-within-3 C-2-4-within-2 D-2-4-within-3
+    E-4-2-within-2 E-2-4-within-2 E-2-2-within-2 D-4-2-within-2 B-2-2-within-2 C-2-2-within-2 D-2-2-within-2
+    E-2-2-two-clocks-within-5 A-2-4-depth-0 C-2-4-depth-0 E-4-2-depth-4 D-4-2-entries-2 A-4-2-resets-of-manager
+    E-4-2-resets-of-manager A-4-2-depth-0-later D-4-2-resets-of-client A-4-2-depth-4 A-4-2-entries-1 A-4-2-rules
+    B-4-2-depth-4 C-4-2-depth-4 D-2-4-depth-0 D-2-4-entries-1 AD-8-1 AD-4-2-depth-8 AD-2-4-depth-8
 """
 # No run of these has ended, so they claim nothing. They are tried if they are named.
 NOT_RUN = """
-    D-2-2-two-clocks D-2-4-depth-0 D-2-4-entries-1
+    A-4-2-depth-8
 """
 NO_RUN = "No run of its proof has ended."
-A_IS_PROVED = "A alone is proved in a row of its own. No run of D alone has ended."
-# The table also has the row of A alone for each of these
-WITH_A_ALONE = """
-    AD-8-8 AD-1-2 AD-1-4 AD-2-1 AD-4-4 AD-2-8 AD-4-8 AD-8-2 AD-8-4 AD-1-8 AD-8-1
-""".split()
+OBSTACLES = {
+    "AD-8-1": "A alone is proved in a row of its own. "
+    "The lemmas `Own` and `Table` of D alone are open after 300 seconds each."
+}
 BOUNDS: Dict[str, Bound] = {
-    name: Bound(8, A_IS_PROVED if name in WITH_A_ALONE else NO_RUN)
+    name: Bound(8, OBSTACLES.get(name, NO_RUN))
     for name in (NAMES + NOT_RUN).split()
     if name.startswith("AD-")
 }
