@@ -321,9 +321,7 @@ OBSTACLES = {
     "The lemmas `Own` and `Table` of D alone are open after 300 seconds each."
 }
 BOUNDS: Dict[str, Bound] = {
-    name: Bound(8, OBSTACLES.get(name, NO_RUN))
-    for name in (NAMES + NOT_RUN).split()
-    if name.startswith("AD-")
+    name: Bound(8, OBSTACLES.get(name, NO_RUN)) for name in (NAMES + NOT_RUN).split() if name.startswith("AD-")
 }
 # Here the FIFO and the reset agreement are those of rtl/.
 BOUNDS["E-2-2-two-clocks-within-5"] = Bound(
