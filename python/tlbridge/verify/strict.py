@@ -369,8 +369,8 @@ def _elsewhere(copies: List[_Copy], read: Dict[int, Set[str]], width: int) -> Op
 
 def _jump(copies: List[_Copy], read: Dict[int, Set[str]], width: int) -> Optional[Tuple[_Copy, str]]:
     """Returns a copy that is not beside the copy of the data before it, which was written shortly before. Data that was
-    read at several places may come from each of them, so it does not count. A host that often does so has its own order,
-    and none is returned."""
+    read at several places may come from each of them, so it does not count. A host that often does so has its own
+    order, and none is returned."""
     places = Counter(data for values in read.values() for data in values)
     last: Dict[int, Tuple[int, int]] = {}  # by the place of the data, the number of its copy, and the distance
     pairs, jumps = 0, []
