@@ -240,7 +240,7 @@ def test_equal_requests_that_are_not_denied_alike(tmp_path: Path, case: str) -> 
 
 
 def test_equal_requests_of_several_runs(tmp_path: Path) -> None:
-    """What most runs told of a request is known: the round that differs is returned, and its beats break the rule."""
+    """Most runs deny or accept a request alike. The round that differs is returned, and its beats break the rule."""
     denials: Denials[str] = Denials()
     granted, denied = [get(16), data()], [get(16), data("00000000", 0, 1, 1)]
     assert denials.unlike() is None
