@@ -197,12 +197,17 @@ def test_a_late_crate(places: int) -> None:
     assert late_failure(places) == ""
 
 
+# Two draws with two crates at a time, in which the estimate is off by more.
+FURTHER_OFF = {
+    f"each crate 0.7 to 1.4 times its seconds, seed {seed}, 2 at a time": most for seed, most in ((1, 1.16), (16, 1.03))
+}
+
+
 @pytest.mark.parametrize("name, run", [pytest.param(name, run, id=name) for name, *run in runs()])
 def test_each_estimate(name: str, run: Any) -> None:
-    """From the first quarter on, it is off by at most half of what is left, or a tenth of the whole run. If each crate
-    takes other seconds than expected, it may be off by a fifth more."""
+    """From the first quarter on, it is off by at most half of what is left, or a tenth of the whole run."""
     off, words = worst(*run)
-    assert off <= (1.2 if name.startswith("each crate") else 1), words
+    assert off <= FURTHER_OFF.get(name, 1), words
 
 
 def test_each_crate_has_its_seconds() -> None:
