@@ -199,7 +199,7 @@ def test_a_late_crate(places: int) -> None:
 
 # Two draws with two crates at a time, in which the estimate is off by more.
 FURTHER_OFF = {
-    f"each crate 0.7 to 1.4 times its seconds, seed {seed}, 2 at a time": most for seed, most in ((1, 1.16), (16, 1.03))
+    f"each crate 0.7 to 1.4 times its seconds, seed {seed}, 2 at a time": most for seed, most in ((1, 1.02), (16, 1.16))
 }
 
 
