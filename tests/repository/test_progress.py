@@ -23,7 +23,7 @@ from project import ROOT, script
 build = script(ROOT / "tools" / "build")
 EACH = 5
 # A recorded run of `./tlbridge` from nothing, two crates at a time on four processors, on which more and more other
-# work began.
+# work began. `tl_parts` was a part of `tl_run` then: the two rows have its time, divided by estimate.
 RECORDED = {
     "tl_lanes": 22,
     "tl_order": 16,
@@ -37,7 +37,8 @@ RECORDED = {
     "tl_stream": 264,
     "tl_sides": 446,
     "tl_offer": 71,
-    "tl_run": 177,
+    "tl_parts": 30,
+    "tl_run": 147,
     "tl_check": 86,
     "tl_bridge": 166,
     "tl_answer": 314,
@@ -114,10 +115,8 @@ def slower(factor: float) -> Takes:
 
 
 def varied(seed: int) -> Takes:
-    """Each crate takes 0.7 to 1.4 times its seconds."""
-    chance = random.Random(seed)
-    factors: Dict[str, float] = {}
-    return lambda crate: float(crate.expected) * factors.setdefault(crate.name, chance.uniform(0.7, 1.4))
+    """Each crate takes 0.7 to 1.4 times its seconds, whatever other crates there are."""
+    return lambda crate: float(crate.expected) * random.Random(f"{crate.name} {seed}").uniform(0.7, 1.4)
 
 
 def runs() -> Iterator[Tuple[str, Takes, int, List[str]]]:
@@ -197,17 +196,11 @@ def test_a_late_crate(places: int) -> None:
     assert late_failure(places) == ""
 
 
-# Two draws with two crates at a time, in which the estimate is off by more.
-FURTHER_OFF = {
-    f"each crate 0.7 to 1.4 times its seconds, seed {seed}, 2 at a time": most for seed, most in ((1, 1.02), (16, 1.16))
-}
-
-
-@pytest.mark.parametrize("name, run", [pytest.param(name, run, id=name) for name, *run in runs()])
-def test_each_estimate(name: str, run: Any) -> None:
+@pytest.mark.parametrize("run", [pytest.param(run, id=name) for name, *run in runs()])
+def test_each_estimate(run: Any) -> None:
     """From the first quarter on, it is off by at most half of what is left, or a tenth of the whole run."""
     off, words = worst(*run)
-    assert off <= FURTHER_OFF.get(name, 1), words
+    assert off <= 1, words
 
 
 def test_each_crate_has_its_seconds() -> None:

@@ -1,4 +1,5 @@
-"""Who may import whom, as docs/ARCHITECTURE.md says, and where random traffic comes from."""
+"""Who may import whom and which crates a check depends on, as docs/ARCHITECTURE.md says, and where random traffic
+comes from."""
 
 import ast
 import re
@@ -122,6 +123,18 @@ def test_benches_and_tests_name_no_file_of_each_other() -> None:
             wrong += [f"{path.relative_to(ROOT)}: {found}" for found in re.findall(r'ROOT / "bench"|\bbench/\w+', text)]
     known = {"tests/lib/records.py: bench/explain"}  # a docstring
     assert set(wrong) == known
+
+
+def test_a_check_depends_on_no_crate_of_the_bridge() -> None:
+    """Neither tl_ring nor a crate above it is below tl_check."""
+    lines = [line.partition("#")[0].partition(":") for line in (ROOT / "crates.txt").read_text().splitlines()]
+    named = {left.split()[0]: set(right.split()) for left, colon, right in lines if colon}
+    below: Set[str] = set()
+    found = named["tl_check"]
+    while found - below:
+        below |= found
+        found = set().union(*(named.get(crate, set()) for crate in below))
+    assert "tl_trace" in below and "tl_ring" not in below
 
 
 def test_random_traffic_comes_from_the_maker() -> None:

@@ -2,7 +2,7 @@
 #![tactic(auto, using(tl_lanes::proofs::Widths::width_4, tl_lanes::proofs::Widths::width_8))]
 
 ghost use Rattle.std.specs.Prelude.{IfOk, IsTrue};
-ghost use Rattle.tl_run.specs.Scripts.{HasShortLists};
+ghost use Rattle.tl_parts.specs.Parts.{HasShortLists};
 
 use std::alloc::Global;
 use tl_trace::{Header, Script, TraceFault, TraceKind, header_of_text, read_script};

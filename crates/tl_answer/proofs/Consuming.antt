@@ -5,7 +5,7 @@ use Rattle.tl_answer.proofs.Names.{Beats, HasShortLists, Discarded, GoesOn, HasC
 use Rattle.tl_answer.proofs.Names.{more_discarded, none_gone, Line, Script, CanJudge, near, AreCounted, AreFew, Follow, GoesWith, all_of}
 use Rattle.tl_trace.specs.declared.script.Counts.{Counts}
 use Rattle.tl_check.specs.Inner.Passing.{IsWithin}
-use Rattle.tl_run.specs.Parts.{AreEnd, ArePart, AreDiscarded, IsEnd, IsPart, none_counted}
+use Rattle.tl_parts.specs.Parts.{AreEnd, ArePart, AreDiscarded, IsEnd, IsPart, none_counted}
 use Rattle.tl_check.specs.declared.judge.Judge.{Judge}
 
 -- ---- one list

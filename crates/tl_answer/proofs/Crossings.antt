@@ -3,8 +3,9 @@ use Rattle.tl_answer.proofs.Names.{◌≡◌, ◌≤◌, ◌^◌, ◌∙◌, ℕ
 use Rattle.tl_answer.proofs.Names.{HasGrown, HasRemoved, more_discarded, Script, AreFew, CanRun, HasRun, HasLines, AreCounted}
 use Rattle.std.specs.declared.alloc.AllocError.{AllocError}
 use Rattle.tl_trace.specs.declared.script.Counts.{Counts}
-use Rattle.tl_run.specs.Parts.{AreGoing, ArePart, AreWaiting, AreDiscarded, IsBetween}
-use Rattle.tl_run.specs.Stopping.{AreStuck}
+use Rattle.tl_parts.specs.Parts.{AreGoing, ArePart, AreWaiting, AreDiscarded, IsBetween}
+use Rattle.tl_parts.specs.Stopping.{AreStuck}
+use Rattle.tl_run.specs.Running.{as_counts}
 use Rattle.tl_run.specs.declared.streaming.SyncRun.{SyncRun}
 use Rattle.tl_answer.specs.Inner.Crossing.{Crosses, CrossesOn}
 use Rattle.tl_answer.specs.declared.crossing.Crossing.{Crossing}
@@ -52,7 +53,7 @@ module _ {C M : ℕ} where
   -- as far as the beats lead that are held
   pub crosses-consumed : (result : Result Counts AllocError) (s : Script C M) (was x : Crossing C M) →
       ((near : Beats C M) → ArePart was.run.discarded s near → HasRun HasLines near was.far was.run →
-      IfOk result (λ _. AreStuck near was.run.discarded x.run.at s)) → IfOk result (AreGoing was.run.discarded x.run.at s) →
-      IfOk result (λ counts. (rest : Script C M) → HasRemoved counts s rest → AreWaiting x.run.discarded x.run.at rest) → IfOk result (CrossesOn was x s)
+      IfOk result (λ _. AreStuck near was.run.discarded (as_counts x.run.at) s)) → IfOk result (AreGoing was.run.discarded (as_counts x.run.at) s) →
+      IfOk result (λ counts. (rest : Script C M) → HasRemoved counts s rest → AreWaiting x.run.discarded (as_counts x.run.at) rest) → IfOk result (CrossesOn was x s)
   crosses-consumed (Err e) s was x stuck going waiting = tt
   crosses-consumed (Ok counts) s was x stuck going waiting = record { stuck = stuck; going = going; waiting = waiting }

@@ -19,7 +19,8 @@ pub use Rattle.tl_check.specs.Judging.{CanJudge, HasJudged}
 pub use Rattle.tl_lanes.proofs.Widths.{each_width}
 pub use Rattle.tl_lanes.specs.Lanes.{IsWidth}
 pub use Rattle.tl_run.proofs.AllOk.{five_ok, four_ok}
-pub use Rattle.tl_run.specs.Scripts.{EndsIn, near_beats, HasShortLists}
+pub use Rattle.tl_run.specs.Scripts.{EndsIn}
+pub use Rattle.tl_parts.specs.Parts.{near_beats, HasShortLists}
 pub use Rattle.tl_run.specs.Streaming.{CanRun, HasRun}
 pub use Rattle.tl_settle.specs.Outcomes.{Beats, far_beats, verdicts}
 pub use Rattle.tl_stream.specs.Inputs.{IsRefused, held, IsFresh, unread_of, most_bytes}

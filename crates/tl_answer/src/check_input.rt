@@ -5,7 +5,7 @@ ghost use Rattle.std.specs.List.{list_all};
 ghost use Rattle.tl_lanes.specs.Lanes.{IsWidth};
 ghost use Rattle.tl_settle.specs.Outcomes.{Beats, verdicts};
 ghost use Rattle.tl_trace.specs.Faults.{HasHeader};
-ghost use Rattle.tl_run.specs.Parts.{AreEnd};
+ghost use Rattle.tl_parts.specs.Parts.{AreEnd};
 ghost use Rattle.tl_settle.specs.Books.{KnowsClient, KnowsManager};
 ghost use Rattle.tl_check.specs.Judging.{CanJudge, HasJudged};
 ghost use Rattle.tl_answer.specs.Answer.{far_header, is_done, report};

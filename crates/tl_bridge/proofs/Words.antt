@@ -23,17 +23,18 @@ pub use Rattle.tl_run.proofs.ChannelOffer.{answered-all, asked-all, homed-offer,
 pub use Rattle.tl_run.proofs.ChannelRound.{stage-full}
 pub use Rattle.tl_run.proofs.Counting.{counts-on, few-enough, last-one, nearer, none-more, one-round-more, same-sums}
 pub use Rattle.tl_run.proofs.Ended.{begins, end-few, progress-ends, progress-is, run_end}
-pub use Rattle.tl_run.proofs.Lives.{lives-long}
+pub use Rattle.tl_parts.proofs.Lives.{lives-long}
 pub use Rattle.tl_offer.proofs.NextOffers.{of-list}
 pub use Rattle.tl_run.proofs.OnlyMemory.{not-ok, only-memory, stalled-never}
 pub use Rattle.tl_run.proofs.Round.{alone-own, client-own, counts-fit, manager-own, none-accepted, stops-same}
-pub use Rattle.tl_run.proofs.RoundMoves.{client-offers, client-takes-all, manager-offers, manager-takes-all}
+pub use Rattle.tl_run.proofs.RoundMoves.{client-offers, manager-offers}
+pub use Rattle.tl_parts.proofs.Takes.{client-takes-all, manager-takes-all}
 pub use Rattle.tl_run.proofs.RunRound.{due-a, due-d}
 pub use Rattle.tl_run.specs.Arrivals.{no_beats}
 pub use Rattle.tl_run.specs.Inner.Arriving.{HasRoom, HasRoomFor, beats_of}
 pub use Rattle.tl_run.specs.Inner.Running.{AllStop, AreStopped, HasEnded, HaveRoomToCount, IsAt, IsSent, IsStopped, all_progress, all_standing}
 pub use Rattle.tl_run.specs.Inner.Running.{all_steps, all_stopped, all_under_way, counted, of_both, progress, standing_count, under_way}
-pub use Rattle.tl_run.specs.Scripts.{IsShort, near_beats}
+pub use Rattle.tl_parts.specs.Parts.{IsShort, near_beats}
 pub use Rattle.tl_offer.specs.Offering.{Does, steps}
 pub use Rattle.tl_offer.specs.declared.offered.Offered.{Offered}
 pub use Rattle.tl_offer.specs.declared.offered.Offered.TheVariants.{Accepted, NotReady, Stopped}

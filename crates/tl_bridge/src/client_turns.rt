@@ -1,7 +1,7 @@
 //! The part of the client's side in a round of a run in two threads.
 ghost use Rattle.std.specs.Prelude.{◌≡◌};
 ghost use Rattle.tl_sides.specs.Sides.{ClientPast, ClientStandsFor};
-ghost use Rattle.tl_run.specs.Scripts.{near_beats};
+ghost use Rattle.tl_parts.specs.Parts.{near_beats};
 ghost use Rattle.tl_offer.specs.declared.offered.Offered.TheVariants.{NotReady};
 ghost use Rattle.tl_offer.specs.Widths.{AreWidths};
 ghost use Rattle.tl_bridge.specs.Inner.Sides.{SameClientEnds, ClientHasOffered, client_playing};

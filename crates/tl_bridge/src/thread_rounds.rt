@@ -1,7 +1,7 @@
 //! The rounds of a run in two threads.
 ghost use Rattle.std.specs.Prelude.{◌≡◌, ◌≤◌, ◌+◌, ℕ};
 ghost use Rattle.tl_run.specs.Arrivals.{no_beats};
-ghost use Rattle.tl_run.specs.Scripts.{HasShortLists, near_beats};
+ghost use Rattle.tl_parts.specs.Parts.{HasShortLists, near_beats};
 ghost use Rattle.tl_offer.specs.Widths.{AreWidths};
 ghost use Rattle.tl_run.specs.Inner.Arriving.{HasRoomFor, beats_of};
 ghost use Rattle.tl_bridge.specs.Inner.Arriving.{KeepsRoom, taken_of};

@@ -3,7 +3,8 @@ ghost use Rattle.std.specs.Prelude.{◌≡◌, ◌≢◌, ◌≤◌, ◌<◌, �
 ghost use Rattle.tl_ring.specs.declared.pipe.TheConstants.{MAX_RING};
 ghost use Rattle.tl_lanes.specs.Lanes.{IsWidth};
 ghost use Rattle.tl_run.specs.declared.outcome.RunFault.TheVariants.{RingSize, Stalled};
-ghost use Rattle.tl_run.specs.Scripts.{HasShortLists, SettlesTo};
+ghost use Rattle.tl_run.specs.Scripts.{SettlesTo};
+ghost use Rattle.tl_parts.specs.Parts.{HasShortLists};
 ghost use Rattle.tl_offer.specs.Widths.{AreWidths};
 ghost use Rattle.tl_bridge.specs.Inner.Arriving.{taken_of};
 

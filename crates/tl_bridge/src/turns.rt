@@ -1,6 +1,6 @@
 //! The part of a side, of either kind, in a round of a run in two threads.
 ghost use Rattle.std.specs.Prelude.{◌+◌, ℕ};
-ghost use Rattle.tl_run.specs.Scripts.{HasShortLists, near_beats};
+ghost use Rattle.tl_parts.specs.Parts.{HasShortLists, near_beats};
 ghost use Rattle.tl_offer.specs.Widths.{AreWidths};
 ghost use Rattle.tl_run.specs.Inner.Running.{HaveRoomToCount};
 ghost use Rattle.tl_bridge.specs.Inner.Sides.{HasPlayedTurns, HasTaken, HasTurned, MayPlay, Playing};

@@ -1,5 +1,9 @@
 -- Places among what is held of a list.
 use Rattle.tl_check.proofs.Names.{◌≡◌, ◌≤◌, ◌<◌, ◌+◌, ◌-◌, ◌*◌, ℕ, false, List, length, arith, nat_lt, IsWithin, None, slice_get, slice_get_past}
+use Rattle.tl_check.proofs.Names.{Some, true, refl, sym}
+use Rattle.std.proofs.lemmas.Option.{slice_get_read}
+use Rattle.std.specs.Prelude.{slice_index_or}
+use Rattle.tl_convert.proofs.Comparisons.{true_less}
 use Rattle.std.proofs.lemmas.Bool.Decides.{nat_tests}
 use Rattle.tl_lanes.specs.declared.limits.TheConstants.{WIDEST}
 
@@ -11,6 +15,10 @@ steps discarded at far n at' far' w within one few = record {
   few = w.few;
   few_far = few;
 }
+
+-- the element at a place below a list's end
+pub read_some : {A : Type 0} (bs : List A) (n : ℕ) (b : A) → true ≡ nat_lt n (length bs) → b ≡ slice_index_or bs n b → slice_get bs n ≡ Some b
+read_some bs n b below same = slice_get_read bs (length bs) n b refl (true_less n (length bs) (sym below)) same
 
 -- there is none if no beat is left
 pub none-left : {B : Type 0} (discarded at : ℕ) (held : List B) → false ≡ nat_lt (at - discarded) (length held) → {far : ℕ} →

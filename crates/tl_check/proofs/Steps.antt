@@ -15,13 +15,12 @@ use Rattle.tl_settle.specs.Requests.{homes_after}
 use Rattle.tl_settle.specs.Rounds.{Run, round, ManagerMoves, ClientMoves, client_rests, client_accepts, manager_rests, manager_accepts}
 use Rattle.tl_settle.proofs.Grows.{far_a_grows, far_d_grows}
 use Rattle.tl_settle.proofs.Manager.{manager_stops}
-use Rattle.tl_settle.proofs.Marks.{asked_answer, answered_ask}
+use Rattle.tl_settle.proofs.Marks.{asked_answer, asked_ask, answered_answer, answered_ask}
 use Rattle.tl_settle.proofs.Runs.{RunIs, run_is}
 use Rattle.tl_settle.proofs.SameHeads.{same_a, same_d}
 use Rattle.tl_settle.proofs.Settles.{good}
 use Rattle.tl_settle.proofs.Sides.{client_stops}
-use Rattle.tl_run.proofs.ChannelOffer.{asked-all, answered-all}
-use Rattle.tl_run.proofs.RoundMoves.{client-takes-all, manager-takes-all}
+use Rattle.tl_parts.proofs.Takes.{client-takes-all, manager-takes-all, seen-all}
 use Rattle.tl_check.proofs.NewHeads.{new-heads}
 use Rattle.tl_check.proofs.Passing.{place-of}
 
@@ -136,7 +135,7 @@ module _ {C M : ℕ} (cw : IsWidth C) (mw : IsWidth M) (a : List (BeatOf HeadA C
             manager_knows = noted new-asks.0 new-asks-count new-asks-have;
             run = round (suc i) j (suc i) j (s.client_history ++ Ask b ∷ []) (s.client_history ++ Ask b ∷ [])
                 s.manager_history (s.manager_history ++ map Ask new-asks.0) asked-run client_rests moves;
-            a_taken = asked-all s.manager_history new-asks.0 ∙ on;
+            a_taken = seen-all Ask asked asked_ask s.manager_history new-asks.0 ∙ on;
             d_taken = answered_ask s.client_history b ∙ s.d_taken;
           })
 
@@ -197,5 +196,5 @@ module _ {C M : ℕ} (cw : IsWidth C) (mw : IsWidth M) (a : List (BeatOf HeadA C
             run = round i (suc j) i (suc j) s.client_history (s.client_history ++ map Answer new-answers.0)
                 (s.manager_history ++ Answer b ∷ []) (s.manager_history ++ Answer b ∷ []) answered-run moves manager_rests;
             a_taken = asked_answer s.manager_history b ∙ s.a_taken;
-            d_taken = answered-all s.client_history new-answers.0 ∙ on;
+            d_taken = seen-all Answer answered answered_answer s.client_history new-answers.0 ∙ on;
           })

@@ -2,7 +2,7 @@
 use Rattle.std.specs.Prelude.{ℕ, length}
 use Rattle.tl_msg.specs.Tables.{rules_a, rules_b, rules_c, rules_d, rules_e}
 use Rattle.tl_settle.specs.Outcomes.{Beats}
-use Rattle.tl_sides.specs.declared.per_channel.PerChannel.{PerChannel}
+use Rattle.tl_trace.specs.declared.script.Counts.{Counts}
 use Rattle.tl_trace.specs.declared.script.Script.{Script}
 use Rattle.tl_check.specs.Places.{AreAt, HasCome, IsWithin}
 use Rattle.tl_check.specs.declared.judge.Judge.{Judge}
@@ -19,7 +19,7 @@ module _ {C M : ℕ} where
     pub both : AreAt near.a near.d judge.a.at judge.d.at judge.client judge.manager
 
   -- the number of near beats of each channel that a judge has accepted
-  abbrev pub places : Judge C M → PerChannel ℕ
+  abbrev pub places : Judge C M → Counts
   places judge = record { a = judge.a.at; b = judge.b.at; c = judge.c.at; d = judge.d.at; e = judge.e.at }
 
   -- on each channel, the beats that a judge has accepted were discarded or are held by the script

@@ -3,11 +3,11 @@ ghost use Rattle.std.specs.Prelude.{◌≡◌, List, length, take};
 ghost use Rattle.tl_lanes.specs.Lanes.{IsWidth};
 ghost use Rattle.tl_msg.specs.declared.beat.BeatOf.{BeatOf};
 ghost use Rattle.tl_burst.specs.Begun.{left};
+ghost use Rattle.tl_burst.specs.Handing.{fault_after};
 ghost use Rattle.tl_settle.specs.Outcomes.{verdict_alone, verdict_of};
 ghost use Rattle.tl_check.specs.Inner.Passing.{HasCome, IsWithin};
-ghost use Rattle.tl_run.specs.Parts.{IsEnd, IsPart};
-ghost use Rattle.tl_run.specs.Stopping.{IsStuck};
-ghost use Rattle.tl_sides.specs.Crossings.{stops_alone};
+ghost use Rattle.tl_parts.specs.Parts.{IsEnd, IsPart};
+ghost use Rattle.tl_parts.specs.Stopping.{IsStuck};
 
 use crate::progress::Progress;
 use tl_msg::{Beat, Channel, SideFault};
@@ -34,7 +34,7 @@ pub(crate) fn judge_alone<K: Channel, const W: usize>(
         result ≡ verdict_alone K.rules far_width bs }
     ensures stuck { (bs : List (BeatOf K.Head W)) → IsPart discarded beats.now bs →
         HasCome K.rules far_width bs progress.old.tracker progress.old.at progress.old.far →
-        IsStuck discarded progress.new.at beats.now (stops_alone K.rules (take progress.new.at bs)) }
+        IsStuck discarded progress.new.at beats.now (fault_after K.rules (take progress.new.at bs)) }
 {
     'beats: while let Some(beat) = beats.get(progress.at - discarded) {
         match progress.tracker.check(beat) {

@@ -10,8 +10,8 @@ ghost use Rattle.tl_settle.specs.Settling.{stops_a, stops_d};
 ghost use Rattle.tl_burst.specs.Begun.{left};
 ghost use Rattle.tl_settle.specs.Outcomes.{verdict_a, verdict_d, verdict_of};
 ghost use Rattle.tl_check.specs.Inner.Passing.{AreAt, HasCome, IsWithin, NotesAsks, NotesAnswers};
-ghost use Rattle.tl_run.specs.Parts.{IsEnd, IsPart};
-ghost use Rattle.tl_run.specs.Stopping.{IsStuck};
+ghost use Rattle.tl_parts.specs.Parts.{IsEnd, IsPart};
+ghost use Rattle.tl_parts.specs.Stopping.{IsStuck};
 
 use crate::progress::Progress;
 use tl_msg::{Beat, ChA, ChD, HeadA, HeadD, SideFault};

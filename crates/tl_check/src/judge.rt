@@ -4,9 +4,8 @@ ghost use Rattle.tl_lanes.specs.Lanes.{IsWidth};
 ghost use Rattle.tl_settle.specs.Outcomes.{Beats, verdicts};
 ghost use Rattle.tl_settle.specs.Books.{KnowsClient, KnowsManager};
 ghost use Rattle.tl_trace.specs.Scripts.{HasCounts, HasRemoved};
-ghost use Rattle.tl_run.specs.Parts.{AreEnd, AreGoing, ArePart, AreWaiting, AreDiscarded, none_counted};
-ghost use Rattle.tl_run.specs.Scripts.{HasShortLists};
-ghost use Rattle.tl_run.specs.Stopping.{AreStuck};
+ghost use Rattle.tl_parts.specs.Parts.{AreEnd, AreGoing, ArePart, AreWaiting, AreDiscarded, none_counted, HasShortLists};
+ghost use Rattle.tl_parts.specs.Stopping.{AreStuck};
 ghost use Rattle.tl_check.specs.Inner.Ending.{EndsWith};
 ghost use Rattle.tl_check.specs.Judging.{CanJudge, HasJudged, places};
 
@@ -14,9 +13,8 @@ use crate::alone::judge_alone;
 use crate::coupled::judge_coupled;
 use crate::progress::Progress;
 use tl_msg::{ChA, ChB, ChC, ChD, ChE, SideFault, Verdict};
-use tl_run::count_discardable;
+use tl_parts::count_discardable;
 use tl_settle::{ClientBook, ManagerBook};
-use tl_sides::PerChannel;
 use tl_trace::{Counts, Script};
 
 /// Finds the verdicts of a script whose near beats are read incrementally. Accepted beats need not
@@ -45,12 +43,18 @@ pub struct Judge<const C: usize, const M: usize> {
     discarded: Counts,
 }
 
-// Advances each channel until all are stopped. Returns for each the reason why its next beat is
-// refused, or `None` if no beat is left.
-fn go_through<const C: usize, const M: usize>(
-    judge: &mut Judge<C, M>,
-    held: &Script<C, M>,
-) -> PerChannel<Option<SideFault>>
+// The reason why the next beat of each channel is refused, or `None` if no beat is left.
+#[derive(Clone, Copy)]
+struct Stops {
+    a: Option<SideFault>,
+    b: Option<SideFault>,
+    c: Option<SideFault>,
+    d: Option<SideFault>,
+    e: Option<SideFault>,
+}
+
+// Advances each channel until all are stopped, and returns why.
+fn go_through<const C: usize, const M: usize>(judge: &mut Judge<C, M>, held: &Script<C, M>) -> Stops
     requires { IsWidth C × IsWidth M × CanJudge judge.old held.now }
     ensures discarded { judge.new.discarded ≡ judge.old.discarded }
     ensures within { CanJudge judge.new held.now }
@@ -73,7 +77,7 @@ fn go_through<const C: usize, const M: usize>(
         &mut judge.a,
         &mut judge.d,
     );
-    PerChannel { a, b, c, d, e }
+    Stops { a, b, c, d, e }
 }
 
 impl<const C: usize, const M: usize> Judge<C, M> {
@@ -130,7 +134,7 @@ impl<const C: usize, const M: usize> Judge<C, M> {
             AreStuck near self.old.discarded (places self.new) held.now }
     {
         go_through(self, held);
-        let at = PerChannel {
+        let at = Counts {
             a: self.a.at,
             b: self.b.at,
             c: self.c.at,

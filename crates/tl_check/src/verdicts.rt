@@ -2,7 +2,7 @@
 ghost use Rattle.std.specs.Prelude.{◌≡◌, IfOk};
 ghost use Rattle.tl_lanes.specs.Lanes.{IsWidth};
 ghost use Rattle.tl_settle.specs.Outcomes.{verdicts};
-ghost use Rattle.tl_run.specs.Scripts.{HasShortLists, near_beats};
+ghost use Rattle.tl_parts.specs.Parts.{HasShortLists, near_beats};
 
 use crate::judge::Judge;
 use std::alloc::Global;

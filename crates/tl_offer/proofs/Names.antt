@@ -1,9 +1,9 @@
 -- The words of other modules that the proofs here use.
-pub use Rattle.std.proofs.Common.{◌≡◌, true, Result, Ok, Err, refl, sym, subst, ◌≢◌, ℕ, Bool, false, Option, None, Some, List, [], ◌∷◌, length, ap}
+pub use Rattle.std.proofs.Common.{◌≡◌, true, Result, Ok, Err, refl, sym, subst, ◌≢◌, ℕ, Bool, false, Option, None, Some, List, [], ◌∷◌, ap}
 pub use Rattle.std.proofs.Common.{◌∙◌, arith, ◌↔◌, ◌⊎◌, inl, inr, ⊎_elim}
 pub use Rattle.std.proofs.lemmas.Option.{slice_get_read, slice_get_past}
-pub use Rattle.std.specs.Prelude.{slice_get, IsTrue, nat_lt, slice_index_or}
-pub use Rattle.tl_convert.proofs.Comparisons.{there_is, true_less}
+pub use Rattle.std.specs.Prelude.{slice_get, IsTrue}
+pub use Rattle.tl_convert.proofs.Comparisons.{there_is}
 pub use Rattle.tl_msg.specs.Rules.{Rules}
 pub use Rattle.tl_msg.specs.declared.beat.BeatOf.{BeatOf}
 pub use Rattle.tl_msg.specs.declared.fault.SideFault.{SideFault}

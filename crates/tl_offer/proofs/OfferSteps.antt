@@ -1,12 +1,8 @@
--- The steps of a channel within a round: the beat that is read from its list, and the reason why it waits.
-use Rattle.tl_offer.proofs.Names.{◌≡◌, ◌↔◌, ◌⊎◌, ◌≢◌, ℕ, Bool, true, false, Option, Some, List, [], ◌∷◌, length, inl, inr, refl, sym, ap, ◌∙◌}
-use Rattle.tl_offer.proofs.Names.{IsTrue, slice_get_read, nat_lt, slice_get, slice_index_or, Rules, BeatOf, SideFault, World, Pipe}
-use Rattle.tl_offer.proofs.Names.{IsReady, true_less, Does, Done, Cut, Refused, Offered, Accepted, NotReady, Stopped}
+-- The steps of a channel within a round, and the reason why it waits.
+use Rattle.tl_offer.proofs.Names.{◌≡◌, ◌↔◌, ◌⊎◌, ◌≢◌, ℕ, Bool, true, false, Option, List, [], ◌∷◌, inl, inr, refl, ap, ◌∙◌}
+use Rattle.tl_offer.proofs.Names.{IsTrue, Rules, BeatOf, SideFault, World, Pipe}
+use Rattle.tl_offer.proofs.Names.{IsReady, Does, Done, Cut, Refused, Offered, Accepted, NotReady, Stopped}
 use Rattle.tl_ring.specs.Pipe.{StandsFor}
-
--- the element at a place below a list's end
-pub read_some : {A : Type 0} (bs : List A) (n : ℕ) (b : A) → true ≡ nat_lt n (length bs) → b ≡ slice_index_or bs n b → slice_get bs n ≡ Some b
-read_some bs n b below same = slice_get_read bs (length bs) n b refl (true_less n (length bs) (sym below)) same
 
 -- a test that fails shows that its condition does not hold
 pub fails : {P : Type 0} (test : Bool) → IsTrue test ↔ P → test ≡ false → P → ⊥

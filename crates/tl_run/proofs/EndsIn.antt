@@ -3,6 +3,7 @@ use Rattle.tl_run.proofs.Names.{◌≡◌, ◌+◌, ◌*◌, ◌≤◌, ℕ, [],
 use Rattle.tl_run.proofs.Names.{Verdict, Beats, far_beats, far_alone, verdicts, Bridge, near_count, far_count, progress, under_way, HasEnded}
 use Rattle.tl_run.proofs.Names.{stop_verdict, PerChannel, Stop}
 use Rattle.tl_run.specs.Scripts.{near_counts}
+use Rattle.tl_parts.proofs.Channels.{five-same}
 use Rattle.tl_run.proofs.ChannelEnd.{progress-end, count-end, far-end, verdict-end}
 use Rattle.tl_run.proofs.RunRound.{IsSettledEnd, run-end}
 
@@ -15,11 +16,6 @@ sum-rounds : (rounds p q r s t a b c d e f g h i j : ℕ) → rounds ≤ p + q +
     s ≡ d + 2 * i → t ≡ e + 2 * j →
     rounds ≤ a + b + c + d + e + 2 * (f + g + h + i + j) + 1
 sum-rounds rounds p q r s t a b c d e f g h i j few k l m n o = omega arith
-
--- five items, one after the other
-pub five-same : {A : Type 0} {p q r s t p' q' r' s' t' : A} → p ≡ p' → q ≡ q' → r ≡ r' → s ≡ s' → t ≡ t' →
-    p ∷ q ∷ r ∷ s ∷ t ∷ [] ≡ p' ∷ q' ∷ r' ∷ s' ∷ t' ∷ []
-five-same f g h i j = rw (f, g, h, i, j) refl
 
 -- a verdict, from the length of a list instead of a count
 pub verdict-is : (stop : Stop) (near : ℕ) {len far : ℕ} {v : Verdict} → len ≡ far → v ≡ stop_verdict stop near len → v ≡ stop_verdict stop near far

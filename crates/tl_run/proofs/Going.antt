@@ -17,7 +17,7 @@ use Rattle.tl_msg.specs.declared.head.HeadC.{HeadC}
 use Rattle.tl_msg.specs.declared.head.HeadE.{HeadE}
 use Rattle.tl_run.proofs.ChannelOffer.{homed-offer, sent-offer, sent-passed}
 use Rattle.tl_offer.proofs.OfferSteps.{does-taken}
-use Rattle.tl_run.proofs.Parts.{part-get}
+use Rattle.tl_parts.proofs.Parts.{part-get}
 use Rattle.std.proofs.lemmas.Option.{slice_get_past}
 use Rattle.tl_run.proofs.Round.{alone-own, client-own, manager-own}
 use Rattle.tl_run.proofs.RoundMoves.{client-offers, manager-offers}

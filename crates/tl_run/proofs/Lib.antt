@@ -9,7 +9,6 @@ pub mod RoundMoves
 pub mod RunRound
 pub mod OnlyMemory
 pub mod Round
-pub mod Parts
 mod Channels
 mod Going
 mod Rooms
@@ -20,7 +19,6 @@ pub mod Stuck
 pub mod Below
 mod DueBounds
 pub mod ChannelOffer
-pub mod Lives
 pub mod AllOffers
 pub mod Counting
 pub mod AllOk

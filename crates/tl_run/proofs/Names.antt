@@ -2,9 +2,9 @@
 -- module.
 pub use Rattle.std.proofs.Common.{◌≡◌, true, Result, Ok, Err, refl, sym, subst, ◌≢◌, ◌+◌, ◌≤◌, ◌*◌, ◌++◌, ℕ, zero, suc, Bool, false, Option, None}
 pub use Rattle.std.proofs.Common.{Some, List, [], ◌∷◌, length, map, take, drop, get_or, ap, ◌∙◌, arith, append-nil, append_assoc, length-append, ◌↔◌}
-pub use Rattle.std.proofs.Common.{◌<◌, ◌-◌, ◌⊎◌, inl, inr, min, ⊎_elim, ◌^◌, cond, zero-le, ◌&&◌, ◌||◌, rules, lit<}
+pub use Rattle.std.proofs.Common.{◌<◌, ◌-◌, ◌⊎◌, inl, inr, min, ⊎_elim, ◌^◌, cond, zero-le, ◌&&◌, ◌||◌, lit<}
 pub use Rattle.std.proofs.lemmas.List.{length-take-le, map-append, length-drop, nil_from_length, length-take}
-pub use Rattle.std.proofs.lemmas.Option.{slice_get_within, get_or_from_slice_get, slice_get_past}
+pub use Rattle.std.proofs.lemmas.Option.{slice_get_within, get_or_from_slice_get}
 pub use Rattle.std.specs.Option.{option_map_or}
 pub use Rattle.std.specs.Prelude.{IsOk, OnOk, ◌==◌, slice_get, if◌then◌else◌, slice_index, is_none, IsTrue, OnErr}
 pub use Rattle.std.specs.Prelude.{vec_capacity}
@@ -36,16 +36,17 @@ pub use Rattle.tl_run.specs.Inner.Running.{Stops, IsSent, IsHomed, under_way, pr
 pub use Rattle.tl_run.specs.Inner.Running.{IsNew, IsUnderWay, counted, all_progress, all_under_way, standing_count, all_standing, all_stopped}
 pub use Rattle.tl_run.specs.Inner.Running.{IsRunning, CanAdd, HaveRoomToCount, arriving, inboxes, lengths, IsAt, AllStop, HasRound, HasEnded}
 pub use Rattle.tl_run.specs.Inner.Running.{after_take_all, added, HasOffered}
-pub use Rattle.tl_run.specs.Parts.{IsPart, AreEnd, ArePart, IsEnd, none_counted, AreBetween, IsBetween}
-pub use Rattle.tl_run.specs.Scripts.{IsShort, near_count, far_count, near_beats, HasShortLists}
+pub use Rattle.tl_run.specs.Running.{as_counts}
+pub use Rattle.tl_parts.specs.Parts.{IsPart, AreEnd, ArePart, IsEnd, none_counted, AreBetween, IsBetween, IsShort, near_beats, HasShortLists}
+pub use Rattle.tl_run.specs.Scripts.{near_count, far_count}
 pub use Rattle.tl_offer.specs.declared.offered.Offered.{Offered}
 pub use Rattle.tl_offer.specs.declared.offered.Offered.TheVariants.{Stopped, Accepted, NotReady}
 pub use Rattle.tl_offer.specs.declared.offered.Stop.{Stop}
 pub use Rattle.tl_offer.specs.declared.offered.Stop.TheVariants.{Done, Cut, Refused}
 pub use Rattle.tl_settle.specs.Histories.{Ask, Answer, client_answer, manager_answer, manager_home, Event, asked, answered, manager_homes}
 pub use Rattle.tl_settle.specs.Outcomes.{verdict_of, far_alone, verdict_alone, Beats, far_beats, verdicts, verdict_a, verdict_d}
-pub use Rattle.tl_settle.specs.Rounds.{round, client_rests, manager_rests, Run, ClientMoves, ManagerMoves, client_takes, client_accepts}
-pub use Rattle.tl_settle.specs.Rounds.{manager_takes, manager_accepts, IsOver, IsSettledRun}
+pub use Rattle.tl_settle.specs.Rounds.{round, client_rests, manager_rests, Run, ClientMoves, ManagerMoves, client_accepts}
+pub use Rattle.tl_settle.specs.Rounds.{manager_accepts, IsOver, IsSettledRun}
 pub use Rattle.tl_sides.proofs.BridgeSize.{bridge_small}
 pub use Rattle.tl_sides.specs.Bridges.{bridge_client, bridge_manager}
 pub use Rattle.tl_sides.specs.Ports.{sends_a, sends_b, sends_c, sends_d, sends_e}

@@ -4,7 +4,7 @@ use Rattle.tl_run.proofs.Names.{◌≡◌, ◌≢◌, ◌+◌, ◌-◌, ◌*◌,
 use Rattle.tl_run.proofs.Names.{take, drop, min, refl, sym, ap, subst, ◌∙◌, arith, zero-le, length-append, IsOk, OnOk, OnErr, length-take-le}
 use Rattle.tl_run.proofs.Names.{nil_from_length, IsWidth, Rules, rules_a, rules_b, rules_c, rules_d, rules_e, BeatOf, SideFault, rest_of, World}
 use Rattle.tl_run.proofs.Names.{pushed, popped, Pipe, client_answer, manager_answer, Beats, PerChannel, Bridge, Past, StandsFor, IsStanding}
-use Rattle.tl_run.proofs.Names.{fetch_count, pump_count, after_fetch, after_pump, stops_alone, joined, AreBetween, none_counted}
+use Rattle.tl_run.proofs.Names.{fetch_count, pump_count, after_fetch, after_pump, stops_alone, joined, AreBetween, none_counted, as_counts}
 use Rattle.tl_run.proofs.Names.{HasShortLists, AreOn, AreStopsOf, HasStopped, IsStopOf, RestsIn, all_counts, all_ways, stop_by, way_in}
 use Rattle.tl_run.proofs.Names.{HaveRoomToCount, HasEnded, IsAt, IsSent, Stops, after_take_all, all_standing, all_under_way, arriving, emptied}
 use Rattle.tl_run.proofs.Names.{standing_count, under_way, Stop, Stopped}
@@ -24,7 +24,7 @@ use Rattle.tl_run.proofs.RunRound.{takes-round}
 
 -- ---- the beginning of a run
 
-pub new-within : {C M : ℕ} (held : Script C M) → HasShortLists held → AreBetween none_counted (record { a = 0; b = 0; c = 0; d = 0; e = 0 }) held
+pub new-within : {C M : ℕ} (held : Script C M) → HasShortLists held → AreBetween none_counted none_counted held
 new-within held short = record {
   a = record { from = zero-le; to = zero-le; few = omega (arith, short.few_a) };
   b = record { from = zero-le; to = zero-le; few = omega (arith, short.few_b) };
@@ -41,7 +41,7 @@ all_ends discarded held =
     (discarded.a + length held.a.items) + (discarded.b + length held.b.items) + (discarded.c + length held.c.items) + (discarded.d + length held.d.items) +
     (discarded.e + length held.e.items)
 
-module _ {C M : ℕ} (discarded : Counts) (n : PerChannel ℕ) (held : Script C M) (w : AreBetween discarded n held) where
+module _ {C M : ℕ} (discarded : Counts) (n : PerChannel ℕ) (held : Script C M) (w : AreBetween discarded (as_counts n) held) where
   pub room-to-count : HaveRoomToCount n
   room-to-count = record {
     a = few-enough w.a.to w.a.few;

@@ -11,7 +11,8 @@ use Rattle.tl_settle.specs.Settling.{far_a as due_far_a, far_d as due_far_d}
 use Rattle.tl_settle.specs.Steps.{State}
 use Rattle.tl_settle.proofs.Homes.{far_a_given, far_d_given}
 use Rattle.tl_settle.proofs.Runs.{RunIs, run_is, over}
-use Rattle.tl_run.proofs.RoundMoves.{client-takes-all, manager-takes-all, client-offers, manager-offers}
+use Rattle.tl_run.proofs.RoundMoves.{client-offers, manager-offers}
+use Rattle.tl_parts.proofs.Takes.{client-takes-all, manager-takes-all}
 use Rattle.tl_run.proofs.ChannelEnd.{inbox-due, all-taken, handed-accepted, stop-refuses, stop-verdict}
 
 module _ {C M : ℕ} (cw : IsWidth C) (mw : IsWidth M) (a : List (BeatOf HeadA C)) (d : List (BeatOf HeadD M)) (i j : ℕ) (s : Bridge C M) (x : Past C M)

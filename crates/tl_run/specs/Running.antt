@@ -10,6 +10,7 @@ use Rattle.tl_settle.specs.Rounds.{Run}
 use Rattle.tl_settle.specs.Outcomes.{Beats}
 use Rattle.tl_sides.specs.declared.per_channel.PerChannel.{PerChannel}
 use Rattle.tl_sides.specs.Bridges.{Bridge, Past, StandsFor, nothing_yet}
+use Rattle.tl_trace.specs.declared.script.Counts.{Counts}
 
 -- ---- one channel
 
@@ -33,6 +34,10 @@ abbrev pub IsHomed : {H : Type 0} (r : Rules H) {w v : ℕ} → World H w v → 
 IsHomed r {w = w} x = x.homes ≡ map (λ h. r.lane_address h 0) (heads r w x.accepted)
 
 -- ---- the five channels
+
+-- one number for each channel, as a count of beats
+abbrev pub as_counts : PerChannel ℕ → Counts
+as_counts n = record { a = n.a; b = n.b; c = n.c; d = n.d; e = n.e }
 
 module _ {C M : ℕ} where
   -- the number of beats of each channel

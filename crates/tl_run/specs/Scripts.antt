@@ -1,11 +1,12 @@
 -- The postconditions of the run of a script (this project's choice).
-use Rattle.std.specs.Prelude.{◌≡◌, ◌+◌, ◌*◌, ◌<◌, ◌≤◌, ◌^◌, ℕ, length}
+use Rattle.std.specs.Prelude.{◌≡◌, ◌+◌, ◌*◌, ◌<◌, ◌≤◌, ℕ, length}
 use Rattle.tl_msg.specs.Tables.{rules_b, rules_c, rules_e}
 use Rattle.tl_convert.specs.Accepted.{accepted_of}
 use Rattle.tl_settle.specs.Settling.{settled_state}
 use Rattle.tl_settle.specs.Outcomes.{Beats, far_beats, verdicts}
 use Rattle.tl_sides.specs.declared.per_channel.PerChannel.{PerChannel}
 use Rattle.tl_trace.specs.declared.script.Script.{Script}
+use Rattle.tl_parts.specs.Parts.{near_beats}
 use Rattle.tl_run.specs.declared.outcome.Outcome.{Outcome}
 
 -- each of five counts is less than a number
@@ -17,14 +18,6 @@ pub record AreBelow (n : PerChannel ℕ) (k : ℕ) : Type 0 where
   pub e : n.e < k
 
 module _ {C M : ℕ} (near : Beats C M) where
-  -- the lists are short enough to be counted
-  pub record IsShort : Type 0 where
-    pub few_a : length near.a ≤ 2 ^ 40
-    pub few_b : length near.b ≤ 2 ^ 40
-    pub few_c : length near.c ≤ 2 ^ 40
-    pub few_d : length near.d ≤ 2 ^ 40
-    pub few_e : length near.e ≤ 2 ^ 40
-
   -- the number of near beats of each channel that are accepted in the end
   abbrev pub near_counts : PerChannel ℕ
   near_counts = record {
@@ -58,13 +51,5 @@ module _ {C M : ℕ} (near : Beats C M) where
     pub few_rounds : outcome.rounds ≤ near_count + 2 * far_count + 1
 
 -- the same for a script
-module _ {C M : ℕ} where
-  -- its near beats
-  abbrev pub near_beats : Script C M → Beats C M
-  near_beats s = record { a = s.a.items; b = s.b.items; c = s.c.items; d = s.d.items; e = s.e.items }
-
-  abbrev pub HasShortLists : Script C M → Type 0
-  HasShortLists s = IsShort (near_beats s)
-
-  abbrev pub SettlesTo : Script C M → Outcome C M → Type 0
-  SettlesTo s outcome = EndsIn (near_beats s) outcome
+abbrev pub SettlesTo : {C M : ℕ} → Script C M → Outcome C M → Type 0
+SettlesTo s outcome = EndsIn (near_beats s) outcome

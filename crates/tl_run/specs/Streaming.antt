@@ -4,9 +4,9 @@ use Rattle.tl_settle.specs.Outcomes.{Beats}
 use Rattle.tl_sides.specs.declared.per_channel.PerChannel.{PerChannel}
 use Rattle.tl_sides.specs.Bridges.{Bridge, Past, StandsFor}
 use Rattle.tl_trace.specs.declared.script.Script.{Script}
-use Rattle.tl_run.specs.Parts.{AreBetween}
+use Rattle.tl_parts.specs.Parts.{AreBetween}
 use Rattle.tl_run.specs.Arrivals.{HaveRoom, no_beats}
-use Rattle.tl_run.specs.Running.{IsRunning, IsUnderWay, all_under_way, lengths}
+use Rattle.tl_run.specs.Running.{IsRunning, IsUnderWay, all_under_way, as_counts, lengths}
 use Rattle.tl_run.specs.declared.streaming.SyncRun.{SyncRun}
 
 -- a bridge represents a past in which nothing is under way
@@ -19,7 +19,7 @@ module _ {C M : ℕ} where
   -- on each channel, the beats that a run has accepted were discarded or are held by the script, and nothing is under
   -- way
   pub record CanRun (run : SyncRun C M) (held : Script C M) : Type 0 where
-    pub within : AreBetween run.discarded run.at held
+    pub within : AreBetween run.discarded (as_counts run.at) held
     pub rests : IsAtRest run.bridge
 
   -- a run of these near beats has not begun

@@ -1,8 +1,8 @@
 //! Advances the channels of a run in one thread, one after another, as far as the held beats allow.
 ghost use Rattle.std.specs.Prelude.{◌≡◌, length};
 ghost use Rattle.tl_sides.specs.Bridges.{Past, StandsFor};
-ghost use Rattle.tl_run.specs.Parts.{AreBetween, IsBetween};
-ghost use Rattle.tl_run.specs.Scripts.{near_beats};
+ghost use Rattle.tl_parts.specs.Parts.{AreBetween, IsBetween, near_beats};
+ghost use Rattle.tl_run.specs.Running.{as_counts};
 ghost use Rattle.tl_offer.specs.Widths.{AreWidths};
 ghost use Rattle.tl_run.specs.Inner.Going.{AllRest, AreOn, GoesAhead, HavePassed, behind};
 
@@ -44,8 +44,8 @@ pub(crate) fn all_go_ahead<const C: usize, const M: usize>(
     discarded: &Counts,
     at: &mut PerChannel<usize>,
 ) -> PerChannel<Option<SideFault>>
-    requires { AreWidths C M × AreBetween discarded.now at.old held.now }
-    ensures within { AreBetween discarded.now at.new held.now }
+    requires { AreWidths C M × AreBetween discarded.now (as_counts at.old) held.now }
+    ensures within { AreBetween discarded.now (as_counts at.new) held.now }
     ensures on { AreOn at.old at.new }
     ensures passes { (x : Past C M) → StandsFor bridge.old x →
         HavePassed discarded.now held.now at.old x at.new bridge.new }

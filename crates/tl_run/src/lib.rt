@@ -6,14 +6,12 @@
 #![tactic(auto)]
 
 // A private function has one `requires`, because the checker proves each clause separately at each
-// call. The same holds for functions that are public only for the run in two threads or for a
-// check.
+// call. The same holds for functions that are public only for the run in two threads.
 
 mod ahead;
 mod channel_state;
 mod far_sink;
 pub mod laws;
-mod leaving;
 mod outcome;
 mod rounds;
 mod streaming;
@@ -22,7 +20,6 @@ mod taken;
 mod turn;
 
 pub use far_sink::FarSink;
-pub use leaving::count_discardable;
 pub use outcome::{Outcome, RunFault};
 pub use rounds::{End, outcome_at};
 pub use streaming::SyncRun;

@@ -5,10 +5,9 @@ ghost use Rattle.tl_settle.specs.Outcomes.{Beats, far_beats, verdicts};
 ghost use Rattle.tl_sides.specs.Bridges.{Past, StandsFor};
 ghost use Rattle.tl_sides.specs.declared.per_channel.PerChannel.{PerChannel as PerChannelOf};
 ghost use Rattle.tl_trace.specs.Scripts.{HasCounts, HasRemoved};
-ghost use Rattle.tl_run.specs.Parts.{AreEnd, AreGoing, ArePart, AreWaiting, AreDiscarded, none_counted};
-ghost use Rattle.tl_run.specs.Scripts.{HasShortLists};
-ghost use Rattle.tl_run.specs.Stopping.{AreStuck};
-ghost use Rattle.tl_run.specs.Running.{IsNew, IsRunning};
+ghost use Rattle.tl_parts.specs.Parts.{AreEnd, AreGoing, ArePart, AreWaiting, AreDiscarded, none_counted, HasShortLists};
+ghost use Rattle.tl_parts.specs.Stopping.{AreStuck};
+ghost use Rattle.tl_run.specs.Running.{IsNew, IsRunning, as_counts};
 ghost use Rattle.tl_run.specs.Streaming.{CanRun, HasBegun, HasRoomForAll, HasRun, IsAtRest};
 ghost use Rattle.tl_run.specs.Inner.Going.{AreStopsOf, HasStopped, IsSound, all_counts, stop_by};
 ghost use Rattle.tl_run.specs.Inner.Running.{HaveRoomToCount};
@@ -16,12 +15,12 @@ ghost use Rattle.tl_offer.specs.Widths.{AreWidths};
 
 use crate::ahead::all_go_ahead;
 use crate::far_sink::FarSink;
-use crate::leaving::count_discardable;
 use crate::rounds::{are_empty, verdicts_at};
 use crate::taken::{add_counts, take_from_each};
 use std::alloc::AllocError;
 use tl_msg::{SideFault, Verdict};
 use tl_offer::Stop;
+use tl_parts::count_discardable;
 use tl_ring::EndFault;
 use tl_sides::{PerChannel, SyncBridge};
 use tl_trace::{Counts, Script};
@@ -100,7 +99,7 @@ fn go_through<F: FarSink<C, M>, const C: usize, const M: usize>(
         HasStopped F.Holds near run.new.at run.new.taken far.new run.new.bridge stopped_by) }
     ensures stuck { (near : Beats C M) → ArePart run.old.discarded held.now near →
         HasRun F.Holds near far.old run.old →
-        IfOk result (λ _. AreStuck near run.old.discarded run.new.at held.now) }
+        IfOk result (λ _. AreStuck near run.old.discarded (as_counts run.new.at) held.now) }
     ensures memory { (near : Beats C M) → ArePart run.old.discarded held.now near →
         HasRun F.Holds near far.old run.old → HasRoomForAll F.HasRoom near far.old →
         IsOk result × HasRoomForAll F.HasRoom near far.new }
@@ -197,12 +196,12 @@ impl<const C: usize, const M: usize> SyncRun<C, M> {
         requires manager { IsWidth M }
         requires held { CanRun self.old held.now }
         ensures counts { IfOk result (λ counts. HasCounts counts held.now) }
-        ensures going { IfOk result (AreGoing self.old.discarded self.new.at held.now) }
+        ensures going { IfOk result (AreGoing self.old.discarded (as_counts self.new.at) held.now) }
         ensures discarded { IfOk result (λ counts. AreDiscarded self.old.discarded counts self.new.discarded) }
         ensures held { IfOk result (λ counts. (rest : Script C M) →
             HasRemoved counts held.now rest → CanRun self.new rest) }
         ensures waiting { IfOk result (λ counts. (rest : Script C M) →
-            HasRemoved counts held.now rest → AreWaiting self.new.discarded self.new.at rest) }
+            HasRemoved counts held.now rest → AreWaiting self.new.discarded (as_counts self.new.at) rest) }
         ensures same { OnOk result (F.made_with far.new ≡ F.made_with far.old) }
 
         // for every script of which the held beats are a part
@@ -211,7 +210,7 @@ impl<const C: usize, const M: usize> SyncRun<C, M> {
             OnOk result (HasRun F.Holds near far.new self.new) }
         ensures stuck { (near : Beats C M) → ArePart self.old.discarded held.now near →
             HasRun F.Holds near far.old self.old →
-            IfOk result (λ _. AreStuck near self.old.discarded self.new.at held.now) }
+            IfOk result (λ _. AreStuck near self.old.discarded (as_counts self.new.at) held.now) }
         ensures memory { (near : Beats C M) → ArePart self.old.discarded held.now near →
             HasRun F.Holds near far.old self.old → HasRoomForAll F.HasRoom near far.old →
             IsOk result × HasRoomForAll F.HasRoom near far.new }
@@ -219,7 +218,14 @@ impl<const C: usize, const M: usize> SyncRun<C, M> {
         let Ok(_) = go_through(self, held, far) else {
             return Err(AllocError);
         };
-        Ok(count_discardable(&mut self.discarded, held, &self.at))
+        let at = Counts {
+            a: self.at.a,
+            b: self.at.b,
+            c: self.at.c,
+            d: self.at.d,
+            e: self.at.e,
+        };
+        Ok(count_discardable(&mut self.discarded, held, &at))
     }
 
     /// Ends the run of the script that ends with the held beats. Passes the remaining far beats to

@@ -6,7 +6,8 @@ ghost use Rattle.tl_run.specs.declared.outcome.RunFault.TheVariants.{RingSize, O
 ghost use Rattle.tl_sides.specs.Bridges.{Bridge};
 ghost use Rattle.tl_run.specs.Arrivals.{no_beats};
 ghost use Rattle.tl_run.specs.InRounds.{TakesRounds};
-ghost use Rattle.tl_run.specs.Scripts.{AreBelow, HasShortLists, SettlesTo, near_beats, near_counts};
+ghost use Rattle.tl_run.specs.Scripts.{AreBelow, SettlesTo, near_counts};
+ghost use Rattle.tl_parts.specs.Parts.{HasShortLists, near_beats};
 ghost use Rattle.tl_run.specs.Inner.Arriving.{HasRoomFor, beats_of};
 ghost use Rattle.tl_run.specs.Inner.Running.{HasEnded};
 ghost use Rattle.tl_offer.specs.Widths.{AreWidths};

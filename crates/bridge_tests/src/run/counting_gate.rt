@@ -3,7 +3,7 @@
 #![tactic(auto, using(tl_lanes::proofs::Widths::width_4))]
 
 ghost use Rattle.std.specs.Prelude.{◌≡◌, ◌<◌, IsOkAnd, IfSome};
-ghost use Rattle.tl_run.specs.Scripts.{HasShortLists};
+ghost use Rattle.tl_parts.specs.Parts.{HasShortLists};
 
 use crate::five::{empty, is_short};
 use crate::run::gate_tests::use_twice;

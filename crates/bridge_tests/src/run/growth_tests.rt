@@ -3,7 +3,7 @@
 //! `tests/program/test_refusals.py` makes each fail in turn. If none fails, the tests pass.
 #![tactic(auto, using(tl_lanes::proofs::Widths::width_4, tl_lanes::proofs::Widths::width_8))]
 
-ghost use Rattle.tl_run.specs.Scripts.{HasShortLists};
+ghost use Rattle.tl_parts.specs.Parts.{HasShortLists};
 
 use crate::five::{has_one_each, script_of_five};
 use std::alloc::Global;

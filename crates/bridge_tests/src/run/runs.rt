@@ -1,7 +1,7 @@
 //! Tests that the run of a script in two threads agrees with its run in one.
 #![tactic(auto, using(tl_lanes::proofs::Widths::width_4))]
 
-ghost use Rattle.tl_run.specs.Scripts.{HasShortLists};
+ghost use Rattle.tl_parts.specs.Parts.{HasShortLists};
 
 use crate::five::is_short;
 use std::alloc::Global;

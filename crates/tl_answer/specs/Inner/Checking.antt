@@ -4,8 +4,8 @@ use Rattle.tl_settle.specs.Outcomes.{Beats}
 use Rattle.tl_trace.specs.Scripts.{Discarded, HasRemoved}
 use Rattle.tl_trace.specs.declared.script.Script.{Script}
 use Rattle.tl_trace.specs.declared.script.Counts.{Counts}
-use Rattle.tl_run.specs.Parts.{AreGoing, ArePart, AreWaiting}
-use Rattle.tl_run.specs.Stopping.{AreStuck}
+use Rattle.tl_parts.specs.Parts.{AreGoing, ArePart, AreWaiting}
+use Rattle.tl_parts.specs.Stopping.{AreStuck}
 use Rattle.tl_check.specs.Judging.{CanJudge, HasJudged, places}
 use Rattle.tl_check.specs.declared.judge.Judge.{Judge}
 use Rattle.tl_answer.specs.Inner.Consuming.{GoesWith}

@@ -4,8 +4,9 @@ use Rattle.tl_settle.specs.Outcomes.{Beats}
 use Rattle.tl_trace.specs.Scripts.{Discarded, HasRemoved}
 use Rattle.tl_trace.specs.declared.script.Script.{Script}
 use Rattle.tl_trace.specs.declared.script.Counts.{Counts}
-use Rattle.tl_run.specs.Parts.{AreGoing, ArePart, AreWaiting}
-use Rattle.tl_run.specs.Stopping.{AreStuck}
+use Rattle.tl_parts.specs.Parts.{AreGoing, ArePart, AreWaiting}
+use Rattle.tl_parts.specs.Stopping.{AreStuck}
+use Rattle.tl_run.specs.Running.{as_counts}
 use Rattle.tl_run.specs.Streaming.{CanRun, HasRun}
 use Rattle.tl_answer.specs.Inner.FarTexts.{HasLines}
 use Rattle.tl_answer.specs.Inner.Consuming.{GoesWith}
@@ -19,6 +20,6 @@ pub record Crosses {C M : ℕ} (version : ℕ) (x : Crossing C M) (discarded : D
 -- it advances as far as these beats allow. Enough of them are removed that fewer done beats are kept than waiting ones
 pub record CrossesOn {C M : ℕ} (before after : Crossing C M) (s : Script C M) (counts : Counts) : Type 0 where
   pub stuck : (near : Beats C M) → ArePart before.run.discarded s near → HasRun HasLines near before.far before.run →
-      AreStuck near before.run.discarded after.run.at s
-  pub going : AreGoing before.run.discarded after.run.at s counts
-  pub waiting : (rest : Script C M) → HasRemoved counts s rest → AreWaiting after.run.discarded after.run.at rest
+      AreStuck near before.run.discarded (as_counts after.run.at) s
+  pub going : AreGoing before.run.discarded (as_counts after.run.at) s counts
+  pub waiting : (rest : Script C M) → HasRemoved counts s rest → AreWaiting after.run.discarded (as_counts after.run.at) rest

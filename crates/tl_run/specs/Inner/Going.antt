@@ -16,7 +16,7 @@ use Rattle.tl_trace.specs.declared.script.Counts.{Counts}
 use Rattle.tl_sides.specs.declared.per_channel.PerChannel.{PerChannel}
 use Rattle.tl_sides.specs.Bridges.{Bridge, Past, StandsFor}
 use Rattle.tl_sides.specs.Crossings.{stops_alone}
-use Rattle.tl_run.specs.Parts.{ArePart}
+use Rattle.tl_parts.specs.Parts.{ArePart}
 use Rattle.tl_run.specs.Inner.Running.{IsAt, all_under_way, lengths}
 use Rattle.tl_offer.specs.Offering.{refused_by}
 use Rattle.tl_offer.specs.declared.offered.Offered.{Offered}

@@ -1,5 +1,5 @@
 use Rattle.std.proofs.Common.{◌≡◌, true}
-use Rattle.tl_run.specs.Scripts.{near_beats}
+use Rattle.tl_parts.specs.Parts.{near_beats}
 use Rattle.tl_run.specs.Inner.Running.{HaveRoomToCount}
 use Rattle.tl_bridge.specs.Inner.Sides.{HasPlayedTurns}
 use Rattle.tl_bridge.proofs.turns.play.Given as goal

@@ -1,9 +1,7 @@
 use Rattle.std.specs.Prelude.{IfSome}
-use Rattle.tl_msg.specs.declared.fault.SideFault.TheVariants.{Beat}
-use Rattle.tl_sides.specs.Crossings.{stops_alone}
-use Rattle.tl_check.proofs.Names.{◌≢◌, ◌∙◌, None, Some, sym, ap, subst, option_map_or}
-use Rattle.tl_check.proofs.Names.{◌-◌, length, take, refl, slice_get_within, read_some, end-past, part-get, part-of}
-use Rattle.tl_check.proofs.Parts.{none-held, none-left, steps}
+use Rattle.tl_check.proofs.Names.{◌≢◌, ◌∙◌, None, Some, sym, subst, fault_after}
+use Rattle.tl_check.proofs.Names.{◌-◌, length, take, refl, slice_get_within, end-past, part-get, part-of}
+use Rattle.tl_check.proofs.Parts.{none-held, none-left, read_some, steps}
 use Rattle.tl_check.proofs.Passing.{alone-all, alone-stops, says-after}
 use Rattle.tl_check.proofs.alone.judge_alone.Goals as goal
 
@@ -43,8 +41,8 @@ returns-in-Err g c = record {
       let after = says-after g.K.Channel.rules bs progress.tracker progress.at progress.far (c.beats.invariant.come bs part was) c.in-Some.beat.now
       (part-get c.args.discarded progress.at c.args.beats.now bs part c.beats.invariant.within.from c.in-Some.beat.now next)
       (Some c.in-Err.fault) c.in-Err.ensures.fault in
-      subst (λ q. IfSome q (λ b. stops_alone g.K.Channel.rules (take progress.at bs) b ≢ None)) (sym next)
-      (λ free. cc (sym (ap (λ o. option_map_or (λ f. Some (Beat f)) o None) after) ∙ free));
+      subst (λ q. IfSome q (λ b. fault_after g.K.Channel.rules (take progress.at bs) b ≢ None)) (sym next)
+      (λ free. cc (sym after ∙ free));
 }
 
 pub returns : goal.returns
@@ -60,6 +58,6 @@ returns g c = record {
   stuck = λ bs part was.
       let progress = c.beats.progress in
       let past = none-left c.args.discarded progress.at c.args.beats.now c.in_default.ensures.lookup.0 c.beats.invariant.within in
-      subst (λ q. IfSome q (λ b. stops_alone g.K.Channel.rules (take progress.at bs) b ≢ None))
+      subst (λ q. IfSome q (λ b. fault_after g.K.Channel.rules (take progress.at bs) b ≢ None))
       (sym (none-held c.args.discarded progress.at c.args.beats.now past)) tt;
 }

@@ -1,6 +1,6 @@
 use Rattle.tl_check.proofs.Names.{◌≡◌, ◌-◌, ◌∙◌, None, sym, ap, arith, end-past, part-of, slice_get, option_map_or, stops_a, stops_d}
-use Rattle.tl_run.proofs.Parts.{end-get}
-use Rattle.tl_run.proofs.Stuck.{stuck-by}
+use Rattle.tl_parts.proofs.Parts.{end-get}
+use Rattle.tl_parts.proofs.Stopping.{stuck-by}
 use Rattle.tl_check.proofs.Parts.{none-held}
 use Rattle.tl_check.proofs.Ends.{both-end}
 use Rattle.tl_check.proofs.coupled.judge_coupled.Goals as goal

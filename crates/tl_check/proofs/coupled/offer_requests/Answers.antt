@@ -1,8 +1,8 @@
 use Rattle.tl_check.proofs.Names.{lit<, ◌≡◌, ◌-◌, None, length, take, refl, sym, ap, subst, ◌∙◌, arith}
 use Rattle.tl_check.proofs.Names.{IsOk, IfOk, IsPlace, option_map_or, slice_get_past, slice_get_within}
-use Rattle.tl_check.proofs.Names.{rules_a, stops_a, AreAt, read_some, part-get}
+use Rattle.tl_check.proofs.Names.{rules_a, stops_a, AreAt, part-get}
 use Rattle.tl_check.proofs.Ends.{stopped-at}
-use Rattle.tl_check.proofs.Parts.{none-left, steps}
+use Rattle.tl_check.proofs.Parts.{none-left, read_some, steps}
 use Rattle.tl_check.proofs.Passing.{says-after}
 use Rattle.tl_check.proofs.Steps.{ask-accepted, ask-checked, ask-stops}
 use Rattle.tl_check.proofs.coupled.offer_requests.Goals as goal

@@ -1,8 +1,8 @@
 use Rattle.tl_check.proofs.Names.{lit<, ◌≡◌, ◌-◌, None, length, take, refl, sym, ap, subst, ◌∙◌, arith}
 use Rattle.tl_check.proofs.Names.{IsOk, IfOk, IsPlace, option_map_or, slice_get_past, slice_get_within}
-use Rattle.tl_check.proofs.Names.{rules_d, stops_d, AreAt, read_some, part-get}
+use Rattle.tl_check.proofs.Names.{rules_d, stops_d, AreAt, part-get}
 use Rattle.tl_check.proofs.Ends.{stopped-at}
-use Rattle.tl_check.proofs.Parts.{none-left, steps}
+use Rattle.tl_check.proofs.Parts.{none-left, read_some, steps}
 use Rattle.tl_check.proofs.Passing.{says-after}
 use Rattle.tl_check.proofs.Steps.{answer-accepted, answer-checked, answer-stops}
 use Rattle.tl_check.proofs.coupled.offer_responses.Goals as goal

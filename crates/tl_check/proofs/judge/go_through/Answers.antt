@@ -1,9 +1,8 @@
-use Rattle.tl_check.proofs.Names.{refl, sym, subst, take, stops_a, stops_d, length, IsWithin, IsPart}
-use Rattle.tl_run.proofs.Lives.{lives-long}
+use Rattle.tl_check.proofs.Names.{refl, sym, subst, take, stops_a, stops_d, length, IsWithin, IsPart, fault_after}
+use Rattle.tl_parts.proofs.Lives.{lives-long}
 use Rattle.tl_msg.specs.Tables.{rules_b, rules_c, rules_e}
-use Rattle.tl_sides.specs.Crossings.{stops_alone}
-use Rattle.tl_run.specs.Parts.{IsEnd}
-use Rattle.tl_run.specs.Stopping.{IsStuck}
+use Rattle.tl_parts.specs.Parts.{IsEnd}
+use Rattle.tl_parts.specs.Stopping.{IsStuck}
 use Rattle.tl_check.proofs.judge.go_through.Goals as goal
 
 pub deref-requires : goal.deref-requires
@@ -68,12 +67,12 @@ returns g c =
           (subst (λ q. IsPart discarded.d q near.d) (sym of_d) part.d) was.a was.d was.both in
           record {
             a = subst (λ q. IsStuck discarded.a coupled.new.asks.at q (stops_a near.a near.d coupled.new.asks.at coupled.new.answers.at)) of_a both.0;
-            b = subst (λ q. IsStuck discarded.b b.new.progress.at q (stops_alone rules_b (take b.new.progress.at near.b))) of_b
+            b = subst (λ q. IsStuck discarded.b b.new.progress.at q (fault_after rules_b (take b.new.progress.at near.b))) of_b
                 (b.ensures.stuck near.b (subst (λ q. IsPart discarded.b q near.b) (sym of_b) part.b) was.b);
-            c = subst (λ q. IsStuck discarded.c c'.new.progress.at q (stops_alone rules_c (take c'.new.progress.at near.c))) of_c
+            c = subst (λ q. IsStuck discarded.c c'.new.progress.at q (fault_after rules_c (take c'.new.progress.at near.c))) of_c
                 (c'.ensures.stuck near.c (subst (λ q. IsPart discarded.c q near.c) (sym of_c) part.c) was.c);
             d = subst (λ q. IsStuck discarded.d coupled.new.answers.at q (stops_d near.a near.d coupled.new.asks.at coupled.new.answers.at)) of_d both.1;
-            e = subst (λ q. IsStuck discarded.e e.new.progress.at q (stops_alone rules_e (take e.new.progress.at near.e))) of_e
+            e = subst (λ q. IsStuck discarded.e e.new.progress.at q (fault_after rules_e (take e.new.progress.at near.e))) of_e
                 (e.ensures.stuck near.e (subst (λ q. IsPart discarded.e q near.e) (sym of_e) part.e) was.e);
           };
     }

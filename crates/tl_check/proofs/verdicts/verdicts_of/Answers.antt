@@ -1,4 +1,4 @@
-use Rattle.tl_run.specs.Scripts.{near_beats}
+use Rattle.tl_parts.specs.Parts.{near_beats}
 use Rattle.tl_check.proofs.Names.{all-held}
 use Rattle.tl_check.proofs.verdicts.verdicts_of.Goals as goal
 

@@ -1,5 +1,5 @@
 use Rattle.tl_run.proofs.Names.{◌-◌, ◌<◌, length, sym, subst, arith, Accepted}
-use Rattle.tl_run.proofs.Lives.{lives-long}
+use Rattle.tl_parts.proofs.Lives.{lives-long}
 use Rattle.tl_run.specs.Inner.Going.{GoesAhead, at_first, one_more, stopped, through}
 use Rattle.tl_run.proofs.ahead.go_ahead.Goals as goal
 

@@ -1,5 +1,5 @@
 use Rattle.tl_run.proofs.Names.{subst}
-use Rattle.tl_run.proofs.Lives.{lives-long}
+use Rattle.tl_parts.proofs.Lives.{lives-long}
 use Rattle.tl_run.proofs.rounds.offer_of.Goals as goal
 
 pub deref-requires : goal.deref-requires

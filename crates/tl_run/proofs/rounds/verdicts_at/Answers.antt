@@ -1,5 +1,6 @@
 use Rattle.tl_run.proofs.Names.{ap, ◌∙◌}
-use Rattle.tl_run.proofs.EndsIn.{verdicts-are, five-same, verdict-is}
+use Rattle.tl_run.proofs.EndsIn.{verdicts-are, verdict-is}
+use Rattle.tl_parts.proofs.Channels.{five-same}
 use Rattle.tl_run.proofs.rounds.verdicts_at.Goals as goal
 
 pub returns : goal.returns

@@ -1,11 +1,11 @@
-use Rattle.tl_run.proofs.Names.{lit<, refl, sym, subst, ◌∙◌, bridge_small, AreEnd, ArePart, AllRest, IsAt}
+use Rattle.tl_run.proofs.Names.{lit<, refl, sym, subst, ◌∙◌, bridge_small, AreEnd, ArePart, AllRest, IsAt, as_counts}
 use Rattle.tl_run.proofs.Counting.{nearer}
-use Rattle.tl_run.proofs.Parts.{are-part}
+use Rattle.tl_parts.proofs.Parts.{are-part}
 use Rattle.tl_run.proofs.Memory.{passed-on}
 use Rattle.tl_run.proofs.OnlyMemory.{not-ok}
 use Rattle.tl_run.proofs.Pieces.{all-on, all-same, all-within, rests-too, room-to-count}
 use Rattle.tl_run.proofs.Stuck.{all-rest, all-stuck}
-use Rattle.tl_run.specs.Stopping.{AreStuck}
+use Rattle.tl_parts.specs.Stopping.{AreStuck}
 use Rattle.tl_run.proofs.streaming.go_through.Goals as goal
 
 pub turns-init : goal.turns-init
@@ -90,8 +90,8 @@ returns-then-total-before g c =
       stuck = λ near part was.
           let r = here.on near part was in
           let u = r.under_way in
-          subst (λ q. AreStuck near q c.all_go_ahead-stopped_by.new.at c.args.held.now) here.discarded
-          (subst (λ n. AreStuck near c.turns.run.discarded n c.args.held.now) (sym same)
+          subst (λ q. AreStuck near q (as_counts c.all_go_ahead-stopped_by.new.at) c.args.held.now) here.discarded
+          (subst (λ n. AreStuck near c.turns.run.discarded (as_counts n) c.args.held.now) (sym same)
           (all-stuck _ _ c.args.held.now here.can.within near u.past _ (turn.rests same u.past u.stands) c.requires.0.client c.requires.0.manager
           (subst (λ q. ArePart q c.args.held.now near) (sym here.discarded) part) r.all c.turns.run.bridge u.stands u.is_at
           (rests-too c.turns.run.bridge rests.past u.past rests.stands u.stands rests.rest)));

@@ -1,5 +1,5 @@
 use Rattle.tl_check.proofs.Names.{◌∙◌, are-part}
-use Rattle.tl_run.proofs.EndsIn.{five-same}
+use Rattle.tl_parts.proofs.Channels.{five-same}
 use Rattle.tl_check.proofs.judge.Judge.end.Goals as goal
 
 pub returns : goal.returns

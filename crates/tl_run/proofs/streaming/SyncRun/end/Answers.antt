@@ -1,6 +1,6 @@
 use Rattle.tl_run.proofs.Names.{subst, bridge_small}
 use Rattle.tl_run.proofs.EndsIn.{far-is}
-use Rattle.tl_run.proofs.Parts.{are-part}
+use Rattle.tl_parts.proofs.Parts.{are-part}
 use Rattle.tl_run.proofs.OnlyMemory.{not-ok}
 use Rattle.tl_run.proofs.Pieces.{has-ended}
 use Rattle.tl_run.proofs.streaming.SyncRun.end.Goals as goal

@@ -1,7 +1,8 @@
-use Rattle.tl_run.proofs.Names.{◌≡◌, ◌+◌, ◌-◌, ◌≤◌, ℕ, List, length, length-drop, drop, sym, subst, ap, ◌∙◌, arith, IsBetween}
-use Rattle.tl_run.proofs.Parts.{left-waiting}
-use Rattle.tl_run.specs.Parts.{going}
-use Rattle.tl_run.proofs.leaving.count_discardable.Goals as goal
+use Rattle.std.proofs.Common.{◌≡◌, ◌+◌, ◌-◌, ◌≤◌, ℕ, List, length, drop, sym, subst, ap, ◌∙◌, arith}
+use Rattle.std.proofs.lemmas.List.{length-drop}
+use Rattle.tl_parts.proofs.Parts.{left-waiting}
+use Rattle.tl_parts.specs.Parts.{IsBetween, going}
+use Rattle.tl_parts.proofs.leaving.count_discardable.Goals as goal
 
 -- no more go than are held
 few : {n count discarded after at : ℕ} → IsBetween discarded at n → after ≡ discarded + count → after ≤ at → count ≤ n

@@ -1,5 +1,5 @@
 -- A value that borrows nothing may be held as long as any other.
-use Rattle.tl_run.proofs.Names.{ℕ, List, [], rules}
+use Rattle.std.proofs.Common.{ℕ, List, [], rules}
 use contract.BorrowLft.{◌⊑◌}
 
 pub lives-long : (κ : List ℕ) → κ ⊑ []

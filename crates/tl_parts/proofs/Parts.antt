@@ -1,11 +1,13 @@
 -- Elements of a part of a list are elements of the list, and elements after the end of a list.
-use Rattle.tl_run.proofs.Names.{◌≡◌, ◌≤◌, ◌+◌, ◌-◌, ◌++◌, ℕ, zero, suc, None, Some, List, [], ◌∷◌, length, refl, sym, ap, subst, ◌∙◌, arith}
-use Rattle.tl_run.proofs.Names.{append-nil, length-append, slice_get_past, slice_get, Beats, AreEnd, ArePart, IsEnd, IsPart, none_counted, near_beats}
+use Rattle.std.proofs.Common.{◌≡◌, ◌≤◌, ◌<◌, ◌+◌, ◌-◌, ◌*◌, ◌++◌, ◌⊎◌, inl, inr, ℕ, zero, suc, None, Some, List, [], ◌∷◌, length, refl, sym, ap, subst}
+use Rattle.std.proofs.Common.{◌∙◌, arith, append-nil, length-append}
 use Rattle.std.proofs.lemmas.Bool.Decides.{nat_tests}
-use Rattle.tl_run.proofs.Names.{◌*◌, ◌<◌, ◌⊎◌, inl, inr}
-use Rattle.tl_run.specs.Parts.{going, IsBetween, IsWaiting}
+use Rattle.std.proofs.lemmas.Option.{slice_get_past}
+use Rattle.std.specs.Prelude.{slice_get}
+use Rattle.tl_settle.specs.Outcomes.{Beats}
 use Rattle.tl_trace.specs.declared.script.Script.{Script}
 use Rattle.tl_trace.specs.declared.script.Counts.{Counts}
+use Rattle.tl_parts.specs.Parts.{AreEnd, ArePart, IsBetween, IsEnd, IsPart, IsWaiting, going, near_beats, none_counted}
 
 get-left : {A : Type 0} (xs ys : List A) (k : ℕ) (b : A) → slice_get xs k ≡ Some b → slice_get (xs ++ ys) k ≡ Some b
 get-left [] ys k b e = cc

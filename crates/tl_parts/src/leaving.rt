@@ -1,9 +1,8 @@
 //! The number of beats of a script, read incrementally, that may be discarded.
 ghost use Rattle.std.specs.Prelude.{◌≡◌, ◌+◌, ◌-◌, ◌≤◌};
 ghost use Rattle.tl_trace.specs.Scripts.{HasCounts, HasRemoved};
-ghost use Rattle.tl_run.specs.Parts.{AreBetween, AreGoing, AreWaiting, AreDiscarded, IsBetween, going};
+ghost use Rattle.tl_parts.specs.Parts.{AreBetween, AreGoing, AreWaiting, AreDiscarded, IsBetween, going};
 
-use tl_sides::PerChannel;
 use tl_trace::{Counts, Script};
 
 // Returns how many of the held beats, which come after `discarded` discarded ones, may be discarded if
@@ -29,7 +28,7 @@ fn leaving(held: usize, discarded: &mut usize, at: usize) -> usize
 pub fn count_discardable<const C: usize, const M: usize>(
     discarded: &mut Counts,
     held: &Script<C, M>,
-    at: &PerChannel<usize>,
+    at: &Counts,
 ) -> Counts
     requires { AreBetween discarded.old at.now held.now }
     ensures counts { HasCounts result held.now }

@@ -2,9 +2,25 @@
 -- choice).
 use Rattle.std.specs.Prelude.{◌≡◌, ◌<◌, ◌≤◌, ◌+◌, ◌-◌, ◌*◌, ◌^◌, ◌++◌, ℕ, List, length, nat_lt, if◌then◌else◌}
 use Rattle.tl_settle.specs.Outcomes.{Beats}
-use Rattle.tl_sides.specs.declared.per_channel.PerChannel.{PerChannel}
 use Rattle.tl_trace.specs.declared.script.Script.{Script}
 use Rattle.tl_trace.specs.declared.script.Counts.{Counts}
+
+-- lists that are short enough to be counted
+pub record IsShort {C M : ℕ} (near : Beats C M) : Type 0 where
+  pub few_a : length near.a ≤ 2 ^ 40
+  pub few_b : length near.b ≤ 2 ^ 40
+  pub few_c : length near.c ≤ 2 ^ 40
+  pub few_d : length near.d ≤ 2 ^ 40
+  pub few_e : length near.e ≤ 2 ^ 40
+
+module _ {C M : ℕ} where
+  -- the near beats of a script
+  abbrev pub near_beats : Script C M → Beats C M
+  near_beats s = record { a = s.a.items; b = s.b.items; c = s.c.items; d = s.d.items; e = s.e.items }
+
+  -- the lists of a script are short enough to be counted
+  abbrev pub HasShortLists : Script C M → Type 0
+  HasShortLists s = IsShort (near_beats s)
 
 -- the held items are a part of a list, after its first `discarded` items
 pub record IsPart {B : Type 0} (discarded : ℕ) (held near : List B) : Type 0 where
@@ -43,7 +59,7 @@ pub record IsBetween (discarded at n : ℕ) : Type 0 where
   pub few : discarded + n ≤ 2 ^ 40
 
 -- the same for all channels of a script
-pub record AreBetween {C M : ℕ} (discarded : Counts) (at : PerChannel ℕ) (held : Script C M) : Type 0 where
+pub record AreBetween {C M : ℕ} (discarded at : Counts) (held : Script C M) : Type 0 where
   pub a : IsBetween discarded.a at.a (length held.a.items)
   pub b : IsBetween discarded.b at.b (length held.b.items)
   pub c : IsBetween discarded.c at.c (length held.c.items)
@@ -67,7 +83,7 @@ abbrev pub going : (done n : ℕ) → ℕ
 going done n = if nat_lt (2 * done) n then 0 else done
 
 -- these counts of each channel of a script are discarded, if `discarded` were discarded before and the first `at` are done
-pub record AreGoing {C M : ℕ} (discarded : Counts) (at : PerChannel ℕ) (held : Script C M) (counts : Counts) : Type 0 where
+pub record AreGoing {C M : ℕ} (discarded at : Counts) (held : Script C M) (counts : Counts) : Type 0 where
   pub a : counts.a ≡ going (at.a - discarded.a) (length held.a.items)
   pub b : counts.b ≡ going (at.b - discarded.b) (length held.b.items)
   pub c : counts.c ≡ going (at.c - discarded.c) (length held.c.items)
@@ -80,7 +96,7 @@ abbrev pub IsWaiting : (discarded at n : ℕ) → Type 0
 IsWaiting discarded at n = discarded < at → at - discarded < discarded + n - at
 
 -- the same for all channels of a script
-pub record AreWaiting {C M : ℕ} (discarded : Counts) (at : PerChannel ℕ) (held : Script C M) : Type 0 where
+pub record AreWaiting {C M : ℕ} (discarded at : Counts) (held : Script C M) : Type 0 where
   pub a : IsWaiting discarded.a at.a (length held.a.items)
   pub b : IsWaiting discarded.b at.b (length held.b.items)
   pub c : IsWaiting discarded.c at.c (length held.c.items)

@@ -1,7 +1,7 @@
-use Rattle.tl_run.proofs.Names.{◌-◌, arith}
-use Rattle.tl_run.proofs.Parts.{going-all, going-none}
-use Rattle.tl_run.proofs.leaving.leaving.Goals.{then-past-held, else-past-held}
-use Rattle.tl_run.proofs.leaving.leaving.Goals as goal
+use Rattle.std.proofs.Common.{◌-◌, arith}
+use Rattle.tl_parts.proofs.Parts.{going-all, going-none}
+use Rattle.tl_parts.proofs.leaving.leaving.Goals.{then-past-held, else-past-held}
+use Rattle.tl_parts.proofs.leaving.leaving.Goals as goal
 
 -- search finds it: an edit turns this one
 pub returns-clause-past : goal.returns-clause-past

@@ -1,0 +1,5 @@
+pub mod Parts
+pub mod Stopping
+pub mod Takes
+pub mod Channels
+pub mod Lives
