@@ -154,9 +154,9 @@ def pytest_xdist_make_scheduler(config: pytest.Config, log: Any) -> Any:
     """Runs each file in one process, as --dist loadfile does, except those above."""
     if config.getoption("dist") != "loadfile":
         return None
-    from xdist.scheduler import LoadScopeScheduling  # type: ignore[import]
+    from xdist.scheduler import LoadScopeScheduling
 
-    class Units(LoadScopeScheduling):  # type: ignore[misc]
+    class Units(LoadScopeScheduling):
         def _split_scope(self, nodeid: str) -> str:
             return unit_of(nodeid)
 

@@ -3,6 +3,8 @@
 It was not run under a real cocotb (docs/COCOTB.md). tests/python runs `Scoreboard.watch` with a substitute for its
 triggers.
 """
+from typing import Any, Callable
+
 import cocotb
 from cocotb.clock import Clock
 from cocotb.triggers import RisingEdge
@@ -17,7 +19,7 @@ REQUESTS = [
 ]
 
 
-async def send_requests(dut):
+async def send_requests(dut: Any) -> None:
     """The host: one request in each cycle, with its number as its source."""
     for source, (opcode, size, address, mask, data) in enumerate(REQUESTS):
         dut.up_a_valid.value = 1
@@ -31,7 +33,7 @@ async def send_requests(dut):
     dut.up_a_valid.value = 0
 
 
-async def send_responses(dut):
+async def send_responses(dut: Any) -> None:
     """The device: it answers each request two cycles later."""
     for _ in range(2):
         await RisingEdge(dut.clock)
@@ -52,14 +54,14 @@ class Constant:
     value = "0"
 
 
-def signals_of(dut, link):
+def signals_of(dut: Any, link: str) -> Callable[[str, str], Any]:
     """Finds the signal of a channel and a field on a link, "up" or "down"."""
     names = {"denied": "error"}
     return lambda channel, field: getattr(dut, f"{link}_{channel}_{names.get(field, field)}", Constant)
 
 
 @cocotb.test()
-async def every_beat_is_as_expected(dut):
+async def every_beat_is_as_expected(dut: Any) -> None:
     cocotb.start_soon(Clock(dut.clock, 10, "ns").start())
     for signal in (dut.up_a_valid, dut.down_d_valid):
         signal.value = 0

@@ -5,6 +5,7 @@
 """
 import sys
 from pathlib import Path
+from typing import Tuple
 
 from tlbridge import Beat, Scoreboard
 
@@ -14,15 +15,17 @@ FIELDS = {
 }
 
 
-def beat_of(line):
+def beat_of(line: str) -> Tuple[str, Beat]:
     """The channel and the beat of a line such as `A 4 0 2 01 0000000000001004 f0 0000000000000000 0`."""
     channel, *values = line.split()
-    fields = {name: int(value, 16) for name, value in zip(FIELDS[channel], values)}
-    lanes = len(values[-2]) // 2
-    return channel, Beat(**{**fields, "data": fields["data"].to_bytes(lanes, "little")})
+    digits = dict(zip(FIELDS[channel], values))
+    data = bytes.fromhex(digits.pop("data"))[::-1]  # lane 0 first
+    denied, corrupt = digits.pop("denied", "0") == "1", digits.pop("corrupt") == "1"
+    numbers = {name: int(value, 16) for name, value in digits.items()}
+    return channel, Beat(data=data, denied=denied, corrupt=corrupt, **numbers)
 
 
-def main(folder):
+def main(folder: Path) -> None:
     board = Scoreboard(client=8, manager=4, on_message=print)
     for link in ("client", "manager"):
         lines = (folder / f"{link}.beats").read_text().splitlines()

@@ -12,6 +12,6 @@ with Bridge(client=8, manager=4) as bridge:
     for beat in bridge.receive_all("A"):
         print(f"the manager gets opcode {beat.opcode}, mask {beat.mask:x}")
     for first in range(0, 16, 4):
-        bridge.offer("D", Beat(opcode=1, size=4, source=0x107, data=range(first, first + 4)))
+        bridge.offer("D", Beat(opcode=1, size=4, source=0x107, data=bytes(range(first, first + 4))))
     for beat in bridge.receive_all("D"):
         print("the client gets", beat.data[::-1].hex())

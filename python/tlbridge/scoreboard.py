@@ -134,8 +134,8 @@ class Scoreboard:
         message, in a byte whose mask bit is 0, and in the sink of a response that is not a Grant. In valid, ready and
         reset an unknown bit is also 0.
         """
-        from cocotb.triggers import RisingEdge  # type: ignore[import]
-        from cocotb.utils import get_sim_time  # type: ignore[import]
+        from cocotb.triggers import RisingEdge
+        from cocotb.utils import get_sim_time
 
         sampler = LinkSampler(self._widths[link])
         while True:

@@ -268,7 +268,8 @@ def serve(number: int) -> Optional[Tuple[types.CodeType, List[str]]]:
     os.chdir(request["folder"])
     os.environ.clear()
     os.environ.update(request["environment"])
-    sys.stdin, sys.stdout, sys.stderr = map(stream, range(3))  # type: ignore[assignment]
+    for number, name in enumerate(("stdin", "stdout", "stderr")):
+        setattr(sys, name, stream(number))
     return code, request["words"]
 
 

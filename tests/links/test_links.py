@@ -615,14 +615,15 @@ def small_board(tmp_path_factory: pytest.TempPathFactory, tmp_path: Path) -> Boa
 
 
 def test_the_exit_status_and_finish_say_whether_there_is_a_difference(small_board: Board) -> None:
-    """finish() returns the count, twice the same."""
+    """finish() returns the count, twice the same, and sets the output, also if it is a beat that is missing."""
     events = link_cases.started(lawful.exchange(8, 4))
     at = lawful.of(events, "E")[-1]
     wrong = [*events[:at], lawful.flipped(events[at], "sink", 15), *events[at + 1 :]]
-    for own, count in ((events, 0), (wrong, 1)):
+    missing = [*events[:at], *events[at + 1 :]]
+    for own, count in ((events, 0), (wrong, 1), (missing, 1)):
         status, printed = small_board.run_events(own, "+ends")
         assert (status != 0) == (count != 0), printed[-600:]
-        assert f"at the end: {count} differences of {len(events) - 4} beats" in printed
+        assert f"at the end: {count} differences of {len(own) - 4} beats\non the output: {count}\n" in printed
         assert printed.count("\nboard: time") == count
     assert "differences: 1, 1\n" in printed
 

@@ -204,8 +204,8 @@ def test_a_replay_sets_registers_of_any_type(tmp_path: Path) -> None:
 
 def test_the_name_of_a_register() -> None:
     cell = {"connections": {"Q": [5]}}
-    wires = {"dut.a.dut.b": {"bits": [5], "attributes": {"src": "x.sv:3.1-3.9"}}}
-    wires["$hidden"] = {"bits": [5], "hide_name": 1, "attributes": {}}  # type: ignore[dict-item]
+    wires: Dict[str, Any] = {"dut.a.dut.b": {"bits": [5], "attributes": {"src": "x.sv:3.1-3.9"}}}
+    wires["$hidden"] = {"bits": [5], "hide_name": 1, "attributes": {}}
     assert netlist._register({"netnames": wires}, cell) == "x.sv:3.1: a.dut.b"
     assert netlist._register({"netnames": {}}, cell) == "a register"
 

@@ -443,13 +443,13 @@ class Watched(unittest.TestCase):
 
     def watch(self, cycles: Any, reset: Any = "0", with_reset: bool = True, **words: Any) -> Tuple[int, List[str]]:
         """Lets both links be watched over cycles of signals by their names, and ends the board."""
-        import cocotb  # type: ignore[import]
+        import cocotb
 
         board, dut = Scoreboard(8, 4), Design(reset=reset)
         watches: List[Any] = []
         if with_reset:
             words["reset"] = dut.reset
-        cocotb.start_soon = watches.append
+        setattr(cocotb, "start_soon", watches.append)
         cocotb.start_soon(
             board.watch("client", dut.clock, lambda channel, field: getattr(dut, f"client_{channel}_{field}"), **words)
         )

@@ -1,5 +1,5 @@
 """The linters of each language: black, flake8 and mypy for Python, clang-tidy and the compiler's warnings for C, the
-compiler's warnings for C++, shellcheck for scripts of the shell. A missing one is a skip."""
+compiler's warnings for C++, shellcheck for scripts of the shell, Verilator for files of sv/. A missing one skips."""
 
 import os
 import re
@@ -11,10 +11,6 @@ import pytest
 from project import ROOT, compiler, needs_tools
 
 FIRST_LINE = re.compile(rb"#!.*\b(python3|sh|bash)\b")
-# The folders and scripts whose types mypy checks strictly: all but `tlexplain-model`, and `examples/`, where Python is
-# written as users may write it.
-TYPED = ("bench/", "python/", "sv/", "tests/", "tlbridge-", "tools/")
-
 
 # For the C of all folders: a pair of widths, and the numbers that tests give to glue.c.
 C_FLAGS = (
@@ -69,25 +65,27 @@ def test_flake8() -> None:
 
 
 def typed_groups() -> List[List[str]]:
-    """The files whose types are checked. No two of a group have one name, which mypy refuses: each `conftest.py` after
-    the first one is in a group of its own."""
+    """All files of Python, whose types are checked. No two of a group have one name, which mypy refuses: of `compare`,
+    for example, there are two."""
     groups: List[Dict[str, str]] = []
     for name in files_of("python"):
-        if name.startswith(TYPED):
-            path = Path(name)
-            module = name if (ROOT / path.parent / "__init__.py").exists() else path.stem
-            group = next((group for group in groups if module not in group), None)
-            if group is None:
-                group = {}
-                groups.append(group)
-            group[module] = name
+        path = Path(name)
+        module = name if (ROOT / path.parent / "__init__.py").exists() else path.stem
+        group = next((group for group in groups if module not in group), None)
+        if group is None:
+            group = {}
+            groups.append(group)
+        group[module] = name
     return [[*group.values()] for group in groups]
 
 
 @pytest.mark.parametrize("names", typed_groups(), ids=lambda names: f"{len(names)} from {names[0]}")
-def test_mypy(names: List[str]) -> None:
-    """The types of the package, of the tests, and of the scripts are checked strictly."""
-    folders = ["python", "tests/lib", "tools", *([os.path.dirname(names[0])] if len(names) == 1 else [])]
+def test_mypy(names: List[str], tmp_path: Path) -> None:
+    """The types of all Python are checked strictly. A link gives tlbridge-model a name that tlexplain-model can import.
+    The files in tests/stubs are the types of packages that have none."""
+    (tmp_path / "tlbridge_model.py").symlink_to(ROOT / "tlbridge-model")
+    own = {os.path.dirname(name) for name in names} - {""}
+    folders = ["python", "tests/lib", "tests/stubs", "tools", str(tmp_path), *sorted(own)]
     passes(
         "mypy",
         "--follow-imports=silent",
@@ -152,6 +150,63 @@ def test_compiler_warnings_of_cpp(name: str, tmp_path: Path) -> None:
         headers = [word for folder in (str(tmp_path), root, f"{root}/vltstd") for word in ("-isystem", folder)]
     warnings = ("-Wall", "-Wextra", "-Wshadow", "-Wconversion", "-Werror")
     passes("g++", "-std=c++17", "-fsyntax-only", *warnings, "-DTLBRIDGE_8_4", "-Iinclude", *headers, name)
+
+
+# The parameters with which Verilator reads sv/tl_bridge_watch.sv: all channels, a narrow and a wide link, one channel.
+WATCHED = (
+    "",
+    "-GMAX_WAIT=3 -GCOVERS=1'b1 -GREPEAT=1'b1 -GLARGEST_SIZE=6"
+    " -GCLIENT_BYTES=8 -GMANAGER_BYTES=1 -GREQUEST_USER_BITS=3",
+    "-GCLIENT_BYTES=1 -GMANAGER_BYTES=128 -GLARGEST_SIZE=12 -GSIZE_BITS=4 -GCHANNELS=5'd8 -GFORWARDS_OFFERED=1'b1",
+    "-GCHANNELS=5'd1 -GIDLE_LANES_ZERO=1'b0 -GLEVEL=0 -GALL_SOURCES=1'b0",
+)
+# The files of sv/ that no test of a product reads so, each as the top module, and with FORMAL the checker of a proof.
+READ = (
+    ("tlbridge_scoreboard", "sv/tlbridge_scoreboard.sv"),
+    ("tlbridge_scoreboard", "-GCLIENT_BYTES=128 -GSTOP=3 sv/tlbridge_scoreboard.sv"),
+    ("tl_checker", "-DFORMAL -GMAX_OUTSTANDING=4 sv/tl_checker.sv"),
+    *(("tl_bridge_watch", f"{given} sv/tl_bridge_watch.sv") for given in WATCHED),
+    *(("tl_bridge_watch", f"{given} -DFORMAL sv/tl_checker.sv sv/tl_bridge_watch.sv") for given in WATCHED),
+)
+
+
+@pytest.mark.parametrize("top, words", READ)
+def test_verilator_warns_of_nothing(top: str, words: str) -> None:
+    passes("verilator", "--lint-only", "-Wall", "--assert", "--top-module", top, *words.split())
+
+
+# By the ending of a file, or its kind: a comment that switches a check off, and the same with its reason.
+SWITCHES = {
+    "python": (
+        r"# *(noqa|type: *ignore|pragma: no)",
+        r"# (noqa: \w+|type: ignore\[[\w-]+\]) +(# )?\(.+\)$|# noqa: E402$",
+    ),
+    "shell": (r"# *shellcheck +disable", r"# shellcheck disable=SC\d+ # .+$"),
+    "c": (r"NOLINT", r"NOLINTNEXTLINE\([\w-]+\): .+$"),
+    "sv": (r"lint_off", r"/\* verilator lint_off [A-Z]+ \*/  // .+$"),
+}
+
+
+@pytest.mark.parametrize("kind", SWITCHES)
+def test_each_exception_has_a_reason(kind: str) -> None:
+    """A comment that switches a check of a linter off names the check, and says on its line why. In SystemVerilog the
+    check is switched on again in the same file. An import that is not at the top comes after a change of sys.path."""
+    paths = [ROOT / name for name in files_of(kind)]
+    if kind == "sv":
+        paths = [path for folder in ("sv", "rtl") for path in sorted((ROOT / folder).glob("*.sv"))]
+    switch, with_reason = SWITCHES[kind]
+    wrong = []
+    for path in paths:
+        text = "" if path == Path(__file__).resolve() else path.read_text()
+        for line in text.splitlines():
+            if re.search(switch, line) and not re.search(with_reason, line):
+                wrong.append(f"{path.relative_to(ROOT)}: {line.strip()}")
+        off, on = (sorted(re.findall(rf"lint_{word} (\w+)", text)) for word in ("off", "on"))
+        if "noqa: E402" in text and "sys.path" not in text.partition("noqa: E402")[0]:
+            wrong.append(f"{path.relative_to(ROOT)}: E402 without a change of sys.path")
+        if kind == "sv" and off != on:
+            wrong.append(f"{path.relative_to(ROOT)}: off {off}, on again {on}")
+    assert wrong == []
 
 
 # The widest line of SystemVerilog (docs/STYLE.md). A line with a text to print may be longer.

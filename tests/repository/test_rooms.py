@@ -20,6 +20,8 @@ OF_USERS = {
     "python/hatch_build.py": {"hatchling"},
     "tests/python/test_tlbridge.py": {"cocotb"},
 }
+# The name by which mypy finds tlbridge-model, which has no ending. No program imports it.
+FOR_TYPES = {"tlexplain-model": {"tlbridge_model"}}
 # Tools that use a module of tests/lib, each with the reason.
 TOOLS_WITH_TESTS = {"tools/pictures": "the browser of the tests of the page makes the picture of README"}
 # Files that use `random` and do not draw messages, or not by the maker: each with the reason.
@@ -106,8 +108,8 @@ def test_no_file_imports_from_a_room_that_it_may_not() -> None:
                 continue
             known = rooms.get(name)
             is_of_tests = room_of(path).startswith("tests") and name in PACKAGES
-            is_of_users = name in OF_USERS.get(str(path.relative_to(ROOT)), ())
-            if not is_of_tests and not is_of_users and not (known and known & allowed_rooms(path)):
+            is_other = any(name in table.get(str(path.relative_to(ROOT)), ()) for table in (OF_USERS, FOR_TYPES))
+            if not is_of_tests and not is_other and not (known and known & allowed_rooms(path)):
                 wrong.append(f"{path.relative_to(ROOT)} imports {name}")
     assert wrong == []
 

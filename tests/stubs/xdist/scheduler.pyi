@@ -1,0 +1,6 @@
+"""The scheduler of pytest-xdist that tests/conftest.py extends; Debian's package has no types."""
+import pytest
+
+class LoadScopeScheduling:
+    def __init__(self, config: pytest.Config, log: object = None) -> None: ...
+    def _split_scope(self, nodeid: str) -> str: ...
