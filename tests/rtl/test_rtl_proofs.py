@@ -18,10 +18,10 @@ from project import ROOT, RTL, needs_tools
 sys.path.insert(0, str(ROOT / "tools"))
 from rtl_proofs.given import step_model  # noqa: E402
 from rtl_proofs.rows import NOT_TRIED, OTHER_ROWS, ROWS, Bound, Refinement, Stage  # noqa: E402
-from rtl_proofs.run import HEADING, Outcome, line_of, name_of, prove, recipe_of  # noqa: E402
+from rtl_proofs.run import HEADING, Outcome, induction, line_of, name_of, prove, recipe_of  # noqa: E402
 
 from tlbridge.prove import engine  # noqa: E402
-from tlbridge.prove.model import build  # noqa: E402
+from tlbridge.prove.model import Recipe, build  # noqa: E402
 
 pytestmark = pytest.mark.simulator
 PAGE = ROOT / "docs" / "RTL_PROOFS.md"
@@ -169,6 +169,42 @@ def test_fifo_keeps_its_contract(tmp_path: Path) -> None:
     assert outcome.is_complete, outcome.verdicts
     assert sorted(outcome.proved) == ["Ready", "Valid", "bits[0].same.Data"]
     assert outcome.reached == outcome.covers == 2, outcome.not_reached
+
+
+INDUCTION = """
+module small (input wire clock, input wire step);
+    logic [3:0] count = 0, twin = 0, lap = 0;
+    logic wrong = 1;
+    always @(posedge clock) begin
+        if (step) {count, twin} <= {count + 4'd1, twin + 4'd1};
+        lap <= lap == 9 ? 4'd0 : lap + 4'd1;
+        wrong <= wrong;
+    end
+    always @* begin
+        Same: assert (count == twin);
+        NotInductive: assert (lap != 13);
+        FailsLater: assert (count != 9);
+        FailsAtOnce: assert (!wrong);
+    end
+endmodule
+"""
+
+
+def test_induction_proves_only_what_is_inductive(tmp_path: Path) -> None:
+    """An assertion that is true and not inductive, and one that fails later, are open. One that fails at once fails."""
+    needs_tools("yosys", "yosys-abc")
+    (tmp_path / "small.sv").write_text(INDUCTION)
+    model, _ = build(Recipe("small", (), (str(tmp_path / "small.sv"),), free_initial=""), tmp_path / "cache")
+    kinds = {
+        label: induction(step_model(model, [number], (), tmp_path / label), 0, 1).kind
+        for number, label in enumerate(model.labels)
+    }
+    expected = {"Same": engine.PROVED, "NotInductive": engine.OPEN, "FailsLater": engine.OPEN}
+    assert kinds == {**expected, "FailsAtOnce": engine.FAILS}
+    both = [model.labels.index(label) for label in ("Same", "NotInductive")]
+    assert induction(step_model(model, both, (), tmp_path / "both"), 0, 2).kind == engine.OPEN
+    given = step_model(model, both[:1], both[1:], tmp_path / "given")
+    assert induction(given, 0, 1).kind == engine.PROVED
 
 
 @pytest.mark.gate

@@ -14,7 +14,7 @@ from pathlib import Path
 from typing import Dict, List, Optional, Sequence, Tuple, Union
 
 from tlbridge.prove import engine
-from tlbridge.prove.engine import BOUNDED, FAILS, PROVED, Verdict
+from tlbridge.prove.engine import BOUNDED, FAILS, OPEN, PROVED, Verdict
 from tlbridge.prove.errors import ProveError
 from tlbridge.prove.harness import Options, is_cover, write_harness
 from tlbridge.prove.model import Model, Recipe, build, cache_folder, short_name
@@ -30,6 +30,8 @@ HERE = Path(__file__).resolve().parent
 CONTRACTS = HERE / "contracts.sv"
 COVER_FRAMES, COVER_SECONDS = 16, 5  # at most
 REFINEMENT_COVER_FRAMES = 60  # the reset at power-up takes 12 cycles
+INDUCTION_SECONDS = 60  # at most, for each of its two cases
+INDUCTIVE = r"^Networks are equivalent\."  # what abc's `ind` prints if there is no counterexample to the step
 TICKS = {"client_clock": "client_tick", "manager_clock": "manager_tick"}
 SYNCHRONIZER = ROOT / "tests" / "rtl" / "formal" / "tl_synchronizer.sv"
 # Assertions of a step that match the same one are proved together
@@ -39,10 +41,11 @@ TOGETHER = (
     r"^[a-e]\.(Mask|Lanes)$",
     r"^[a-e]\.(Corrupt|Early|Invented|Room|Zeros)$",
     r"_words\.Empty$|_words_deep_lemmas\.Count$",
-    r"_words\.Begins$|_words_chain_lemmas\.",
+    r"_words\.Begins$|_words_(chain|rest)_lemmas\.",
     r"_words\.(Watched|Here)$",
     r"_words_deep_lemmas\.(Near|Later|Far|None)$",
     r"_words_deep_lemmas\.(Kind|Size|Fields)$",
+    r"_words_deep_lemmas\.Marks$|_words_place_lemmas\.(Left|Whole)$",
     r"_part_lemmas\.(Fits|Part)",
     r"_part_lemmas\.Put",
     r"_deep_lemmas\.(Bad|Masked|Active)$|_part_lemmas\.Idle$",
@@ -127,6 +130,10 @@ def recipe_of(row: Union[Row, Refinement], stage: Stage, rtl: Path, folder: Path
         proof = [str(HERE / "lemmas.sv"), str(HERE / "deep.sv"), *proof]
         if any(map(row.has_chain, row.channel)):
             proof.insert(0, str(HERE / "chain.sv"))
+        if row.has_places(row.channel):
+            proof.insert(0, str(HERE / "places.sv"))
+        if row.has_order:
+            proof.insert(0, str(HERE / "order.sv"))
         if row.rules:
             proof.append(str(HERE / "rules.sv"))
     if row.by_contracts:
@@ -343,10 +350,30 @@ def ask_groups(part: Model, groups: Sequence[Sequence[str]], outcome: Outcome, j
 
 def conjunction(part: Model, start: int, count: int, seconds: int) -> Verdict:
     """Looks for a proof of `count` assertions of a model from `start` on, all with one invariant."""
+    found = induction(part, start, count)
+    if found.kind == PROVED:
+        return found
     if count == 1:
-        return engine.unbounded(part, start, seconds)
-    steps = [f"cone -s -O {start} -R {count}", "orpos", "scorr", "dc2", f"pdr -T {seconds}"]
-    return engine.verdict(*engine.ask(part.small, steps, seconds))
+        searched = engine.unbounded(part, start, seconds)
+    else:
+        steps = [f"cone -s -O {start} -R {count}", "orpos", "scorr", "dc2", f"pdr -T {seconds}"]
+        searched = engine.verdict(*engine.ask(part.small, steps, seconds))
+    return dataclasses.replace(searched, seconds=searched.seconds + found.seconds)
+
+
+def induction(part: Model, start: int, count: int) -> Verdict:
+    """Looks for a proof by induction over one step: `count` assertions from `start` on hold in the first frame, and in
+    each frame after one in which they hold. pdr would write a sum or an order of words as very many clauses.
+    """
+    cone = [f"cone -s -O {start} -R {count}", *(["orpos"] if count > 1 else [])]
+    said, seconds = engine.ask(part.small, [*cone, f"ind -F 2 -T {INDUCTION_SECONDS}"], INDUCTION_SECONDS)
+    if not re.search(INDUCTIVE, said, re.MULTILINE):
+        return Verdict(OPEN, 0, seconds)
+    said, more = engine.ask(part.small, [*cone, f"bmc3 -F 2 -T {INDUCTION_SECONDS}"], INDUCTION_SECONDS)
+    base = engine.verdict(said, seconds + more)
+    if base.kind == BOUNDED and base.frames >= 2:
+        return Verdict(PROVED, 0, base.seconds)
+    return base if base.kind == FAILS else Verdict(OPEN, 0, base.seconds)
 
 
 def note(outcome: Outcome, names: Sequence[str], found: Verdict) -> None:
