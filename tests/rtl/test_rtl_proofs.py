@@ -127,13 +127,53 @@ BUGS = (
         "assign out_mask    = in_mask[slot*NARROW+:NARROW];",
         "assign out_mask    = '1;",
     ),
+    Bug(
+        "far_rules.Rules",
+        "B-4-2-rules",
+        WIDEN,
+        "has_data ? byte_out[8] : active",
+        "has_data ? byte_out[8] : i < NARROW",
+    ),
+    Bug(
+        "far_rules.Rules",
+        "C-2-4-rules",
+        CHANNEL,
+        "assign far_corrupt = r_corrupt;",
+        "assign far_corrupt = far_opcode[1];",
+    ),
+    Bug(
+        "far_rules.Rules",
+        "D-4-2-rules",
+        CHANNEL,
+        "assign far_corrupt = r_corrupt;",
+        "assign far_corrupt = far_opcode[1];",
+    ),
+    Bug(
+        "request_rules.SourceBusy",
+        "D-4-2-rules",
+        NARROW,
+        "assign in_ready  = out_ready && last;",
+        "assign in_ready  = out_ready && last && begun;",
+    ),
+    Bug(
+        "request_rules.NoRequest", "D-4-2-rules", FIFO, "assign r_valid = w_count != r_count;", "assign r_valid = 1'b1;"
+    ),
+    Bug(
+        "request_rules.SizeMismatch",
+        "D-4-2-rules",
+        CHANNEL,
+        "{near_opcode, near_size, near_head,",
+        "{near_opcode, near_has_data ? near_size : SIZE_BITS'(0), near_head,",
+    ),
 )
 QUICK = [bug for bug in BUGS if bug.row == "E-2-2" and bug.assertion in ("e.Invented", "e.Head")]
 FRAMES, FRAMES_OF_REFINEMENT = 14, 40  # its reset takes 12
 
 
 def found(bug: Bug, tmp_path: Path, seconds: int = 600) -> engine.Verdict:
-    """The failure of the assertion in the model with the bug. Of the lemmas those about sources are assumed."""
+    """The failure of the assertion in the model with the bug. Of the lemmas those about sources are assumed, except for
+    what follows from them.
+    """
     rtl = tmp_path / "rtl"
     shutil.copytree(RTL, rtl)
     text = (rtl / bug.file).read_text()
@@ -144,7 +184,8 @@ def found(bug: Bug, tmp_path: Path, seconds: int = 600) -> engine.Verdict:
     stage = next((one for one in row.stages if not one.cuts), Stage())
     model, _ = build(recipe_of(row, stage, rtl, tmp_path), None)
     names = [name_of(label) for label in model.labels]
-    lemmas = [number for number, name in enumerate(names) if "Source" in name and "Source" not in bug.assertion]
+    of_sources = "Source" in bug.assertion or bug.assertion.startswith("request_rules.")
+    lemmas = [number for number, name in enumerate(names) if "Source" in name and not of_sources]
     part = step_model(model, [names.index(bug.assertion)], lemmas, tmp_path / "step")
     verdict = engine.bounded(part, 0, FRAMES_OF_REFINEMENT if refines else FRAMES, seconds)
     shutil.rmtree(model.folder)
@@ -268,6 +309,14 @@ def test_line_of_a_bound_is_no_proof() -> None:
     assert not part.is_complete and "| a part: nothing; open: Mask | 9 cycles, 1 of 2: Head. " in line_of(part)
     without = Outcome(ROW["A-4-2"], {"a.Head": enough}, 2.0, reached=4, covers=4)
     assert not without.is_complete and "| a part: nothing; open: Head | - |" in line_of(without)
+
+
+def test_line_of_a_part_names_it() -> None:
+    """With the resets or the sizes that its model has."""
+    start = "| FIFO and reset | - | 2 | 2 | later resets of each side, `SYNC_STAGES` 3 | a part: nothing |"
+    assert line_of(Outcome(ROW["FIFO-2-resets-stages-3"])).startswith(start)
+    assert line_of(Outcome(ROW["convert-4-2"])).startswith("| converter | 4:2 | 1 | - | messages up to 8 bytes |")
+    assert line_of(Outcome(ROW["links-4-2"])).startswith("| both links | 4:2 | 2 | 2 | all channels, `SYNC_STAGES` 2 |")
 
 
 # ---- the page

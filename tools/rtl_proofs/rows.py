@@ -51,10 +51,10 @@ class Row:
     manager's of `manager`.
 
     With `by_lemmas` there are lemmas (lemmas.py). With `by_contracts` the FIFOs and the reset agreement are replaced by
-    their contracts (contracts.sv). With `rules` the far beats also keep the rules of their link. With `within` the
-    assertions `Late` and `Ready` have this bound. `outstanding` is MAX_OUTSTANDING. `resets` is whose reset comes again
-    at any time: both sides' together, or that of the client or of the manager alone. Without `same_cycle` the manager
-    never responds in the cycle in which it accepts the request.
+    their contracts (contracts.sv). With `rules` the far beats also keep the rules of their link (rules.sv, links.sv),
+    and the model has all channels. With `within` the assertions `Late` and `Ready` have this bound. `outstanding` is
+    MAX_OUTSTANDING. `resets` is whose reset comes again at any time: both sides' together, or that of the client or of
+    the manager alone. Without `same_cycle` the manager never responds in the cycle in which it accepts the request.
     """
 
     channel: str
@@ -116,6 +116,11 @@ class Row:
             return 2
         return self.depth + (self.clocks == 2)
 
+    @property
+    def has_all_channels(self) -> bool:
+        """Whether the model has all channels, and not A and D alone."""
+        return self.rules or self.channel not in ("A", "D", "AD")
+
     def has_chain(self, channel: str) -> bool:
         """Whether the proof needs the lemmas of chain.sv.
 
@@ -146,7 +151,7 @@ class Row:
             "ASYNC": int(self.clocks == 2),
             "CLIENT_BYTES": self.client,
             "MANAGER_BYTES": self.manager,
-            "HAS_B_C_E": int(self.channel not in ("A", "D", "AD")),
+            "HAS_B_C_E": int(self.has_all_channels),
             **({"MAX_OUTSTANDING": self.outstanding} if self.outstanding else {}),
             **({} if self.same_cycle else {"ALLOW_SAME_CYCLE_RESPONSE": 0}),
         }
@@ -173,6 +178,44 @@ class Refinement:
     @property
     def variant(self) -> str:
         return f"words of {self.bits} bit"
+
+
+@dataclass(frozen=True)
+class Part:
+    """A part of the bridge by itself, or the bridge between two checkers.
+
+    `kind` is `resets` for the FIFO between two clocks and the reset agreement, with resets of each side at any time. It
+    is `convert` for the converter from beats of `client` bytes to beats of `manager` bytes, and `links` for the bridge
+    between two checkers (links.py), with two clocks.
+    """
+
+    kind: str
+    client: int = 0
+    manager: int = 0
+    depth: int = 0
+    sync_stages: int = 2
+    stages: Tuple[Stage, ...] = (Stage(),)
+    bound: Optional[Bound] = None
+
+    @property
+    def clocks(self) -> int:
+        return 1 if self.kind == "convert" else 2
+
+    @property
+    def name(self) -> str:
+        if self.kind == "resets":
+            return f"FIFO-{self.depth}-resets" + (f"-stages-{self.sync_stages}" if self.sync_stages != 2 else "")
+        return f"{self.kind}-{self.client}-{self.manager}"
+
+    @property
+    def variant(self) -> str:
+        """The differences from most rows, in words."""
+        if self.kind == "resets":
+            return f"later resets of each side, `SYNC_STAGES` {self.sync_stages}"
+        return f"messages up to {LARGEST} bytes" if self.kind == "convert" else "all channels, `SYNC_STAGES` 2"
+
+
+AnyRow = Union[Row, Refinement, Part]
 
 
 def others(channel: str) -> str:
@@ -225,7 +268,8 @@ def stages_of(channel: str) -> Tuple[Stage, ...]:
         Step(r"_words_deep_lemmas\.(Bad|Masked|Active)$|_words_part_lemmas\.Idle$", marks + "|" + LANES),
         Step(rf"^{letter}_words\.Value", marks + "|" + LANES),
         Step(rf"^{letter}\.(?!Source)", marks + "|" + LANES),
-        Step(r"^far_rules\.", rf"^{letter}\.|^request_lemmas\."),
+        Step(r"^far_rules_lemmas\.", rf"^{letter}\."),
+        Step(r"^far_rules\.", rf"^{letter}\.|^far_rules_lemmas\."),
     )
     if channel != "D":
         return (Stage(words, others(channel)),)
@@ -263,7 +307,9 @@ def stages_of(channel: str) -> Tuple[Stage, ...]:
             Step(r"_lemmas\.(Table|Own|Words|AtClient)$", counts + r"|_lemmas\.(One|Entry)$" + ORDER_OF_WORDS),
             Step(r"_lemmas\.(Kept|Same|AtManager|Asked)$", counts + r"|_lemmas\."),
             Step(LANES, counts + r"|_lemmas\."),
-            Step(r"^request_lemmas\.", counts + r"|_lemmas\."),
+            Step(r"^size_lemmas\.", counts + r"|_lemmas\."),
+            Step(r"^book_lemmas\.", counts + r"|_lemmas\."),
+            Step(r"^request_rules\.", counts + r"|_lemmas\."),
         )
     )
     rest = Stage(words, others("D"), ("dut.d_lane", "watch.d.lane"))
@@ -287,17 +333,39 @@ NAME = re.compile(
     r"(-rules)?(?:-within-(\d))?"
 )
 NAME_OF_FIFO = re.compile(r"FIFO-([248])(-two-clocks)?")
+NAME_OF_PART = re.compile(r"FIFO-([248])-resets(?:-stages-(\d))?|(convert|links)-([1248])-([1248])")
 
 
 def is_name(name: str) -> bool:
-    """Whether a row can have this name."""
-    return bool(NAME.fullmatch(name) or NAME_OF_FIFO.fullmatch(name))
+    """Whether a row can have this name. The rules of links need lemmas about the FIFO of one channel with data, without
+    later resets.
+    """
+    found = NAME.fullmatch(name)
+    if found and found[9]:
+        return found[1] in ("A", "B", "C", "D") and found[5] != "0" and not (found[7] or found[10])
+    return any(one.fullmatch(name) for one in (NAME, NAME_OF_FIFO, NAME_OF_PART))
 
 
-def row_named(name: str) -> Union[Row, Refinement]:
+def part_named(name: str) -> Optional[Part]:
+    """Returns the part of a name, if it is one. The bridge between two checkers always has a bound."""
+    found = NAME_OF_PART.fullmatch(name)
+    if not found:
+        return None
+    if found[1]:
+        return Part("resets", depth=int(found[1]), sync_stages=int(found[2] or 2))
+    kind, client, manager = found[3], int(found[4]), int(found[5])
+    if kind == "convert":
+        return Part(kind, client, manager)
+    return Part(kind, client, manager, 2, stages=(), bound=Bound(LINK_CYCLES.get(name, 10), LINKS_OBSTACLE))
+
+
+def row_named(name: str) -> AnyRow:
     """Returns the row of a name. Rows of one channel are proved by lemmas, except for E and `within`, and with two
     clocks by contracts. Rows in BOUNDS are not proved.
     """
+    part = part_named(name)
+    if part:
+        return part
     bound = BOUNDS.get(name)
     of_fifo = NAME_OF_FIFO.fullmatch(name)
     if of_fifo:
@@ -342,12 +410,23 @@ NAMES = """
     E-4-2-within-2 E-2-4-within-2 E-2-2-within-2 D-4-2-within-2 B-2-2-within-2 C-2-2-within-2 D-2-2-within-2
     E-2-2-two-clocks-within-5 A-2-4-depth-0 C-2-4-depth-0 E-4-2-depth-4 D-4-2-entries-2 A-4-2-resets-of-manager
     E-4-2-resets-of-manager A-4-2-depth-0-later D-4-2-resets-of-client A-4-2-depth-4 A-4-2-entries-1 A-4-2-rules
-    B-4-2-depth-4 C-4-2-depth-4 D-2-4-depth-0 D-2-4-entries-1 AD-4-2-depth-8 AD-2-4-depth-8
+    B-4-2-depth-4 C-4-2-depth-4 D-2-4-depth-0 D-2-4-entries-1 AD-4-2-depth-8 AD-2-4-depth-8 A-2-2-rules
+    B-2-2-rules D-2-2-rules A-2-4-rules B-2-4-rules C-2-4-rules D-2-4-rules B-4-2-rules C-4-2-rules D-4-2-rules
+    FIFO-2-resets FIFO-2-resets-stages-3
 """
 # No run of these has ended, so they claim nothing. They are tried if they are named.
 NOT_RUN = """
-    A-4-2-depth-8 D-4-2-depth-4
+    A-4-2-depth-8 D-4-2-depth-4 C-2-2-rules A-4-4-rules B-4-4-rules C-4-4-rules D-4-4-rules A-2-2-two-clocks-rules
+    B-2-2-two-clocks-rules C-2-2-two-clocks-rules D-2-2-two-clocks-rules A-2-4-two-clocks-rules
+    B-2-4-two-clocks-rules C-2-4-two-clocks-rules D-2-4-two-clocks-rules A-4-2-two-clocks-rules
+    B-4-2-two-clocks-rules C-4-2-two-clocks-rules D-4-2-two-clocks-rules FIFO-4-resets convert-1-1 convert-1-2
+    convert-1-4 convert-1-8 convert-2-1 convert-2-2 convert-2-4 convert-2-8 convert-4-1 convert-4-2 convert-4-4
+    convert-4-8 convert-8-1 convert-8-2 convert-8-4 convert-8-8 links-4-2 links-2-4 links-4-4 links-2-2
 """
+LINK_CYCLES = {"links-4-2": 17, "links-2-4": 14, "links-4-4": 14, "links-2-2": 13}  # others: 10
+LINKS_OBSTACLE = (
+    "This has the FIFOs and the reset agreement themselves, and no lemma connects their Gray codes with the checkers."
+)
 NO_RUN = "No run of its proof has ended."
 BOUNDS: Dict[str, Bound] = {name: Bound(8, NO_RUN) for name in (NAMES + NOT_RUN).split() if name.startswith("AD-")}
 # Here the FIFO and the reset agreement are those of rtl/.
@@ -357,6 +436,6 @@ BOUNDS["E-2-2-two-clocks-within-5"] = Bound(
     "Without `Ready`, since ready is 0 until both sides run.",
     "Late$",
 )
-ROWS: Tuple[Union[Row, Refinement], ...] = tuple(map(row_named, NAMES.split()))
-OTHER_ROWS: Tuple[Union[Row, Refinement], ...] = tuple(map(row_named, NOT_RUN.split()))
+ROWS: Tuple[AnyRow, ...] = tuple(map(row_named, NAMES.split()))
+OTHER_ROWS: Tuple[AnyRow, ...] = tuple(map(row_named, NOT_RUN.split()))
 NOT_TRIED = (("user and echo bits, wider ids and addresses, longer messages, widths above 8", "not modelled"),)

@@ -11,7 +11,7 @@ import tempfile
 import time
 from dataclasses import dataclass, field
 from pathlib import Path
-from typing import Dict, List, Optional, Sequence, Tuple, Union
+from typing import Dict, List, Optional, Sequence, Tuple
 
 from tlbridge.prove import engine
 from tlbridge.prove.engine import BOUNDED, FAILS, OPEN, PROVED, Verdict
@@ -23,7 +23,8 @@ from tlbridge.verify.design import DesignError, Source, read_design
 
 from .given import step_model
 from .lemmas import gray_lines, lemma_lines, place_of_crossing, sides
-from .rows import NOT_TRIED, OTHER_ROWS, ROWS, Bound, Refinement, Row, Stage, is_name, row_named, unneeded
+from .parts import PART_NAMES, place_of_part, recipe_of_part
+from .rows import NOT_TRIED, OTHER_ROWS, ROWS, AnyRow, Bound, Part, Refinement, Row, Stage, is_name, row_named, unneeded
 
 ROOT = Path(__file__).resolve().parent.parent.parent
 HERE = Path(__file__).resolve().parent
@@ -33,7 +34,7 @@ REFINEMENT_COVER_FRAMES = 60  # the reset at power-up takes 12 cycles
 INDUCTION_SECONDS = 60  # at most, for each of its two cases
 INDUCTIVE = r"^Networks are equivalent\."  # what abc's `ind` prints if there is no counterexample to the step
 TICKS = {"client_clock": "client_tick", "manager_clock": "manager_tick"}
-SYNCHRONIZER = ROOT / "tests" / "rtl" / "formal" / "tl_synchronizer.sv"
+SYNCHRONIZER = HERE / "tl_synchronizer.sv"
 # Assertions of a step that match the same one are proved together
 TOGETHER = (
     r"\.Data\d$",
@@ -49,6 +50,8 @@ TOGETHER = (
     r"_part_lemmas\.(Fits|Part)",
     r"_part_lemmas\.Put",
     r"_deep_lemmas\.(Bad|Masked|Active)$|_part_lemmas\.Idle$",
+    r"^(size|book|far_rules)_lemmas\.",
+    PART_NAMES,
 )
 REPLACED = ("tl_async_fifo.sv", "tl_fifo.sv", "tl_reset.sv", "tl_synchronizer.sv")
 
@@ -57,7 +60,7 @@ REPLACED = ("tl_async_fifo.sv", "tl_fifo.sv", "tl_reset.sv", "tl_synchronizer.sv
 class Outcome:
     """The result of one row. `verdicts` maps the name of each assertion to what abc found."""
 
-    row: Union[Row, Refinement]
+    row: AnyRow
     verdicts: Dict[str, Verdict] = field(default_factory=dict)
     seconds: float = 0.0  # of abc, added up over the assertions
     slowest: Tuple[str, float] = ("", 0.0)
@@ -98,12 +101,14 @@ def design_files(rtl: Path) -> Tuple[str, ...]:
     return tuple(str(path) for path in sorted(rtl.glob("tl_*.sv")) if not path.name.startswith("tl_bridge_"))
 
 
-def recipe_of(row: Union[Row, Refinement], stage: Stage, rtl: Path, folder: Path) -> Recipe:
+def recipe_of(row: AnyRow, stage: Stage, rtl: Path, folder: Path) -> Recipe:
     """Writes the harness of a row into `folder` and returns the recipe of the model of a stage."""
     path = folder / "proof.sv"
     if isinstance(row, Refinement):
         return recipe_of_refinement(row, rtl, path)
     files = design_files(rtl)
+    if isinstance(row, Part):
+        return recipe_of_part(row, files, SYNCHRONIZER, path)
     real = row.clocks == 2 and not row.by_contracts
     try:
         design = read_design(Source("tl_bridge", files, row.parameters))
@@ -135,7 +140,7 @@ def recipe_of(row: Union[Row, Refinement], stage: Stage, rtl: Path, folder: Path
         if row.has_order:
             proof.insert(0, str(HERE / "order.sv"))
         if row.rules:
-            proof.append(str(HERE / "rules.sv"))
+            proof += [str(HERE / "rules.sv"), str(HERE / "links.sv")]
     if row.by_contracts:
         probes = {**probes, **ticks_of_queues(row)}
         files = (*(one for one in files if Path(one).name not in REPLACED), str(CONTRACTS), str(HERE / "replaced.sv"))
@@ -154,7 +159,7 @@ def recipe_of(row: Union[Row, Refinement], stage: Stage, rtl: Path, folder: Path
         probes=probes,
         forget=stage.forget,
         cuts=stage.cuts,
-        drop=r"^far_rules\.judge\." if row.rules else Recipe.drop,
+        drop=r"^(client|manager)_judge\." if row.rules else Recipe.drop,
         free_initial="" if real else Recipe.free_initial,
         zero_initial=real,
     )
@@ -214,19 +219,17 @@ def ticks_of_queues(row: Row) -> Dict[str, str]:
         return {}
     return {
         f"{place_of_crossing(row, channel)}.{end}_tick": f"{side}_tick"
-        for channel in ("ABCDE" if row.channel in "BCE" else "AD")
+        for channel in ("ABCDE" if row.has_all_channels else "AD")
         for end, side in zip("wr", sides(channel))
     }
 
 
 def name_of(label: str) -> str:
     """Returns the name of an assertion: of the watch as tlbridge-prove prints it, of a lemma as lemmas.py names it."""
-    return short_name(label) if label.startswith("watch.") else label
+    return short_name(label) if label.startswith("watch.") else re.sub(r"(\w+)\.\1_asserted$", r"\1", label)
 
 
-def prove(
-    row: Union[Row, Refinement], rtl: Path, jobs: int, seconds: int, cache: Optional[Path], only: str = ""
-) -> Outcome:
+def prove(row: AnyRow, rtl: Path, jobs: int, seconds: int, cache: Optional[Path], only: str = "") -> Outcome:
     """Proves the assertions of a row, step by step. A step whose lemmas were not proved is not tried. Errors: as of
     `build` and `ask`.
     """
@@ -253,8 +256,9 @@ def prove_bound(bound: Bound, outcome: Outcome, rtl: Path, seconds: int, cache: 
     proved.
     """
     row = outcome.row
-    stage = Stage(forget=unneeded(row.channel)) if isinstance(row, Row) else row.stages[0]
-    row = dataclasses.replace(row, by_lemmas=False)
+    stage = Stage(forget=unneeded(row.channel)) if isinstance(row, Row) else (*row.stages, Stage())[0]
+    if not isinstance(row, Part):
+        row = dataclasses.replace(row, by_lemmas=False)
     with tempfile.TemporaryDirectory(prefix="prove-rtl.") as folder:
         model, _ = build(recipe_of(row, stage, rtl, Path(folder)), cache)
         if not outcome.covers:
@@ -396,7 +400,7 @@ def words_of(found: Verdict) -> str:
 def reach(model: Model, outcome: Outcome, jobs: int) -> None:
     """Shows that the assumptions of the last step exclude no kind of beat. Errors: no beat can arrive (2)."""
     covers = [i for i, label in enumerate(model.labels) if is_cover(label)]
-    frames = REFINEMENT_COVER_FRAMES if isinstance(outcome.row, Refinement) else COVER_FRAMES
+    frames = COVER_FRAMES if isinstance(outcome.row, Row) else REFINEMENT_COVER_FRAMES
     if outcome.row.bound:
         frames = outcome.row.bound.cycles
     questions = [(i, lambda i=i: engine.bounded(model, i, frames, COVER_SECONDS)) for i in covers]
@@ -445,7 +449,10 @@ def line_of(one: Outcome) -> str:
     place = f"{letters(row.channel)} | {row.client}:{row.manager}" if isinstance(row, Row) else "FIFO | -"
     if isinstance(row, Refinement) and row.clocks == 2:
         place = "FIFO and reset | -"
-    place += f" | {row.clocks} | {row.depth} | {row.variant}"
+    depth = str(row.depth)
+    if isinstance(row, Part):
+        place, depth = place_of_part(row), "-" if row.kind == "convert" else depth
+    place += f" | {row.clocks} | {depth} | {row.variant}"
     return f"| {place} | {what} | {bounded} | {kinds} | {one.seconds:.0f} | {slow} |"
 
 

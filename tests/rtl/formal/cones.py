@@ -4,7 +4,7 @@ port in it.
 from pathlib import Path
 from typing import Mapping
 
-from .models import Failure
+from .tools import Failure
 from .netlists import Flat, build
 
 SCRIPT = "proc; flatten; opt_clean"

@@ -8,7 +8,7 @@ import re
 from pathlib import Path
 from typing import DefaultDict, Iterable, Iterator, List, Mapping, Optional, Set, Tuple
 
-from .models import Failure, run
+from .tools import Failure, run
 from .netlists import TOP, Bit, Flat, build, registers, top_of
 
 # The command, its limit, and the cells from and to which it is.

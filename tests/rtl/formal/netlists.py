@@ -7,7 +7,7 @@ import re
 from pathlib import Path
 from typing import Any, DefaultDict, Dict, Iterable, Iterator, List, Mapping, Optional, Set, Tuple, Union
 
-from .models import yosys
+from .tools import yosys
 
 TOP = "tl_bridge"
 Bit = Union[int, str]  # a number, or a constant such as "0"

@@ -3,7 +3,7 @@ import re
 from pathlib import Path
 from typing import Mapping
 
-from .models import Failure, yosys
+from .tools import Failure, yosys
 from .netlists import TOP, rtl_files
 
 GATES = "AND,OR,XOR,MUX"

@@ -1,11 +1,13 @@
+"""The bridge between two checkers, sv/tl_checker.sv, as one module for a proof.
+
+By assumption the client keeps the rules on its link, and the manager on its own. Each beat that the bridge sends is
+asserted to keep them. Both clocks are free. It begins as a reset leaves the bridge: no beat is in it, both sides run,
+and no reset comes. No rule reads data, so data is 0.
+"""
+from __future__ import annotations
+
 from typing import Dict, Iterator, List, Tuple
 
-"""The bridge between two checkers, sv/tl_checker.sv, as one module for a proof. By assumption the client keeps the
-rules on its link, and the
-manager on its own. Each beat that the bridge sends is asserted to keep them. Both clocks are free. No rule reads data,
-so data is 0. A and D depend
-on each other, and B, C and E on no other channel, so a model may have some of them alone.
-"""
 ADDRESS_BITS, SIZE_BITS, SOURCE_BITS, SINK_BITS = 4, 3, 1, 1
 FIELDS = {
     "a": "opcode param size source address mask corrupt",
@@ -31,13 +33,14 @@ CHECKER = (
 
 
 def bits(channel: str, field: str, width: int) -> int:
+    """Returns the bits of a field of a link with beats of `width` bytes."""
     if field == "mask":
         return width
     return 2 if (channel, field) == ("d", "param") else BITS[field]
 
 
 def names(side: str) -> Iterator[Tuple[str, str, bool]]:
-    """(channel, name after the side, whether the side drives it)"""
+    """Yields each port of a side: its channel, its name after the side, and whether the side drives it."""
     for channel, fields in FIELDS.items():
         sends = SENDER[channel] == side
         for field in fields.split():
@@ -46,10 +49,8 @@ def names(side: str) -> Iterator[Tuple[str, str, bool]]:
         yield channel, "ready", not sends
 
 
-def module(client: int, manager: int, channels: str = "abcde", settings: str = "") -> str:
-    """The text of the module. On channels that are not named no beat is ever sent. `settings` are more parameters of
-    the bridge.
-    """
+def module(client: int, manager: int, settings: str = "") -> str:
+    """Returns the text of the module. `settings` are more parameters of the bridge."""
     widths = {"client": client, "manager": manager}
     inputs: List[str] = []
     wires: List[str] = []
@@ -59,18 +60,16 @@ def module(client: int, manager: int, channels: str = "abcde", settings: str = "
         for channel, field, drives in names(side):
             name = f"{side}_{channel}_{field}"
             size = 1 if field in ("valid", "ready") else bits(channel, field, width)
-            if drives and field == "valid" and channel not in channels:
-                wires.append(f"wire {name} = 1'b0")
-            else:
-                (inputs if drives else wires).append(f"wire [{size - 1}:0] {name}")
+            (inputs if drives else wires).append(f"wire [{size - 1}:0] {name}")
             bridge.append(f".{name}({name})")
             joined[side].append(f".{channel}_{field}({name})")
         for channel in "abcd":
             if SENDER[channel] == side:
                 bridge.append(f".{side}_{channel}_data({8 * width}'d0)")
     listed = ",\n    ".join(f"input {name}" for name in inputs)
-    return f"""module links_proof (
-    input wire step, input wire client_clock, input wire manager_clock, input wire client_tick, input wire manager_tick,
+    return f"""module tl_links (
+    input wire clock,
+    input wire client_clock, input wire client_tick, input wire manager_clock, input wire manager_tick,
     {listed}
 );
     {'; '.join(wires)};
@@ -81,32 +80,28 @@ def module(client: int, manager: int, channels: str = "abcde", settings: str = "
         .clock(client_clock), .reset(1'b0), {', '.join(joined['client'])});
     tl_checker #(.DATA_BYTES({manager}), {CHECKER}, .ASSUME_MANAGER(1'b1)) manager (
         .clock(manager_clock), .reset(1'b0), {', '.join(joined['manager'])});
-`ifdef REACH
-{reached(client, manager, channels)}`endif
-endmodule
+{reached(client, manager)}endmodule
 """
 
 
 # Messages that have to be possible: channel, label, receiver, opcode, size. With a size the whole message has to
 # arrive, otherwise one beat
 REACHED = (
-    ("d", "reach_put_answered", "client", 0, None),
-    ("a", "reach_burst_on_a", "manager", 0, 3),
-    ("d", "reach_get_answered", "client", 1, 3),
-    ("b", "reach_probe", "client", 6, None),
-    ("b", "reach_burst_on_b", "client", 0, 3),
-    ("c", "reach_probe_ack", "manager", 4, None),
-    ("c", "reach_release_data", "manager", 7, 3),
-    ("e", "reach_grant_ack", "manager", None, None),
+    ("d", "SeesPutAnswered", "client", 0, None),
+    ("a", "SeesBurstOfA", "manager", 0, 3),
+    ("d", "SeesGetAnswered", "client", 1, 3),
+    ("b", "SeesProbe", "client", 6, None),
+    ("b", "SeesBurstOfB", "client", 0, 3),
+    ("c", "SeesProbeAck", "manager", 4, None),
+    ("c", "SeesReleaseData", "manager", 7, 3),
+    ("e", "SeesGrantAck", "manager", None, None),
 )
 
 
-def reached(client: int, manager: int, channels: str) -> str:
-    """An assertion for each of REACHED, which fails when it is reached."""
+def reached(client: int, manager: int) -> str:
+    """Returns an assertion for each of REACHED, which fails when it is reached."""
     text = ""
     for channel, label, side, opcode, size in REACHED:
-        if channel not in channels:
-            continue
         link = f"{side}_{channel}"
         meant = (
             [f"{link}_valid", f"{link}_ready"]
@@ -114,9 +109,8 @@ def reached(client: int, manager: int, channels: str) -> str:
             + [f"{link}_size == {size}"] * (size is not None)
         )
         beats = 1 if size is None else max(1, (1 << size) // (client if side == "client" else manager))
-        text += (
-            f"    logic [3:0] {label}_beats = 0;\n    always @(posedge {side}_clock) if ({' && '.join(meant)})"
-            f" {label}_beats <= {label}_beats + 1'b1;\n"
-        )
-        text += f"    always @* {label}: assert ({label}_beats != {beats});\n"
+        text += f"""    logic [3:0] beats_of_{label} = 0;
+    always @(posedge {side}_clock) if ({' && '.join(meant)}) beats_of_{label} <= beats_of_{label} + 1'b1;
+    always @* {label}: assert (beats_of_{label} != {beats});
+"""
     return text
