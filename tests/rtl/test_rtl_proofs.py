@@ -10,7 +10,7 @@ import re
 import shutil
 import sys
 from pathlib import Path
-from typing import NamedTuple, Sequence
+from typing import Dict, NamedTuple, Sequence
 
 import pytest
 from project import ROOT, RTL, needs_tools
@@ -18,7 +18,8 @@ from project import ROOT, RTL, needs_tools
 sys.path.insert(0, str(ROOT / "tools"))
 from rtl_proofs.given import step_model  # noqa: E402
 from rtl_proofs.rows import NOT_TRIED, OTHER_ROWS, ROWS, Bound, Refinement, Stage  # noqa: E402
-from rtl_proofs.run import HEADING, Outcome, induction, line_of, name_of, prove, recipe_of  # noqa: E402
+from rtl_proofs.run import Outcome, induction, line_of, name_of, prove, recipe_of  # noqa: E402
+from rtl_proofs.table import STORED, Stored, page_of, pairs_text, read_lines, table, write_lines  # noqa: E402
 
 from tlbridge.prove import engine  # noqa: E402
 from tlbridge.prove.model import Recipe, build  # noqa: E402
@@ -322,15 +323,13 @@ def test_line_of_a_part_names_it() -> None:
 # ---- the page
 
 
-def test_page_has_each_row() -> None:
-    """The table of the page has the line of each row of the script and no other line, and the page names what has no
-    row.
-    """
-    text = PAGE.read_text()
-    table = text.partition("<!-- table: made by tools/prove-rtl -->\n")[2].partition("<!-- end -->")[0].splitlines()
-    assert table[:2] == list(HEADING)
-    assert len(table) == len(HEADING) + len(ROWS)
-    for row, line in zip(ROWS, table[2:]):
+def test_each_row_has_its_line() -> None:
+    """The lines of results.md are those of the rows of the script, in the same order, and each row is complete."""
+    lines = read_lines()
+    assert list(lines) == [row.name for row in ROWS]
+    assert len(STORED.read_text().partition("|---|")[2].splitlines()) == len(ROWS) + 1, "a row has two lines"
+    for row in ROWS:
+        line = lines[row.name]
         start = line_of(Outcome(row)).split(" | a part")[0] + " | "
         assert line.startswith(start), row.name
         proved, bound = line[len(start) :].split(" | ")[:2]
@@ -340,11 +339,76 @@ def test_page_has_each_row() -> None:
             assert bound.startswith(f"{row.bound.cycles} cycles, ") and bound.endswith(row.bound.obstacle), row.name
         else:
             assert proved.startswith("all ") and bound == "-", row.name
+
+
+def test_page_has_the_tables_of_these_lines() -> None:
+    """The tables of the page are those that `tools/prove-rtl --table` makes, and the page names what has no row."""
+    text = PAGE.read_text()
+    assert page_of(text, read_lines()) == text
     for row in OTHER_ROWS:
         assert f"`{row.name}`" in text, row.name
     for what, _ in NOT_TRIED:
         words = re.split(r"[ (,]", what)[0]
         assert words.lower() in text.lower(), what
+
+
+def stored(widths: str = "4:2", **changes: str) -> Stored:
+    """The line of a row, with other values in some columns."""
+    line = Stored("A", widths, "1", "2", "-", "all 16: Head, Mask; by 33 lemmas", "-", "9 of 9", "2", "Marks 1")
+    return dataclasses.replace(line, **changes)
+
+
+def test_stored_lines_are_read_again(tmp_path: Path) -> None:
+    """They are stored in the order of the rows, below the text of the file."""
+    path = tmp_path / "results.md"
+    path.write_text("Some text.\n\n| Row |\n")
+    lines = {"A-4-2": "| A | 4:2 | 1 |", "A-2-2": "| A | 2:2 | 1 |", "gone": "| A | 2:4 | 1 |"}
+    write_lines(lines, ["A-2-2", "A-4-2"], path)
+    assert list(read_lines(path).items()) == [("A-2-2", lines["A-2-2"]), ("A-4-2", lines["A-4-2"])]
+    assert path.read_text().startswith("Some text.\n\n| Row | Channel | ")
+
+
+def test_one_line_for_rows_that_differ_in_widths() -> None:
+    """It has the range of lemmas and of seconds, the slowest proof, and the widths at which a beat does not arrive."""
+    others = {"proved": "all 16: Head, Mask; by 40 lemmas", "kinds": "8 of 9, not SeesLastBeat"}
+    rows = [stored("2:2"), stored("8:1", also="messages up to 16 bytes", seconds="9", slowest="Put 4", **others)]
+    assert table(rows)[2:] == [
+        "| A | 2:2, 8:1 | 1 | 2 | messages up to 16 bytes with a beat of 8 | all 16; by 33 to 40 lemmas | - | "
+        "9 of 9; 8 of 9 at 8:1, not SeesLastBeat | 2 to 9 | Put 4 at 8:1 |"
+    ]
+    assert table([stored()])[2:] == ["| A | 4:2 | 1 | 2 | - | all 16; by 33 lemmas | - | 9 of 9 | 2 | Marks 1 |"]
+
+
+@pytest.mark.parametrize(
+    "changes",
+    [
+        {"channel": "B"},
+        {"clocks": "2"},
+        {"depth": "4"},
+        {"also": "later resets of the client alone"},
+        {"proved": "all 1: Head; by 33 lemmas"},
+        {"proved": "all 16: Head, Mask"},
+        {"bounded": "8 cycles, all 2: Head, Mask. No invariant was found."},
+        {"kinds": "8 of 8"},
+    ],
+    ids=lambda changes: "-".join(changes),
+)
+def test_other_rows_have_lines_of_their_own(changes: Dict[str, str]) -> None:
+    assert len(table([stored(), stored("2:2", **changes)])) == 4
+
+
+def test_line_has_no_assertions_of_other_rows() -> None:
+    """Assertions that are not those of most rows of the channel are named."""
+    rows = [stored(), stored("2:2"), stored("2:4", proved="all 15: Mask; by 33 lemmas")]
+    assert [line.split(" | ")[5] for line in table(rows)[2:]] == ["all 16; by 33 lemmas", "all 15: Mask; by 33 lemmas"]
+
+
+def test_all_pairs_are_named_together() -> None:
+    """Up to three that are missing are named."""
+    pairs = [f"{client}:{manager}" for client in (1, 2, 4, 8) for manager in (1, 2, 4, 8)]
+    assert pairs_text(pairs) == "all 16 pairs up to 8"
+    assert pairs_text([pair for pair in pairs if pair != "8:1"]) == "all 16 pairs up to 8 except 8:1"
+    assert pairs_text(["4:2", "2:4"]) == "2:4, 4:2"
 
 
 def test_every_assertion_of_the_watch_has_a_bug() -> None:

@@ -2,9 +2,10 @@
 from __future__ import annotations
 
 import dataclasses
+import itertools
 import re
 from dataclasses import dataclass
-from typing import Dict, Optional, Tuple, Union
+from typing import Dict, Iterable, Iterator, Optional, Tuple, Union
 
 # Every model: addresses of 4 bits, sources and sinks of 1 bit.
 ADDRESS_BITS, SOURCE_BITS, SINK_BITS = 4, 1, 1
@@ -398,37 +399,59 @@ def row_named(name: str) -> AnyRow:
     return dataclasses.replace(row, stages=stages_of(channel), by_lemmas=channel != "E", by_contracts=row.clocks == 2)
 
 
-NAMES = """
-    A-1-1 A-1-2 A-1-4 A-1-8 A-2-1 A-2-2 A-2-4 A-2-8 A-4-1 A-4-2 A-4-4 A-4-8 A-8-1 A-8-2 A-8-4 A-8-8 B-1-1 B-1-2
-    B-1-4 B-1-8 B-2-1 B-2-2 B-2-4 B-2-8 B-4-1 B-4-2 B-4-4 B-4-8 B-8-1 B-8-2 B-8-4 B-8-8 C-1-1 C-1-2 C-1-4 C-1-8
-    C-2-1 C-2-2 C-2-4 C-2-8 C-4-1 C-4-2 C-4-4 C-4-8 C-8-1 C-8-2 C-8-4 C-8-8 D-1-1 D-1-2 D-1-4 D-1-8 D-2-1 D-2-2
-    D-2-4 D-2-8 D-4-1 D-4-2 D-4-4 D-4-8 D-8-1 D-8-2 D-8-4 D-8-8 E-1-8 E-2-2 E-2-4 E-4-2 E-8-1 FIFO-2 FIFO-2-two-clocks
-    FIFO-4-two-clocks FIFO-8-two-clocks A-2-2-two-clocks A-2-4-two-clocks A-4-2-two-clocks B-2-2-two-clocks
-    B-2-4-two-clocks B-4-2-two-clocks C-2-2-two-clocks C-2-4-two-clocks C-4-2-two-clocks D-2-2-two-clocks
-    D-2-4-two-clocks D-4-2-two-clocks E-2-2-two-clocks E-2-4-two-clocks E-4-2-two-clocks A-4-2-within-3
-    A-2-4-within-2 A-2-2-within-2 B-4-2-within-2 B-2-4-within-3 C-4-2-within-3 C-2-4-within-2 D-2-4-within-3
-    E-4-2-within-2 E-2-4-within-2 E-2-2-within-2 D-4-2-within-2 B-2-2-within-2 C-2-2-within-2 D-2-2-within-2
-    E-2-2-two-clocks-within-5 A-2-4-depth-0 C-2-4-depth-0 E-4-2-depth-4 D-4-2-entries-2 A-4-2-resets-of-manager
-    E-4-2-resets-of-manager A-4-2-depth-0-later D-4-2-resets-of-client A-4-2-depth-4 A-4-2-entries-1 A-4-2-rules
-    B-4-2-depth-4 C-4-2-depth-4 D-2-4-depth-0 D-2-4-entries-1 AD-4-2-depth-8 AD-2-4-depth-8 A-2-2-rules
-    B-2-2-rules D-2-2-rules A-2-4-rules B-2-4-rules C-2-4-rules D-2-4-rules B-4-2-rules C-4-2-rules D-4-2-rules
-    FIFO-2-resets FIFO-2-resets-stages-3
-"""
+WIDTHS = (1, 2, 4, 8)
+PAIRS = tuple(f"{client}-{manager}" for client in WIDTHS for manager in WIDTHS)
+
+
+def names(channels: str, pairs: Iterable[str], *endings: str) -> Iterator[str]:
+    """Yields the names of the rows of each of these channels at each of these pairs of widths, with each ending."""
+    for channel, pair, ending in itertools.product(channels, pairs, endings or ("",)):
+        yield f"{channel}-{pair}{ending}"
+
+
+def named_rows() -> Iterator[str]:
+    """Yields the name of each row of the table."""
+    small = ("2-2", "2-4", "4-2")
+    yield from names("ABCDE", PAIRS)
+    yield from names("A", ["1-1", "2-1", "2-2", "2-4", "4-2", "4-4", "4-8", "8-4", "8-8"], "-two-clocks")
+    yield from names("BC", ["2-2", "2-4", "4-2", "4-4", "8-8"], "-two-clocks")
+    yield from names("D", small, "-two-clocks")
+    yield from names("E", PAIRS, "-two-clocks")
+    yield from names("AC", ["2-4"], "-depth-0")
+    yield from names("D", ["2-4"], "-depth-0", "-entries-1")
+    yield from names("A", ["4-2"], "-depth-0-later", "-entries-1")
+    yield from names("ABCE", ["4-2"], "-depth-4")
+    yield from names("D", ["4-2"], "-entries-2", "-resets-of-client")
+    yield from names("AE", ["4-2"], "-resets-of-manager")
+    yield from names("ABCDE", ["2-2"], "-within-2")
+    yield from names("BDE", ["4-2"], "-within-2")
+    yield from names("AC", ["4-2"], "-within-3")
+    yield from names("ACE", ["2-4"], "-within-2")
+    yield from names("BD", ["2-4"], "-within-3")
+    yield from names("ABD", small, "-rules")
+    yield from names("C", ["2-4", "4-2"], "-rules")
+    yield from ("E-2-2-two-clocks-within-5", "AD-4-2-depth-8", "AD-2-4-depth-8")
+    yield from ("FIFO-2", "FIFO-2-two-clocks", "FIFO-4-two-clocks", "FIFO-8-two-clocks")
+    yield from ("FIFO-2-resets", "FIFO-2-resets-stages-3")
+
+
 # No run of these has ended, so they claim nothing. They are tried if they are named.
-NOT_RUN = """
-    A-4-2-depth-8 D-4-2-depth-4 C-2-2-rules A-4-4-rules B-4-4-rules C-4-4-rules D-4-4-rules A-2-2-two-clocks-rules
-    B-2-2-two-clocks-rules C-2-2-two-clocks-rules D-2-2-two-clocks-rules A-2-4-two-clocks-rules
-    B-2-4-two-clocks-rules C-2-4-two-clocks-rules D-2-4-two-clocks-rules A-4-2-two-clocks-rules
-    B-4-2-two-clocks-rules C-4-2-two-clocks-rules D-4-2-two-clocks-rules FIFO-4-resets convert-1-1 convert-1-2
-    convert-1-4 convert-1-8 convert-2-1 convert-2-2 convert-2-4 convert-2-8 convert-4-1 convert-4-2 convert-4-4
-    convert-4-8 convert-8-1 convert-8-2 convert-8-4 convert-8-8 links-4-2 links-2-4 links-4-4 links-2-2
-"""
+NOT_RUN = (
+    "A-4-2-depth-8",
+    "D-4-2-depth-4",
+    "C-2-2-rules",
+    *names("ABCD", ["4-4"], "-rules"),
+    *names("ABCD", ["2-2", "2-4", "4-2"], "-two-clocks-rules"),
+    "FIFO-4-resets",
+    *(f"convert-{pair}" for pair in PAIRS),
+    *(f"links-{pair}" for pair in ("4-2", "2-4", "4-4", "2-2")),
+)
 LINK_CYCLES = {"links-4-2": 17, "links-2-4": 14, "links-4-4": 14, "links-2-2": 13}  # others: 10
 LINKS_OBSTACLE = (
     "This has the FIFOs and the reset agreement themselves, and no lemma connects their Gray codes with the checkers."
 )
 NO_RUN = "No run of its proof has ended."
-BOUNDS: Dict[str, Bound] = {name: Bound(8, NO_RUN) for name in (NAMES + NOT_RUN).split() if name.startswith("AD-")}
+BOUNDS: Dict[str, Bound] = {name: Bound(8, NO_RUN) for name in (*named_rows(), *NOT_RUN) if name.startswith("AD-")}
 # Here the FIFO and the reset agreement are those of rtl/.
 BOUNDS["E-2-2-two-clocks-within-5"] = Bound(
     40,
@@ -436,6 +459,19 @@ BOUNDS["E-2-2-two-clocks-within-5"] = Bound(
     "Without `Ready`, since ready is 0 until both sides run.",
     "Late$",
 )
-ROWS: Tuple[AnyRow, ...] = tuple(map(row_named, NAMES.split()))
-OTHER_ROWS: Tuple[AnyRow, ...] = tuple(map(row_named, NOT_RUN.split()))
+
+
+def place(row: AnyRow) -> Tuple[Union[int, str], ...]:
+    """Returns the place of a row in the table: by channel, clocks, depth (2 first), what else differs, and widths."""
+    if isinstance(row, Refinement):
+        return (2, "", row.clocks, row.depth)
+    if isinstance(row, Part):
+        return (3, row.kind, row.depth, row.sync_stages, row.client, row.manager)
+    also = (row.outstanding, row.resets, not row.same_cycle, row.rules, row.within)
+    of_channel = (len(row.channel) > 1, row.channel, row.clocks, row.depth != 2, row.depth)
+    return (*of_channel, *also, row.client, row.manager)
+
+
+ROWS: Tuple[AnyRow, ...] = tuple(sorted(map(row_named, named_rows()), key=place))
+OTHER_ROWS: Tuple[AnyRow, ...] = tuple(map(row_named, NOT_RUN))
 NOT_TRIED = (("user and echo bits, wider ids and addresses, longer messages, widths above 8", "not modelled"),)

@@ -25,6 +25,7 @@ from .given import step_model
 from .lemmas import gray_lines, lemma_lines, place_of_crossing, sides
 from .parts import PART_NAMES, place_of_part, recipe_of_part
 from .rows import NOT_TRIED, OTHER_ROWS, ROWS, AnyRow, Bound, Part, Refinement, Row, Stage, is_name, row_named, unneeded
+from .table import HEADING, read_lines, write_lines, write_page
 
 ROOT = Path(__file__).resolve().parent.parent.parent
 HERE = Path(__file__).resolve().parent
@@ -415,15 +416,8 @@ def reach(model: Model, outcome: Outcome, jobs: int) -> None:
                 raise ProveError(f"{outcome.row.name}: no beat can arrive: nothing is proved")
 
 
-HEADING = (
-    "| Channel | Widths | Clocks | Depth | Also | Proved for any number of cycles | Not proved: no counterexample in | "
-    "Kinds of beats that arrive | Seconds | Slowest |",
-    "|---|---|---|---|---|---|---|---|---|---|",
-)
-
-
 def line_of(one: Outcome) -> str:
-    """Returns the line of a row in the table of docs/RTL_PROOFS.md. Assertions that were not tried are in no line."""
+    """Returns the line of a row. Assertions that were not tried are in no line."""
     row = one.row
     lemmas = [name for name in one.proved if is_lemma(name)]
     proved = ", ".join(grouped([name for name in one.proved if name not in lemmas])) or "nothing"
@@ -456,6 +450,11 @@ def line_of(one: Outcome) -> str:
     return f"| {place} | {what} | {bounded} | {kinds} | {one.seconds:.0f} | {slow} |"
 
 
+def keep(one: Outcome) -> None:
+    """Stores the line of a row."""
+    write_lines({**read_lines(), one.row.name: line_of(one)}, [row.name for row in ROWS])
+
+
 def letters(channel: str) -> str:
     return "A to E" if channel == "ABCDE" else ", ".join(channel)
 
@@ -478,11 +477,15 @@ def command_line() -> argparse.ArgumentParser:
     words = argparse.ArgumentParser(
         prog="prove-rtl",
         description="Proves rtl/tl_bridge.sv against the layout of messages, one channel and one pair of widths at a "
-        "time, and prints the table of docs/RTL_PROOFS.md. The status is 0 if each row is proved or has its bound, 1 "
-        "if not, 2 to 4 as of tlbridge-prove.",
+        "time, and prints its line. The status is 0 if each row is proved or has its bound, 1 if not, 2 to 4 as of "
+        "tlbridge-prove.",
     )
     words.add_argument("rows", metavar="ROW", nargs="*", help="as A-4-2 [default: each row]")
     words.add_argument("--list", action="store_true", help="list the rows")
+    words.add_argument(
+        "--table", action="store_true", help="write the tables of docs/RTL_PROOFS.md from the stored lines"
+    )
+    words.add_argument("--keep", action="store_true", help="store the line of each row that is complete")
     words.add_argument("--rtl", metavar="FOLDER", type=Path, default=ROOT / "rtl", help="the bridge [default: rtl/]")
     words.add_argument("--jobs", metavar="N", type=int, default=2, help="assertions at once [default: 2]")
     words.add_argument(
@@ -504,9 +507,15 @@ def main(arguments: Optional[Sequence[str]] = None) -> int:
         for what, why in NOT_TRIED:
             print(f"no row: {what}: {why}")
         return 0
+    if words.table:
+        write_page()
+        return 0
     unknown = [name for name in words.rows if not is_name(name)]
     if unknown:
         print(f"prove-rtl: there is no row {unknown[0]}; --list names all", file=sys.stderr)
+        return 2
+    if words.keep and words.rtl.resolve() != ROOT / "rtl":
+        print("prove-rtl: --keep stores lines of rtl/ alone: do not use it with --rtl", file=sys.stderr)
         return 2
     chosen = [known.get(name) or row_named(name) for name in words.rows] or list(ROWS)
     outcomes = []
@@ -525,6 +534,8 @@ def main(arguments: Optional[Sequence[str]] = None) -> int:
                 )
             )
             print(f"{line_of(outcomes[-1])}\n{row.name}: {time.monotonic() - at:.0f} s", flush=True)
+            if words.keep and outcomes[-1].is_complete:
+                keep(outcomes[-1])
     except ProveError as error:
         print(f"prove-rtl: {error}", file=sys.stderr)
         return error.status
