@@ -24,7 +24,7 @@ _tlbridge() {
         ;;
     *tlbridge-prove)
         words="--top --file-list --param --define --include --client --client-clock --client-reset --manager --manager-clock --manager-reset --tie
-            --clocks --reset-cycles --cycles --unbounded --seconds --only --level --largest --no-same-cycle-response --zero-lanes
+            --clocks --reset-cycles --cycles --unbounded --lemmas --seconds --only --level --largest --no-same-cycle-response --zero-lanes
             --forwards-offered --offered-rules --watched-source-only --later-resets --no-user-bits --within --assume --address-bits --source-bits --sink-bits --count-bits
             --jobs --out --sby --tcl --no-cache --keep-going --help"
         ;;

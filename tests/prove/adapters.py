@@ -167,10 +167,15 @@ EARLY = Adapter(
         ),
     ),
 )
+FEW_RULES = ("--watched-source-only",)  # with the rules of all 16 sources a run takes too long
 WIDTHS = Adapter(
     "widths",
     "16 to 8 bytes, TL-UH, messages up to 64 bytes, all bits of address and source free",
     (*files("widths"), "--level", "uh", "--largest", "64", "--address-bits", "32", "--source-bits", "4"),
-    (),
+    (
+        macro("BUG_1", "a short message is cut from the lowest part", ("a.Data0", "a.Lanes", "a.Mask"), 3, FEW_RULES),
+        macro("BUG_2", "a wide beat of D is corrupt only if its last part is", ("d.Corrupt",), 4, FEW_RULES),
+        macro("BUG_3", "the lane of a response is that of the last request", ("d.Data0",), 4, FEW_RULES),
+    ),
 )
 ADAPTERS = (START, NARROW_4_2, HALVES, SKID, WIDE, CROSSING, COHERENT, STRUCTS, EARLY)

@@ -296,7 +296,7 @@ WRONG_DESIGNS = {
         ACCEPTED,
         ACCEPTED + " logic [31:0] ram[65536]; always_ff @(posedge clock) ram[up_a_address[15:0]] <= up_a_data[31:0];\n"
         "    assign extra = ram[down_d_data[15:0]];",
-        r"/design\.sv:\d+\.\d+: the memory dut\.ram has 2097152 bits.* smaller by a parameter",
+        r"/design\.sv:\d+\.\d+: the memory ram has 2097152 bits.* smaller by a parameter",
     ),
     "array of structs": (
         ACCEPTED,

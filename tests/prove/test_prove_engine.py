@@ -6,7 +6,7 @@ import os
 import stat
 import time
 from pathlib import Path
-from typing import Any, Dict, List, Tuple
+from typing import Any, Dict, List, Sequence, Tuple
 
 import pytest
 
@@ -192,7 +192,7 @@ def test_simplification_that_dies_leaves_no_model(fake_abc: Path, tmp_path: Path
 def a_session(verdicts: Dict[str, str], monkeypatch: pytest.MonkeyPatch, folder: Path) -> Session:
     """A session with a model of three labels, for each of which abc finds what `verdicts` says."""
     made = Session.__new__(Session)
-    made.words = argparse.Namespace(reset_cycles=1, jobs=1, only="", cycles=20)
+    made.words = argparse.Namespace(reset_cycles=1, jobs=1, only="", cycles=20, lemmas=False)
     made.options = Options()
     made.frames = 21
     made.shown = Progress()
@@ -329,7 +329,7 @@ def a_search(
     """
     made = a_session(dict.fromkeys(("Data0", "SeesBeat", "SeesByte"), BOUNDED), monkeypatch, folder)
     made.words = argparse.Namespace(
-        reset_cycles=1, jobs=1, only="", cycles=20, unbounded=True, seconds=9, keep_going=False
+        reset_cycles=1, jobs=1, only="", cycles=20, unbounded=True, seconds=9, keep_going=False, lemmas=False
     )
     made.harness = Harness("", "A", {}, {}, (), ())
     asked: List[Tuple[str, str]] = []
@@ -446,13 +446,15 @@ def test_source_room_is_proved_with_source_one(tmp_path: Path, monkeypatch: pyte
     """It follows from SourceOne. If the two fail together in the smaller model, it is tried alone in the whole one."""
     labels = ("watch.SourceOne", "watch.SourceRoom")
     made = a_session(dict.fromkeys(("Data0", "SeesBeat", "SeesByte"), BOUNDED), monkeypatch, tmp_path)
-    made.words = argparse.Namespace(seconds=9)
+    made.words = argparse.Namespace(seconds=9, lemmas=False)
     made.harness = Harness("", "D", {}, {}, (), ())
     made.model, small = Model(tmp_path, labels), Model(tmp_path / "small", labels)
     monkeypatch.setattr(made, "build_small", lambda letter: small)
     asked: List[Tuple[bool, int, bool]] = []
 
-    def ask(model: Model, index: int, seconds: int, with_previous: bool = False) -> Verdict:
+    def ask(
+        model: Model, index: int, seconds: int, with_previous: bool = False, assumed: Sequence[int] = ()
+    ) -> Verdict:
         asked.append((model is small, index, with_previous))
         return Verdict(FAILS if model is small else PROVED, 3, 0.5)
 

@@ -28,7 +28,9 @@ from tlbridge.verify.design import Link, Source
 def a_session(folder: Path, labels: Sequence[str] = LABELS, folded: Sequence[str] = (), **words: Any) -> Session:
     """A session whose model has these labels, with words of the command line."""
     made = Session.__new__(Session)
-    given: Dict[str, Any] = dict(reset_cycles=2, seconds=9, jobs=1, only="", unbounded=False, keep_going=False)
+    given: Dict[str, Any] = dict(
+        reset_cycles=2, seconds=9, jobs=1, only="", unbounded=False, keep_going=False, lemmas=False
+    )
     made.words = argparse.Namespace(
         **{**given, "out": str(folder / "out"), "top": "dut", "sby": "", "tcl": "", **words}
     )
@@ -368,7 +370,9 @@ def test_a_proof_in_a_smaller_model(
     small = Model(tmp_path / "small", labels)
     asked: List[Any] = []
 
-    def unbounded(model: Model, index: int, seconds: int, with_previous: bool = False) -> Verdict:
+    def unbounded(
+        model: Model, index: int, seconds: int, with_previous: bool = False, assumed: Sequence[int] = ()
+    ) -> Verdict:
         asked.append((model is small, index, with_previous))
         is_failure = model is small and model.labels[index].endswith("Data0")
         return Verdict(FAILS if is_failure else PROVED, 0, 0.5)
@@ -382,5 +386,6 @@ def test_a_proof_in_a_smaller_model(
     assert asked == [(True, 0, False), (True, 2, False), (True, 1, False), (False, 1, False)]
     small = Model(tmp_path / "small", (labels[2], labels[0]))
     asked.clear()
+    search = Search(search.session)
     assert search.prover(search.smaller([0]))(0) == Verdict(PROVED, 0, 0.5) and asked == [(True, 1, True)]
     assert capsys.readouterr().out == ""

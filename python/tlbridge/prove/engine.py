@@ -7,11 +7,13 @@ from __future__ import annotations
 
 import re
 import signal
+import tempfile
 from concurrent.futures import FIRST_COMPLETED, Future, ThreadPoolExecutor, wait
 from dataclasses import dataclass
 from pathlib import Path
 from typing import Callable, Dict, Generator, List, Sequence, Tuple, TypeVar
 
+from .aiger import write_assumed
 from .errors import TOOL, ProveError
 from .model import Model, last_line
 from .tools import RUNNING, run_tool
@@ -73,15 +75,24 @@ def bounded(model: Model, index: int, frames: int, seconds: int) -> Verdict:
     return verdict(said, taken)
 
 
-def unbounded(model: Model, index: int, seconds: int, with_previous: bool = False) -> Verdict:
+def unbounded(
+    model: Model, index: int, seconds: int, with_previous: bool = False, assumed: Sequence[int] = ()
+) -> Verdict:
     """Looks for a proof of one assertion for any number of frames, for at most `seconds`.
 
     `with_previous`: of this one and of the one in front of it, both at once. A proof is one of each, and a failure may
-    be one of either.
+    be one of either. `assumed` are assertions that were proved on this model before: they hold in each run, so a proof
+    that assumes them is one without them.
     """
-    cone = [f"cone -s -O {index - 1} -R 2", "orpos"] if with_previous else [f"cone -s -O {index}"]
-    said, taken = ask(model.small, [*cone, "scorr", "dc2", f"pdr -T {seconds}"], seconds)
-    return verdict(said, taken)
+    proof = ["scorr", "dc2", f"pdr -T {seconds}"]
+    asked = [index - 1, index] if with_previous else [index]
+    if not assumed:
+        cone = [f"cone -s -O {index - 1} -R 2", "orpos"] if with_previous else [f"cone -s -O {index}"]
+        return verdict(*ask(model.small, [*cone, *proof], seconds))
+    with tempfile.TemporaryDirectory(prefix="tlbridge-assumed.") as folder:
+        path = Path(folder) / "assumed.aig"
+        write_assumed(model.small, path, asked, assumed)
+        return verdict(*ask(path, ["fold", "strash", *(["orpos"] if with_previous else []), *proof], seconds))
 
 
 def no_tick() -> None:

@@ -11,7 +11,7 @@ from typing import Dict, Sequence, Set, Tuple
 from ..judge import find_program
 from . import engine
 from .harness import Options
-from .replay import replay
+from .replay import replay, without_parameters, write_plain
 from .report import say
 from .session import Session
 from .tools import share
@@ -33,11 +33,13 @@ def show(session: Session, index: int, frame: int) -> None:
             "  a near beat is offered then. If the design sends parts of a beat before it accepts the beat, add "
             "--forwards-offered"
         )
-    bytes_sent, width = largest_message(table), max(link.width for link in session.design.links.values())
-    if bytes_sent > width and not words.largest:
+    bytes_sent, widths = largest_message(table), sorted(link.width for link in session.design.links.values())
+    cut = [width for width in widths if bytes_sent > width]  # the links on which it has more than one beat
+    if cut and not words.largest:
+        which = "both links" if len(cut) == len(widths) else "the narrower link"
         say(
-            f"  a message of {bytes_sent} bytes is offered, which has more than one beat on both links. If your "
-            f"neighbours send none, add --largest {width}"
+            f"  a message of {bytes_sent} bytes is offered, which has more than one beat on {which}. If your "
+            f"neighbours send none, add --largest {cut[-1]}"
         )
     if not shutil.which("iverilog") or not shutil.which("vvp"):
         say(
@@ -47,6 +49,12 @@ def show(session: Session, index: int, frame: int) -> None:
         return
     files = [share() / "sv" / "tl_bridge_watch.sv", share() / "sv" / "tl_trace_monitor.sv"]
     shown = replay(out, session.harness, table, session.source.words("iverilog"), files, session.options.two_clocks)
+    if shown.problem and write_plain(session.source, out):
+        (out / "proof.sv").write_text(without_parameters(session.harness.text, words.top))
+        plain = replay(out, session.harness, table, ["design.v"], files, session.options.two_clocks)
+        if not plain.problem:
+            say(f"  design.v: the design as yosys reads it, which is played here. {shown.problem}")
+            shown = plain
     if shown.problem:
         say(f"  inputs.txt: the inputs of proof.sv, step by step. There is no waveform: {shown.problem}")
         return
@@ -65,7 +73,13 @@ def show(session: Session, index: int, frame: int) -> None:
             "  the manager responds in the cycle in which it accepts the request. If yours never does, add "
             "--no-same-cycle-response"
         )
-    compare([link.width for link in session.design.links.values()], out)
+    differs = compare([link.width for link in session.design.links.values()], out)
+    letter = name[0].upper()
+    if name.endswith(".Head") and not differs and session.options.user_bits.bits(letter):
+        say(
+            f"  these beats are without user and echo bits: see client_{name[0]}_user and manager_{name[0]}_user "
+            "in the waveform"
+        )
 
 
 def steps_of(table: Sequence[Dict[str, int]]) -> str:
@@ -129,11 +143,13 @@ def show_beats(out: Path) -> None:
             say(f"    {line}")
 
 
-def compare(widths: Sequence[int], out: Path) -> None:
-    """Writes the near beats as a trace, and prints the first difference that tlbridge-compare finds."""
+def compare(widths: Sequence[int], out: Path) -> bool:
+    """Writes the near beats as a trace, and prints the first difference that tlbridge-compare finds. Returns whether
+    there is one.
+    """
     script = share() / "sv" / "compare"
     if not script.is_file():
-        return
+        return False
     words = [
         sys.executable,
         str(script),
@@ -156,3 +172,5 @@ def compare(widths: Sequence[int], out: Path) -> None:
         for line in done.stdout.splitlines():
             if line.startswith("this design seems to split messages"):
                 say(f"  {line}")
+        return bool(wrong)
+    return False

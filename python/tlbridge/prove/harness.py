@@ -59,6 +59,7 @@ class Options:
         True  # False: with all_sources False, assume rules of the watched channels only, and for D of A
     )
     later_resets: bool = False
+    helpers: bool = False  # also assertions that help to prove the others
     user_bits: UserBits = NONE
     extra_lines: str = ""  # SystemVerilog at the end of the harness, under FORMAL
 
@@ -78,6 +79,16 @@ class Harness:
 def is_cover(label: str) -> bool:
     """Returns whether an assertion denies what has to be possible."""
     return label.rpartition(".")[2].startswith("Sees")
+
+
+def is_of_design(label: str) -> bool:
+    """Returns whether an assertion is one in the design. Without a label of its own, it has one of yosys with a $."""
+    return label.startswith("dut.") or "$" in label
+
+
+def is_helper(label: str) -> bool:
+    """Returns whether an assertion is there only to help to prove others: one of the watch, or one in the design."""
+    return is_of_design(label) or label.rpartition(".")[2].startswith("Helper")
 
 
 def bits_of(design: Design) -> Dict[str, int]:
@@ -278,6 +289,7 @@ class _Writer:
             "ALL_CHANNELS": f"1'b{int(options.all_channels)}",
             "MAX_WAIT": options.max_wait,
             "COVERS": f"1'b{int(self.cover)}",
+            "HELPERS": f"1'b{int(options.helpers)}",
             "MAX_OUTSTANDING": 0 if sources >= self.bits["source"] else 1 << sources,
         }
         return ", ".join(f".{name}({value})" for name, value in values.items())

@@ -26,12 +26,12 @@ SAFE_PATH = re.compile(r"[A-Za-z0-9_./+,:@%=-]+")
 class Recipe:
     """Everything a model depends on.
 
-    `design_files` are read as for synthesis: assertions and assumptions in them are ignored. `proof_files` have the
-    assertions. `keep` and `assume` are regular expressions for labels: with `keep` other assertions are removed, and
-    those that match `assume` become assumptions. `free_initial` names the instance whose registers begin with any
-    value. `probes` maps a wire of the top to a wire inside the design. `zero_initial`: registers without an initial
-    value begin with 0. `forget` is a regular expression for names of assumptions, which are removed; `cuts` names wires
-    that become free inputs. Both only allow more.
+    `design_files` are read as for synthesis: assertions and assumptions in them are ignored, but with `design_asserts`
+    their assertions count, too. `proof_files` have the assertions. `keep` and `assume` are regular expressions for
+    labels: with `keep` other assertions are removed, and those that match `assume` become assumptions. `free_initial`
+    names the instance whose registers begin with any value. `probes` maps a wire of the top to a wire inside the
+    design. `zero_initial`: registers without an initial value begin with 0. `forget` is a regular expression for names
+    of assumptions, which are removed; `cuts` names wires that become free inputs. Both only allow more.
     """
 
     top: str
@@ -47,6 +47,7 @@ class Recipe:
     probes: Mapping[str, str] = field(default_factory=dict)
     zero_initial: bool = False
     design_is_formal: bool = False
+    design_asserts: bool = False
     forget: str = ""
     cuts: Tuple[str, ...] = ()
 
@@ -189,7 +190,9 @@ def _read(folder: Path) -> Model:
 
 def _made(recipe: Recipe, folder: Path, check: Callable[[Path], None]) -> Model:
     flags = "".join(f" -D{name}" for name in recipe.defines) + "".join(f" -I{path}" for path in recipe.includes)
-    as_design = "-formal" if recipe.design_is_formal else "-noassert -noassume -norestrict"
+    as_design = "-formal" if recipe.design_is_formal else "-noassume -norestrict"
+    if not recipe.design_is_formal and not recipe.design_asserts:
+        as_design = f"-noassert {as_design}"
     # -noassert of yosys 0.23 also holds for the files that are read after it, so the design comes last
     steps = [f"read_verilog -sv -formal{flags} {' '.join(recipe.proof_files)}"]
     if recipe.design_files:
@@ -258,9 +261,9 @@ def check_memories(text: str) -> None:
     ):
         bits = int(found[2]) * int(found[3])
         if bits > MOST_MEMORY_BITS:
-            place = line_of(found[1] or found[4])
+            place, name = line_of(found[1] or found[4]), re.sub(r"^dut\.", "", found[4])
             raise ProveError(
-                f"{place}: the memory {found[4]} has {bits} bits. Each bit becomes a register, and a memory may have "
+                f"{place}: the memory {name} has {bits} bits. Each bit becomes a register, and a memory may have "
                 f"{MOST_MEMORY_BITS} at most: make it smaller by a parameter (-P NAME=VALUE)",
                 UNREADABLE,
             )

@@ -22,6 +22,8 @@ from .harness import DEFAULT_FREE, LEVELS, TIME_COVER, Options, default_address_
 from .report import PROGRAM
 from .user_bits import NONE, find_user_bits
 
+# Verilator and yosys read a value of a parameter without the names of the design.
+CONSTANT = re.compile(r"-?\d[\d_]*(?:\.\d+)?|-?\d*'[sS]?[bodhBODH][0-9a-fA-FxXzZ_?]+|'[01]|\"[^\"\\]*\"")
 MORE = ", or more on a bus of more than 16 bytes"  # of the free bits of an address
 STATUSES = """
 exit status:
@@ -50,20 +52,31 @@ def _bytes(text: str) -> int:
 
 def _pair(text: str) -> Tuple[str, str]:
     name, equals, value = text.partition("=")
-    if not equals or not re.fullmatch(r"\w+", name):
+    if not equals or not value or not re.fullmatch(r"\w+", name):
         raise argparse.ArgumentTypeError(f"'{text}' is not NAME=VALUE")
+    return name, value
+
+
+def _parameter(text: str) -> Tuple[str, str]:
+    name, value = _pair(text)
+    if not CONSTANT.fullmatch(value):
+        raise argparse.ArgumentTypeError(f"'{value}' is not a constant of SystemVerilog, as 3, 4'hf or \"text\"")
     return name, value
 
 
 def command_line() -> argparse.ArgumentParser:
     words = argparse.ArgumentParser(
-        prog=PROGRAM, description=__doc__, epilog=STATUSES, formatter_class=argparse.RawDescriptionHelpFormatter
+        prog=PROGRAM,
+        usage=f"{PROGRAM} [OPTION ..] FILE .. --top MODULE",
+        description=__doc__,
+        epilog=STATUSES,
+        formatter_class=argparse.RawDescriptionHelpFormatter,
     )
     words.add_argument("files", metavar="FILE", nargs="*", help="the design, in SystemVerilog that yosys reads")
     words.add_argument("--top", metavar="MODULE", required=True)
     design = words.add_argument_group("the design")
     design.add_argument("-f", "--file-list", metavar="LIST", help="files and options, as Verilator's -f")
-    design.add_argument("-P", "--param", metavar="NAME=VALUE", type=_pair, action="append", default=[])
+    design.add_argument("-P", "--param", metavar="NAME=VALUE", type=_parameter, action="append", default=[])
     design.add_argument("-D", "--define", metavar="NAME[=VALUE]", action="append", default=[])
     design.add_argument("-I", "--include", metavar="FOLDER", action="append", default=[])
     for side in ("client", "manager"):
@@ -98,6 +111,11 @@ def command_line() -> argparse.ArgumentParser:
     )
     proof.add_argument(
         "--unbounded", action="store_true", help="after that, prove each assertion for any number of cycles"
+    )
+    proof.add_argument(
+        "--lemmas",
+        action="store_true",
+        help="with --unbounded: also prove the assertions in the design, to prove the others by those that hold",
     )
     proof.add_argument(
         "--seconds",
@@ -215,6 +233,9 @@ def source_of(words: argparse.Namespace) -> Source:
             raise ProveError("the file list has -y, which yosys has not: name the files")
     if not source.files:
         raise ProveError("no file of the design was named: tlbridge-prove adapter.sv --top adapter")
+    for folder in source.includes:
+        if not Path(folder).is_dir():
+            raise ProveError(f"-I {folder}: there is no such folder")
     return source.absolute()
 
 
@@ -230,6 +251,8 @@ def choice_of(words: argparse.Namespace) -> Choice:
 
 
 def options_of(words: argparse.Namespace, design: Design) -> Options:
+    if words.lemmas and not words.unbounded:
+        raise ProveError("--lemmas helps to prove assertions for any number of cycles: add --unbounded")
     level = words.level or design.level.lower()
     largest = words.largest or default_largest(design, level)
     sizes = design.client.bits("size") if design.client is not None else 4
@@ -262,6 +285,6 @@ def options_of(words: argparse.Namespace, design: Design) -> Options:
         tuple(words.assume),
         two,
         later_resets=words.later_resets,
-        user_bits=NONE if words.no_user_bits else find_user_bits(design),
+        user_bits=NONE if words.no_user_bits else find_user_bits(design, tied=dict(words.tie)),
         extra_lines=TIME_COVER,
     )

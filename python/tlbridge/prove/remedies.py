@@ -4,6 +4,10 @@ from __future__ import annotations
 from typing import Dict
 
 REMEDIES: Dict[str, str] = {
+    "unexpected tok_pkg_user_type": (
+        "It does not read a type of a package in an expression, as $bits(some_pkg::type_t): write the number, or $bits "
+        "of a variable"
+    ),
     "syntax error": (
         "It reads less of SystemVerilog than simulators do: convert the files, as by `sv2v`, or write "
         "the line in a simpler way"

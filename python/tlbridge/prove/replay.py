@@ -8,6 +8,7 @@ from dataclasses import dataclass
 from pathlib import Path
 from typing import Dict, List, Sequence, Tuple
 
+from ..verify.design import Source
 from .harness import TOP, Harness
 from .tools import run_tool
 
@@ -120,6 +121,27 @@ def replay(
     return Replayed(
         tuple(f"{int(time)} {_name(place, word)}" for time, place, word in reports if not word.startswith("Sees"))
     )
+
+
+def write_plain(source: Source, folder: Path) -> bool:
+    """Writes `design.v`, the design in plain Verilog as yosys reads it, with the values of its parameters. Returns
+    whether yosys did.
+    """
+    flags = "".join(f" -D{name}" for name in source.defines) + "".join(f" -I{path}" for path in source.includes)
+    sets = "".join(f" -chparam {name} {value}" for name, value in source.parameters.items())
+    steps = [
+        f"read_verilog -sv -noassert -noassume -norestrict{flags} {' '.join(source.files)}",
+        f"hierarchy -check -top {source.top}{sets}",
+        "proc",
+        "write_verilog -noattr design.v",
+    ]
+    done = run_tool(["yosys", "-q", "-p", "; ".join(steps)], SECONDS, folder)
+    return done.status == 0 and (folder / "design.v").is_file()
+
+
+def without_parameters(text: str, top: str) -> str:
+    """Returns the harness of a design that has its parameters in it, as of `write_plain`."""
+    return re.sub(rf"^    {top} #\(.*\) dut \($", f"    {top} dut (", text, flags=re.M)
 
 
 def _name(place: str, word: str) -> str:

@@ -14,13 +14,14 @@ from typing import Dict, List, Tuple
 from ..verify.design import DesignError, described, read_design
 from .engine import in_parallel
 from .errors import TOOL, ProveError
-from .harness import TOP, Harness, is_cover, write_harness
+from .harness import TOP, Harness, is_cover, is_helper, write_harness
 from .model import Model, Recipe, build, cache_folder, short_name
 from .options import choice_of, options_of, source_of
 from .projects import write_sby, write_tcl
 from .report import Progress, say, stated, unit_of
 from .sizes import check_sizes, sizes_of
 from .tools import find_tool, proof_files
+from .user_bits import strange_ports
 
 
 class Session:
@@ -41,6 +42,8 @@ class Session:
         except DesignError as error:
             raise ProveError(str(error), error.status) from error
         self.options = options_of(words, self.design)
+        for signal in self.options.user_bits.signals():  # free inputs, and not tied ones
+            self.design.tied.pop(signal.port, None)
         self.harness = write_harness(self.design, self.options)
         self.frames = words.cycles + words.reset_cycles
         self.folder = Path(tempfile.mkdtemp(prefix="tlbridge-prove."))
@@ -69,7 +72,15 @@ class Session:
 
     def describe(self) -> None:
         """Prints the links, and what a result holds under."""
-        for line in (*described(self.design), *stated(self.options, self.harness)):
+        for line in described(self.design):
+            say(line)
+        strange = strange_ports(self.design, self.options.user_bits)
+        if strange:
+            say(
+                f"  no fields of TileLink by their names: {' '.join(strange)}; inputs are 0 (--tie NAME=VALUE), and "
+                "outputs are not looked at"
+            )
+        for line in stated(self.options, self.harness):
             say(line)
 
     def write_projects(self) -> None:
@@ -89,8 +100,8 @@ class Session:
             path = write(folder, self.source, files, words.cycles, words.reset_cycles, self.options.two_clocks)
             say(f"wrote {path}, which was not run: `{command}` in that folder runs it")
 
-    def build(self, harness: Harness, what: str = "model") -> Model:
-        """Makes the model of a harness, or takes it from the cache."""
+    def build(self, harness: Harness, what: str = "model", design_asserts: bool = False) -> Model:
+        """Makes the model of a harness, or takes it from the cache. `design_asserts`: with the design's assertions."""
         for tool in ("yosys", "yosys-abc"):
             find_tool(tool)
         (self.folder / "proof.sv").write_text(harness.text)
@@ -102,6 +113,7 @@ class Session:
             self.source.defines,
             self.source.includes,
             ticks,
+            design_asserts=design_asserts,
         )
         began = time.monotonic()
         cache = self.folder / "models" if self.words.no_cache else cache_folder()
@@ -115,7 +127,9 @@ class Session:
         tick()
         ((_, (model, was_there)),) = in_parallel(1, [(0, make)], tick)
         how = "from the cache" if was_there else f"in {time.monotonic() - began:.0f} s"
-        say(f"{what} of {len([label for label in model.labels if not is_cover(label)])} assertions, {how}")
+        helpers = [label for label in model.labels if is_helper(label)]
+        count = len([label for label in model.labels if not is_cover(label)]) - len(helpers)
+        say(f"{what} of {count} assertions" + (f" and {len(helpers)} helpers" if helpers else "") + f", {how}")
         return model
 
     def build_whole(self) -> None:
@@ -137,10 +151,11 @@ class Session:
         """Makes the model of one channel, which assumes less.
 
         It has the rules of this channel, for D also those of A, and the rules about outstanding requests of the watched
-        source only.
+        source only. With --lemmas it has the assertions in the design.
         """
-        options = replace(self.options, all_sources=False, all_channels=False, watched=letter)
-        return self.build(write_harness(self.design, options, cover=False), f"smaller model of {letter}")
+        options = replace(self.options, all_sources=False, all_channels=False, watched=letter, helpers=True)
+        harness = write_harness(self.design, options, cover=False)
+        return self.build(harness, f"smaller model of {letter}", *([True] if self.words.lemmas else []))
 
     def chosen(self) -> List[int]:
         """Returns the numbers of the assertions to prove."""

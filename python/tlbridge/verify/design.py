@@ -336,8 +336,25 @@ def _verilator(source: Source, out: Path) -> tree.Element:
             )
         if "top-module" in said and "was not found" in said:
             raise _no_module(source)
-        raise DesignError(f"the design does not compile: {said}", 3)
+        raise DesignError(f"the design does not compile: {said.rstrip(' .!')}. {_remedy_of(said)}", 3)
     return tree.parse(out).getroot()
+
+
+_REMEDIES = (
+    ("include file", "Add -I FOLDER with the folder that has it"),
+    ("containing module", "Name the file of that module, too"),
+    ("without initial value", "Add -P NAME=VALUE with a value for it"),
+    ("Define or directive not defined", "Add -D NAME=VALUE, or -I and the `include of the file that defines it"),
+    ("Package", "Name the file of the package in front of the files that use it"),
+)
+
+
+def _remedy_of(error: str) -> str:
+    """Returns the remedy for an error of Verilator."""
+    for words, remedy in _REMEDIES:
+        if words in error:
+            return remedy
+    return "Correct that line, or name the macros and folders that it needs with -D and -I"
 
 
 def read_ports(source: Source, structs: Sequence[str] = ()) -> Tuple[Dict[str, Port], List[Tuple[str, Signal]]]:
