@@ -122,6 +122,8 @@ def pytest_runtest_makereport(item: pytest.Item, call: "pytest.CallInfo[None]") 
 SHARED = tuple(
     f"tests/{name}.py"
     for name in (
+        "verify/test_verify_long",
+        "prove/test_adapters",
         "repository/test_linters",
         "verify/test_verify",
         "rtl/test_rtl_proofs",

@@ -1,12 +1,14 @@
 """What the bench of a design writes, and how its runs are limited. Icarus plays."""
 
+import os
 from pathlib import Path
 from typing import List
 
 import pytest
 from project import EXAMPLES, needs_tools
 
-from tlbridge.verify.bench import Bench, EndlessError, Run, Simulation
+from tlbridge.verify import bench
+from tlbridge.verify.bench import Bench, EndlessError, Run, SimulatorError, Simulation
 from tlbridge.verify.design import Design, Source, read_design
 from tlbridge.verify.judge import Beats
 from tlbridge.verify.traffic import Message
@@ -56,6 +58,24 @@ def test_a_run_has_a_limit_of_processor_time(tmp_path: Path) -> None:
     made = simulation(tmp_path, design)
     with pytest.raises(EndlessError, match="did not end a run within 1 processor seconds"):
         made.run(SCRIPT, {"seed": 3}, tmp_path / "run", processor=1)
+
+
+@pytest.mark.parametrize("simulator, name", [("icarus", "iverilog"), ("verilator", "verilator"), ("verilator", "make")])
+def test_a_compiler_that_does_not_end(
+    monkeypatch: pytest.MonkeyPatch, tmp_path: Path, simulator: str, name: str
+) -> None:
+    """It is ended, and the message names the simulator. `name` is the command that sleeps."""
+    design = adapter(tmp_path)
+    (tmp_path / "bin").mkdir()
+    for command in ("verilator", name):
+        tool = tmp_path / "bin" / command
+        tool.write_text(f"#!/bin/sh\n{'exec sleep 100' if command == name else 'echo Verilator 5'}\n")
+        tool.chmod(0o755)
+    monkeypatch.setenv("PATH", f"{tmp_path / 'bin'}:{os.environ['PATH']}")
+    monkeypatch.setattr(bench, "_WALL_SECONDS", 1)
+    with pytest.raises(SimulatorError, match=f"{simulator} did not compile .* within 1 seconds") as caught:
+        Simulation(design, simulator, tmp_path / "made", Bench(design, True, False, False))
+    assert caught.value.status == 4
 
 
 def test_a_limit_that_cannot_be_set_ends_no_run(monkeypatch: pytest.MonkeyPatch, tmp_path: Path) -> None:

@@ -1,6 +1,7 @@
 """Long runs of tlbridge-verify: the trial of planted mistakes, the bridge of rtl/ at many widths, and both simulators
 beside each other."""
 
+import functools
 import json
 import os
 import subprocess
@@ -34,16 +35,26 @@ def verify(folder: Path, *words: str) -> Tuple[int, str]:
 CASES = [(name, bug) for name, path in trial.designs().items() for bug in (0, *trial.bugs_of(path))]
 
 
+@functools.lru_cache(maxsize=None)
+def right(design: str) -> trial.Result:
+    """The right version, which is played once."""
+    return trial.played(design, 0, trial.SAME_ROUNDS)
+
+
 @pytest.mark.parametrize("design,bug", CASES)
 def test_the_trial(design: str, bug: int) -> None:
+    """A right design is called right. A mistake is found as one, or under a condition that the right design does not
+    have, if it is one of those."""
     needs_tools("verilator", "iverilog", "yosys")
     if bug in trial.MISSED.get(design, ()):
         pytest.xfail("docs/VERIFY.md says why this one is missed")
-    result = trial.played(design, bug)
+    result = trial.played(design, bug, trial.SAME_ROUNDS) if bug else right(design)
+    is_under = bug in trial.UNDER.get(design, ())
+    if is_under:
+        result = result.beside(right(design).conditions)
     print(trial.line_of(result))
     assert result.is_right, trial.line_of(result)
-    is_under = bug in trial.UNDER.get(design, ())
-    assert result.status == int(bug > 0 and not is_under) and (result.conditions or not is_under)
+    assert result.status == int(bug > 0 and not is_under), trial.line_of(result)
 
 
 def test_a_trial_of_right_designs_sums_their_beats(
@@ -54,7 +65,7 @@ def test_a_trial_of_right_designs_sums_their_beats(
 
     def played(design: str, bug: int, more: Tuple[str, ...]) -> trial.Result:
         asked.append((design, bug))
-        return trial.Result(design, bug, int(design == alarm), "", 0, 0, 0, 0, 0, judged=1000)
+        return trial.Result(design, bug, int(design == alarm), "", 0, 0, 0, 0, judged=1000)
 
     monkeypatch.setattr(trial, "played", played)
     alarm = ""

@@ -266,7 +266,8 @@ class Device(Simulation):
         self.design, self.base, self.held, self.computes = design, base, held, computes
         self.bytes: Dict[int, int] = {}
 
-    def run(self, script: Sequence[Message], settings: Mapping[str, int], folder: Path, *_: Any, **__: Any) -> Run:
+    def run(self, script: Sequence[Message], settings: Mapping[str, int], folder: Path, *_: Any, **more: Any) -> Run:
+        assert "seconds" not in more, "a slow machine would find another window"
         folder.mkdir(parents=True, exist_ok=True)
         lines = []
         for message in script:

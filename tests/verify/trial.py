@@ -3,15 +3,16 @@
 
     tests/verify/trial.py [--jobs N] [--right-only] [DESIGN ..] [-- OPTION ..]
 
-OPTION is one of tlbridge-verify, as in `-- --simulator icarus --messages 2600`, which takes a third of the time.
+OPTION is one of tlbridge-verify. Without one, how much is played depends on the speed of the machine. With
+`-- --messages 20000` it does not; `-- --simulator icarus --messages 2600` takes a third of the time.
 
 With --right-only, the right versions are played, and examples/start/adapter.sv. The last line has the sum of their
 beats. `--right-only -- --messages 100000` looks for false alarms in many of them.
 
-For each mistake: whether it was found, or found under a condition, after how many seconds, the seconds of the whole
-run, and the messages and beats of the shrunk run. It is found under a condition if the verdict names one that it does
-not name for the right design. A right design has to be called right. The exit status is 0 if all mistakes were found
-within two minutes, and no right design was called wrong.
+For each mistake: whether it was found, or found under a condition, after how many seconds of processor time, those of
+the whole run, and the messages and beats of the shrunk run. It is found under a condition if the verdict names one that
+it does not name for the right design. A right design has to be called right. The exit status is 0 if all mistakes were
+found in time, and no right design was called wrong.
 """
 import argparse
 import concurrent.futures
@@ -21,14 +22,15 @@ import re
 import subprocess
 import sys
 import tempfile
-import time
 from pathlib import Path
 from typing import Dict, List, NamedTuple, Optional, Tuple
 
 HERE = Path(__file__).resolve().parent
 ROOT = HERE.parent.parent
 FOLDERS = (HERE / "designs", HERE / "blind", HERE / "more", HERE / "unseen", HERE / "fresh")
-MOST_SECONDS = 120
+MOST_SECONDS = 240  # of processor time: two minutes of the two simulations that a run plays at once
+# Options with which the same rounds are played on any machine. The defaults play what fits into their time.
+SAME_ROUNDS = ("--messages", "20000")
 # The mistakes that the defaults find under a condition only, and those that they miss. docs/VERIFY.md says why.
 UNDER = {
     "narrow_64_to_8": (7,),
@@ -85,9 +87,8 @@ class Result(NamedTuple):
     bug: int  # 0: the right design
     status: int
     words: str
-    found: float  # seconds until the first mistake
-    total: float  # seconds of the whole run
-    processor: float
+    found: float  # processor seconds until the first mistake
+    total: float  # processor seconds of the whole run
     messages: int
     beats: int
     conditions: Tuple[str, ...] = ()  # under which a design that was called right is not right
@@ -105,30 +106,34 @@ class Result(NamedTuple):
         return self._replace(conditions=tuple(one for one in self.conditions if one not in right))
 
 
+def called(words: List[str]) -> Tuple[int, str, float]:
+    """Runs a command. Returns its status, its messages, and the processor seconds of it and of all that it started."""
+    with tempfile.TemporaryFile() as messages:
+        process = subprocess.Popen(words, stdout=subprocess.DEVNULL, stderr=messages)
+        _, status, used = os.wait4(process.pid, 0)
+        process.returncode = os.waitstatus_to_exitcode(status)
+        messages.seek(0)
+        return process.returncode, messages.read().decode(errors="replace"), used.ru_utime + used.ru_stime
+
+
 def played(design: str, bug: int, more: Tuple[str, ...] = ()) -> Result:
     """Runs tlbridge-verify on a design with this mistake, or with none."""
-    begun, before = time.monotonic(), sum(os.times()[2:4])
     with tempfile.TemporaryDirectory() as folder:
         path = right_designs()[design]
         words = [sys.executable, str(ROOT / "tlbridge-verify"), str(path), "--out", f"{folder}/out"]
         words += [*table().get(design, []), *([f"-DBUG_{bug}"] if bug else []), *more]
-        done = subprocess.run(words, capture_output=True, text=True)
-        total, processor = time.monotonic() - begun, sum(os.times()[2:4]) - before
+        exit_status, messages, total = called(words)
         made = Path(folder) / "out" / "verdict.json"
         if not made.exists():  # no verdict: a message, or (status 1) a traceback
-            words_of = done.stderr.strip()[-200:].replace("\n", " ")
-            status = -1 if done.returncode == 1 else done.returncode
-            return Result(design, bug, status, words_of, 0, total, processor, 0, 0)
+            words_of = messages.strip()[-200:].replace("\n", " ")
+            return Result(design, bug, -1 if exit_status == 1 else exit_status, words_of, 0, total, 0, 0)
         verdict = json.loads(made.read_text())
         beats = sum(len(side.read_text().splitlines()) for side in made.parent.glob("*.beats"))
-        found = verdict["found_seconds"] if verdict["verdict"] == "mistake" else total
+        found = verdict["found_processor_seconds"] if verdict["verdict"] == "mistake" else total
         number = verdict["messages"] if verdict["verdict"] == "mistake" else 0
         said = {one["unless"]: f"unless {one['unless']}: {one['words']}" for one in verdict["conditions"]}
         words_of = verdict["words"] or "; ".join([f"{verdict['beats']} beats", *said.values()])
-        judged = verdict["beats"]
-        return Result(
-            design, bug, done.returncode, words_of, found, total, processor, number, beats, tuple(said), judged
-        )
+        return Result(design, bug, exit_status, words_of, found, total, number, beats, tuple(said), verdict["beats"])
 
 
 def line_of(result: Result) -> str:
@@ -173,7 +178,7 @@ def main(words: Optional[List[str]] = None) -> int:
     under = sum(result.is_right and result.status == 0 for result in planted)
     alarms = sum(not result.is_right for result in results if not result.bug)
     print(
-        f"{found} of {len(planted)} mistakes found within {MOST_SECONDS} seconds, {under} under a condition;"
+        f"{found} of {len(planted)} mistakes found in {MOST_SECONDS} processor seconds, {under} under a condition;"
         f" {alarms} of {len(results) - len(planted)} right designs called wrong"
     )
     return int(found < len(planted) or alarms > 0)

@@ -39,7 +39,7 @@ _ROOM = {"opcode": 3, "param": 3, "size": 8, "address": 64, "source": 16, "sink"
 IDLE_CYCLES = 2000  # without a beat: a hang
 _END_CYCLES = 200  # without a beat after the last one: the end
 _RUN_SECONDS = 120  # of processor time
-_WALL_SECONDS = 3600
+_WALL_SECONDS = 3600  # of a run, or of one command of a compilation
 
 
 class SimulatorError(DesignError):
@@ -410,7 +410,7 @@ def _end(process: "subprocess.Popen[str]") -> None:
 def _called(
     words: Sequence[str],
     folder: Optional[Path] = None,
-    seconds: float = 600,
+    seconds: float = _WALL_SECONDS,
     cancel: Optional[Cancel] = None,
     is_nice: bool = False,
     processor: Optional[int] = None,
@@ -491,7 +491,7 @@ class Simulation:
                 *ours,
                 *source.words("iverilog"),
             ]
-            self._check(_called(self.compile_words))
+            self._check(self._compiled(self.compile_words))
         else:
             self.program = room / "obj" / "Vtl_verify_bench"
             off = [f"-Wno-{name}" for name in ("fatal", "lint", "style", "MULTIDRIVEN", "UNOPTFLAT")]
@@ -526,9 +526,7 @@ class Simulation:
         return Simulation(self.design, self.simulator, room, self._text, self._extra, self.plusargs, has_waves=True)
 
     def _verilate(self, cancel: Optional[Cancel]) -> None:
-        is_nice = cancel is not None  # in the background, it leaves the processors to the runs
-        done = _called(self.compile_words, cancel=cancel, is_nice=is_nice)
-        self._check(done, is_made=False)
+        self._check(self._compiled(self.compile_words, cancel), is_made=False)
         version = _called(["verilator", "--version"]).stdout.split()
         cache = cache_folder() / "-".join(version[1:2] or ["unknown"])
         for made in cache.glob("*.o"):  # its runtime takes half of the time, and is the same for every design
@@ -543,9 +541,20 @@ class Simulation:
             "-f",
             "Vtl_verify_bench.mk",
         ]
-        self._check(_called(words, cancel=cancel, is_nice=is_nice))
+        self._check(self._compiled(words, cancel))
         if not cache.exists():
             self._keep(cache)
+
+    def _compiled(self, words: Sequence[str], cancel: Optional[Cancel] = None) -> "subprocess.CompletedProcess[str]":
+        """Runs a command of the compilation. In the background, it leaves the processors to the runs. Errors: it does
+        not end."""
+        try:
+            return _called(words, seconds=_WALL_SECONDS, cancel=cancel, is_nice=cancel is not None)
+        except subprocess.TimeoutExpired:
+            raise SimulatorError(
+                f"{self.simulator} did not compile the design and its bench within {_WALL_SECONDS:.0f} seconds: choose"
+                " smaller parameters (-P), or another --simulator"
+            ) from None
 
     def _keep(self, cache: Path) -> None:
         """Copies the runtime into the cache, which another process may do at the same time. Without a cache it is

@@ -22,6 +22,7 @@ _SETTINGS: Settings = dict(
 )
 _PARAMS = {"arithmetic": range(5), "logical": range(4)}
 _MOST_PLACES = 300
+_RUN_SECONDS = 20  # of processor time, so that a slow machine finds the same
 Pair = Tuple[Dict[str, str], Optional[Dict[str, str]]]  # the fields of a request, and of its response if one came
 _MESSAGES = re.compile(r"\b(?:messages?|bursts?|access(?:es)?|transfers?|sizes?|requests?|gets?|puts?|blocks?)\b", re.I)
 _STATED = re.compile(
@@ -47,7 +48,7 @@ class Explorer:
 
     def responses(self, script: Sequence[Message]) -> List[Pair]:
         """Plays single beats one after the other. Returns the fields of each, with those of its response."""
-        run = self.simulation.run(script, _SETTINGS, self.room, seconds=20)
+        run = self.simulation.run(script, _SETTINGS, self.room, processor=_RUN_SECONDS)
         lines = [line for line in Beats(self.design, run).lines["client"] if not is_unknown(line[:13])]
         asked = [values_of(line) for line in lines if line[0] == "A"]
         told: List[Optional[Dict[str, str]]] = [values_of(line) for line in lines if line[0] == "D"]
@@ -190,7 +191,7 @@ def held_largest(
         for calm in (0x3FF, 0):
             settings = {**traffic.settings(calm), "serial": 1, "in_order": 1, **forced}
             try:
-                run = simulation.run(script, settings, room, seconds=20)
+                run = simulation.run(script, settings, room, processor=_RUN_SECONDS)
             except DesignError:
                 return held, ""
             problems = judge.problems(run, Beats(simulation.design, run))
