@@ -7,6 +7,7 @@ from typing import Any, DefaultDict, Deque, Dict, List, Sequence, Tuple
 from tables import carries_data, near_width
 
 CHANNELS = "ABCDE"
+END = "x" * 320  # behind the last beat: a GrantAck of sink 0 is all zeros, and an AccessAck can be, too
 Fields = Dict[str, Any]
 Requests = DefaultDict[int, Deque[int]]
 
@@ -66,7 +67,7 @@ def vectors(lines: Sequence[str], widths: Dict[str, int], folder: Path) -> None:
                 requests[fields["source"]].popleft()
             out[k].append(vector(fields))
     for k in CHANNELS:
-        (folder / f"near_{k}.hex").write_text("\n".join(out[k] + ["0" * 320]) + "\n")
+        (folder / f"near_{k}.hex").write_text("\n".join(out[k] + [END]) + "\n")
 
 
 def far_line(k: str, digits: str, width: int, ids: int) -> str:

@@ -70,12 +70,13 @@ def simulate(room: Room, config: Config, some: Sequence[str] = (), beats: int = 
     """
     needs_tools("verilator", "g++")
     program = room.build(config)
-    played = 0
+    simulations = played = 0
     for name, seed, length, traffic, words in scenarios(config):
         if some and name not in some:
             continue
         trace, answer = room.trace(config, seed, int((beats or BEATS) * length), **traffic)
         ran = room.play(program, trace, answer, [*words, f"seed={seed}"])
         assert not ran.wrong, f"{name}: {ran.wrong} ({trace} {' '.join(words)})"
-        played += ran.far
+        simulations, played = simulations + 1, played + ran.far
+    print(f"{simulations} simulations, {played} far beats")
     assert played > 0

@@ -2,8 +2,8 @@
 for each configuration.
 
 In each run sv/tl_checker.sv judges both links. TLBRIDGE is the command that computes the far beats of a trace on
-standard input
-(`tlbridge run --sync`); the default is the unverified model. BEATS (3000) is the length of a trace.
+standard input. The default is `tlbridge run --sync` of the verified program, and the unverified model if the program is
+not built. BEATS (3000) is the length of a trace.
 """
 
 import fcntl
@@ -20,7 +20,7 @@ from typing import Any, Callable, Dict, List, Mapping, Optional, Sequence, Tuple
 
 from commands import Word, run, said
 from configurations import SCENARIOS, WIDTHS
-from project import MODEL, ROOT, RTL, SV
+from project import MODEL, ROOT, RTL, SV, built
 from tlbridge import traffic as maker
 from tlbridge.traffic import Conversation, Options
 
@@ -29,7 +29,9 @@ CHECKER = SV / "tl_checker.sv"
 LIB = ROOT / "tests" / "lib"
 BEATS = int(os.environ.get("BEATS", "3000"))
 ANSWERS = os.environ.get("TLBRIDGE")
-ANSWERER: List[Word] = [*ANSWERS.split()] if ANSWERS else [sys.executable, MODEL, "run"]
+VERIFIED = os.access(built("tlbridge"), os.X_OK)
+BY_DEFAULT: List[Word] = [built("tlbridge"), "run", "--sync"] if VERIFIED else [sys.executable, MODEL, "run"]
+ANSWERER: List[Word] = [*ANSWERS.split()] if ANSWERS else BY_DEFAULT
 DEFAULTS = dict(
     CLIENT_BYTES=8,
     MANAGER_BYTES=4,

@@ -280,6 +280,23 @@ def test_a_small_configuration_in_icarus(room: Room, tmp_path: Path) -> None:
     assert simulated_in_icarus(config, room.trace(config, 7, 200), sources(), tmp_path) == ""
 
 
+ZEROS = """tilelink-trace 1 client 8 manager 4
+A 0 0 0 00 0000000000000000 01 00000000000000aa 0
+D 0 0 0 00 00 0 00000000 0
+E 00
+E 07
+"""
+
+
+@pytest.mark.simulator
+def test_beats_whose_fields_are_all_zero_in_icarus(room: Room, tmp_path: Path) -> None:
+    """An AccessAck and a GrantAck: the bench plays them, and what comes after them."""
+    trace = tmp_path / "zeros.trace"
+    trace.write_text(ZEROS)
+    config = dict(CLIENT_BYTES=8, MANAGER_BYTES=4, SOURCE_BITS=4)
+    assert simulated_in_icarus(config, (trace, room.answer(trace)), sources(), tmp_path) == ""
+
+
 @pytest.mark.simulator
 def test_a_recorded_simulation_in_icarus(tmp_path: Path) -> None:
     """It has beats of all five channels, and is what the RTL does. test_rtl_long.py has the others."""
