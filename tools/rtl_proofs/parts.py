@@ -50,6 +50,8 @@ def recipe_of_part(part: Part, files: Sequence[str], synchronizer: Path, path: P
         inside = "narrows.narrow" if part.client > part.manager else "widens.widen"
         return Recipe("tl_converts", converters, (str(path),), free_initial=inside)
     path.write_text(module(part.client, part.manager, settings=f", .FIFO_DEPTH({part.depth})"))
+    # without the initial values of its text, each register of the bridge begins with 0, as a reset leaves it
     checker = next(str(file) for file in proof_files() if Path(file).name == CHECKER)
-    bridge = (*(file for name, file in named.items() if name != synchronizer.name), str(synchronizer))
-    return Recipe("tl_links", bridge, (checker, str(path)), ticks=LINK_CLOCKS, free_initial="", zero_initial=True)
+    return Recipe(
+        "tl_links", tuple(files), (checker, str(path)), ticks=LINK_CLOCKS, free_initial="bridge", zero_initial=True
+    )

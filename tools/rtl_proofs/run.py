@@ -414,6 +414,8 @@ def reach(model: Model, outcome: Outcome, jobs: int) -> None:
             outcome.not_reached.append(name)
             if name == "SeesBeat":
                 raise ProveError(f"{outcome.row.name}: no beat can arrive: nothing is proved")
+    if outcome.covers and not outcome.reached:
+        raise ProveError(f"{outcome.row.name}: nothing arrives within {frames} cycles: nothing is proved")
 
 
 def line_of(one: Outcome) -> str:
@@ -465,7 +467,7 @@ def is_lemma(name: str) -> bool:
 
 def grouped(names: Sequence[str]) -> List[str]:
     """Returns the names without their channel, `Data0` to `Data7` as one word if all are there."""
-    short = sorted({name.rpartition(".")[2] for name in names})
+    short = sorted({name.rpartition(".")[2].removesuffix("_asserted") for name in names})
     for word in ("Data", "Value"):
         bits = [name for name in short if re.fullmatch(rf"{word}\d", name)]
         if len(bits) == 8:
