@@ -111,7 +111,8 @@ def word_lemmas(out: Lines, row: Row, channel: str) -> None:
         ports.update({name: f"{letter}_{name}" for name in WATCHED})
         ports["near_has_byte"] += f" && {letter}_has_data"
         side = "near" if width[near] >= width[far] else "far"
-        out.probe(f"{letter}_place", f"watch.{letter}.watch.{side}_place", 7)
+        place_bits = max(1, max(width[near], width[far]).bit_length() - 1)
+        out.probe(f"{letter}_place", f"watch.{letter}.watch.{side}_place", place_bits)
         bytes_of_words = ", ".join(f"{letter}_word_{number}[8*{letter}_place+:8]" for number in reversed(range(words)))
         ports.update({"value": f"{letter}_value", "bytes": f"{{{bytes_of_words}}}"})
     else:
