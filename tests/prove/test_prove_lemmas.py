@@ -55,7 +55,7 @@ def at(made: Model, *names: str) -> Tuple[int, ...]:
 
 
 def asked(made: Model, name: str, *assumed: str) -> Tuple[str, int]:
-    found = engine.unbounded(made, *at(made, name), 20, assumed=at(made, *assumed))
+    found = engine.unbounded(made, made.labels.index(name), 20, assumed=at(made, *assumed))
     return found.kind, found.frames
 
 
@@ -120,7 +120,8 @@ def rounds(
     folder: Path, monkeypatch: pytest.MonkeyPatch, answers: Answer, **words: Any
 ) -> Tuple[List[Tuple[str, int, Tuple[str, ...]]], Search]:
     """Proves all labels with these answers. Returns the questions about the smaller model, and the search."""
-    made = a_session(folder, LABELS, **{"seconds": 50, "unbounded": True, **words})
+    given: Dict[str, Any] = {"seconds": 50, "unbounded": True, **words}
+    made = a_session(folder, LABELS, **given)
     small = Model(folder / "small", ("dut.fifo.Order", "watch.HelperRequest", *LABELS))
     questions: List[Tuple[str, int, Tuple[str, ...]]] = []
 

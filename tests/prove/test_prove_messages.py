@@ -13,6 +13,7 @@ from tlbridge.prove import engine, failure, replay
 from tlbridge.prove.command import main
 from tlbridge.prove.options import command_line, source_of
 from tlbridge.prove.remedies import remedy_of
+from tlbridge.prove.tools import run_tool
 from tlbridge.prove.user_bits import UserBits, find_user_bits, strange_ports
 from tlbridge.verify.design import Signal, Source, read_design
 
@@ -152,7 +153,7 @@ def test_user_bits_are_no_other_inputs(tmp_path: Path, capsys: pytest.CaptureFix
     assert main([*words, "--tie", "up_a_user_secure=1"]) == 0
     said = capsys.readouterr().out
     assert "user and echo bits: 1 on D;" in said and "other inputs: up_a_user_secure=1 (--tie NAME=VALUE)" in said
-    assert "or one of them is tied; inputs are 0 without --tie: down_a_user_secure\n" in said
+    assert "or one of them is tied, and inputs are 0 without --tie: down_a_user_secure\n" in said
     assert ".up_a_user_secure(1'd1)" in (tmp_path / "sby" / "proof.sv").read_text()
 
 
@@ -167,7 +168,8 @@ def shown(
     **words: Any,
 ) -> str:
     """Returns what is printed of a failure with a message of this size, on links of 2 and 4 bytes."""
-    made = a_session(folder, **{"largest": None, **words})
+    given: Dict[str, Any] = {"largest": None, **words}
+    made = a_session(folder, **given)
     assert made.design.client
     for name, signal in (("data", Signal("a_data", 0, 16, "input")), ("mask", Signal("a_mask", 0, 2, "input"))):
         for have in made.design.client.channels.values():
@@ -216,7 +218,7 @@ def test_a_design_that_icarus_cannot_read(tmp_path: Path) -> None:
     source = Source("dut", (str(tmp_path / "dut.sv"),), {"WIDTH": "3"})
     assert replay.write_plain(source, tmp_path)
     assert re.search(r"^  output \[2:0\] seen;", (tmp_path / "design.v").read_text(), re.M)
-    done = replay.run_tool(["iverilog", "-g2012", "-o", str(tmp_path / "out"), str(tmp_path / "design.v")], 600)
+    done = run_tool(["iverilog", "-g2012", "-o", str(tmp_path / "out"), str(tmp_path / "design.v")], 600)
     assert done.status == 0, done.said
     (tmp_path / "empty").mkdir()
     assert not replay.write_plain(Source("absent", (str(tmp_path / "dut.sv"),)), tmp_path / "empty")

@@ -11,7 +11,7 @@ def write_assumed(source: Path, target: Path, asked: Sequence[int], assumed: Seq
     """Copies a model with some of its outputs as bad states, and the negations of others as constraints, as of AIGER
     1.9.
 
-    `source` has plain outputs, each 1 where an assertion fails. So `target` asks about the assertions `asked` in runs
+    Each output of `source` is 1 if an assertion fails. So `target` asks about the assertions `asked` in runs
     in which the assertions `assumed` have not failed before or at that time. Errors: `source` is no such file (4).
     """
     head, _, rest = source.read_bytes().partition(b"\n")

@@ -80,7 +80,7 @@ def stated(options: Options, harness: Harness) -> List[str]:
         lines.append(f"user and echo bits: {counts}; a sender keeps them in each beat of a message")
     if options.user_bits.others:
         lines.append(
-            "not compared, since only one link has these user and echo bits, or one of them is tied; inputs are 0 "
+            "not compared, since only one link has these user and echo bits, or one of them is tied, and inputs are 0 "
             "without --tie: "
             f"{' '.join(options.user_bits.others)}"
         )
