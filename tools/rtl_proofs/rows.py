@@ -446,7 +446,7 @@ NOT_RUN = (
     *(f"convert-{pair}" for pair in PAIRS),
     *(f"links-{pair}" for pair in ("4-2", "2-4", "4-4", "2-2")),
 )
-LINK_CYCLES = {"links-4-2": 17, "links-2-4": 14, "links-4-4": 14, "links-2-2": 13}  # others: 10
+LINK_CYCLES = {"links-4-2": 15, "links-2-4": 14, "links-4-4": 14, "links-2-2": 13}  # others: 10
 LINKS_OBSTACLE = (
     "This has the FIFOs and the reset agreement themselves, and no lemma connects their Gray codes with the checkers."
 )
