@@ -412,8 +412,8 @@ def test_all_pairs_are_named_together() -> None:
 
 
 def test_every_assertion_of_the_watch_has_a_bug() -> None:
-    """Each label of sv/tl_bridge_watch.sv is one that a planted bug breaks, or the page says why none does. Helpers follow
-    from the others, and no row has them.
+    """Each label of sv/tl_bridge_watch.sv is one that a planted bug breaks, or the page says why none does. Helpers
+    follow from the others, and no row has them.
     """
     labels = set(re.findall(r"`TL_WATCH_ASSERT\((\w+),", (ROOT / "sv" / "tl_bridge_watch.sv").read_text()))
     labels = {re.sub(r"^Data\d$", "Data0", label) for label in labels if not re.match("Sees|Helper", label)} - {"label"}
