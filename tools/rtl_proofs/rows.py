@@ -415,12 +415,12 @@ def named_rows() -> Iterator[str]:
     yield from names("ABCDE", PAIRS)
     yield from names("A", ["1-1", "2-1", "2-2", "2-4", "4-2", "4-4", "4-8", "8-4", "8-8"], "-two-clocks")
     yield from names("BC", ["2-2", "2-4", "4-2", "4-4", "8-8"], "-two-clocks")
-    yield from names("D", small, "-two-clocks")
+    yield from names("D", [*small, "4-4"], "-two-clocks")
     yield from names("E", PAIRS, "-two-clocks")
     yield from names("AC", ["2-4"], "-depth-0")
     yield from names("D", ["2-4"], "-depth-0", "-entries-1")
     yield from names("A", ["4-2"], "-depth-0-later", "-entries-1")
-    yield from names("ABCE", ["4-2"], "-depth-4")
+    yield from names("ABCDE", ["4-2"], "-depth-4")
     yield from names("D", ["4-2"], "-entries-2", "-resets-of-client")
     yield from names("AE", ["4-2"], "-resets-of-manager")
     yield from names("ABCDE", ["2-2"], "-within-2")
@@ -428,23 +428,20 @@ def named_rows() -> Iterator[str]:
     yield from names("AC", ["4-2"], "-within-3")
     yield from names("ACE", ["2-4"], "-within-2")
     yield from names("BD", ["2-4"], "-within-3")
-    yield from names("ABD", small, "-rules")
-    yield from names("C", ["2-4", "4-2"], "-rules")
+    yield from names("ABCD", [*small, "4-4"], "-rules")
+    yield from names("ABC", ["4-2"], "-two-clocks-rules")
     yield from ("E-2-2-two-clocks-within-5", "AD-4-2-depth-8", "AD-2-4-depth-8")
     yield from ("FIFO-2", "FIFO-2-two-clocks", "FIFO-4-two-clocks", "FIFO-8-two-clocks")
-    yield from ("FIFO-2-resets", "FIFO-2-resets-stages-3")
+    yield from ("FIFO-2-resets", "FIFO-2-resets-stages-3", "FIFO-4-resets")
+    yield from (f"convert-{pair}" for pair in PAIRS)
+    yield from (f"links-{pair}" for pair in (*small, "4-4"))
 
 
 # No run of these has ended, so they claim nothing. They are tried if they are named.
 NOT_RUN = (
     "A-4-2-depth-8",
-    "D-4-2-depth-4",
-    "C-2-2-rules",
-    *names("ABCD", ["4-4"], "-rules"),
-    *names("ABCD", ["2-2", "2-4", "4-2"], "-two-clocks-rules"),
-    "FIFO-4-resets",
-    *(f"convert-{pair}" for pair in PAIRS),
-    *(f"links-{pair}" for pair in ("4-2", "2-4", "4-4", "2-2")),
+    "D-4-2-two-clocks-rules",
+    *names("ABCD", ["2-2", "2-4"], "-two-clocks-rules"),
 )
 LINK_CYCLES = {"links-4-2": 15, "links-2-4": 14, "links-4-4": 14, "links-2-2": 13}  # others: 10
 LINKS_OBSTACLE = (
