@@ -70,8 +70,8 @@ def test_planted_bug_is_reported(bug: Bug) -> None:
 
 
 def test_each_assertion_reports_a_planted_bug() -> None:
-    """No assertion of the watch is without a bug of narrow.sv that it reports. Covers are no assertions, and helpers say
-    nothing that the others do not.
+    """No assertion of the watch is without a bug of narrow.sv that it reports. Covers are no assertions, and helpers
+    say nothing that the others do not.
     """
     names = set(re.findall(r"^ *`TL_WATCH_ASSERT\((?!Sees|Helper)(\w+),", FILES[0].read_text(), re.M))
     assert {"Invented", "Room", "SourceOne", "Ready"} <= names
